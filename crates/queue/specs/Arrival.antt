@@ -1,0 +1,68 @@
+-- An arrival (document 01, 'Arrival').
+use mathlib.Core.Bool.{Bool, cond}
+use mathlib.Core.List.{List, [], _∷_}
+use Prim.Native.Nat.{ℕ, _+_, _%_}
+use lib.Dec.{ltb, eqb}
+use lib.ListN.{length, set}
+use Rattle.units.specs.Kinds.{micros}
+use Rattle.pie.specs.Backlog.{entered}
+use Rattle.pie.specs.DropDecision.{dropDecision}
+use Rattle.pie.specs.Verdicts.{admitted, raised}
+use Rattle.pie.specs.declared.Verdict.{Verdict}
+use Rattle.pie.specs.declared.Verdict.the-variants.{DroppedBytes, DroppedSlots}
+use Rattle.queue.specs.Answer.{Answer, Reply, admits, unlessRefused, verdict}
+use Rattle.queue.specs.Refusals.{clockRefused, countsRefused, firstRefusal, sizeRefused, stateRefused, tablesRefused}
+use Rattle.queue.specs.declared.State.{State}
+
+unfoldable pub arrivalRefusal : State → (handlesLength sizesLength clock size : ℕ) → ℕ
+arrivalRefusal s handlesLength sizesLength clock size =
+    firstRefusal (
+    (2, stateRefused s)
+    ∷ (3, tablesRefused s handlesLength sizesLength)
+    ∷ (4, clockRefused s clock)
+    ∷ (7, sizeRefused size)
+    ∷ (8, countsRefused s)
+    ∷ []
+    )
+
+-- rule 1
+abbrev pub bytesFull : State → (size : ℕ) → Bool
+bytesFull s size = ltb (s .settings .buffer .0) (s .backlog .bytes .0 + size)
+
+-- rule 2
+abbrev pub slotsFull : State → Bool
+slotsFull s = eqb (s .backlog .count) (s .settings .slots)
+
+-- rules 1 to 7: the first that holds decides
+unfoldable pub verdictOf : State → (size : ℕ) (ecn : Bool) (u : ℕ) → Verdict
+verdictOf s size ecn u =
+    cond (bytesFull s size) DroppedBytes
+    (cond (slotsFull s) DroppedSlots
+    (dropDecision (s .pie) (s .settings .target .0) (s .backlog .bytes .0) ecn u))
+
+-- enqueued and marked packets go to the tail; the verdict's count rises by one; the rest stays
+unfoldable pub arrivedState : State → (clock size : ℕ) → Verdict → State
+arrivedState s clock size v =
+    record {
+      settings = s .settings;
+      clock = micros clock;
+      last = s .last;
+      pie = s .pie;
+      backlog = cond (admitted v) (entered (s .backlog) size) (s .backlog);
+      first = s .first;
+      verdicts = raised (s .verdicts) v;
+    }
+
+unfoldable pub arrival : State → (handles sizes : List ℕ) (clock size : ℕ) (ecn : Bool) (u : ℕ) → Reply
+arrival s handles sizes clock size ecn u =
+    let v = verdictOf s size ecn u in
+    unlessRefused (arrivalRefusal s (length handles) (length sizes) clock size) s
+    (record { answer = verdict v; state = arrivedState s clock size v })
+
+-- the place of the tail: the packet at place i stands at (first + i) modulo slots
+abbrev pub tailPlace : State → ℕ
+tailPlace s = (s .first + s .backlog .count) % s .settings .slots
+
+-- a table after an arrival: an admitted one writes exactly one element
+abbrev pub stored : State → Answer → (table : List ℕ) (element : ℕ) → List ℕ
+stored s a table element = cond (admits a) (set table (tailPlace s) element) table

@@ -1,0 +1,49 @@
+-- A departure (document 01, 'Departure'). It writes to neither table.
+use mathlib.Core.List.{List, [], _∷_}
+use Prim.Native.Nat.{ℕ, _+_, _-_, _%_}
+use lib.ListN.{getD, length}
+use Rattle.units.specs.Kinds.{micros}
+use Rattle.pie.specs.Backlog.{left}
+use Rattle.pie.specs.DepartureRate.{rateAfter}
+use Rattle.pie.specs.declared.Pie.{Pie}
+use Rattle.queue.specs.Answer.{Reply, departed, unlessRefused}
+use Rattle.queue.specs.Refusals.{clockRefused, emptyRefused, firstRefusal, headRefused, stateRefused, tablesRefused}
+use Rattle.queue.specs.declared.State.{State}
+
+-- the head's entry in a table
+abbrev pub headOf : State → (table : List ℕ) → ℕ
+headOf s table = getD table (s .first) 0
+
+unfoldable pub departureRefusal : State → (handlesLength sizesLength clock headSize : ℕ) → ℕ
+departureRefusal s handlesLength sizesLength clock headSize =
+    firstRefusal (
+    (2, stateRefused s)
+    ∷ (3, tablesRefused s handlesLength sizesLength)
+    ∷ (4, clockRefused s clock)
+    ∷ (6, emptyRefused s)
+    ∷ (9, headRefused (s .backlog) headSize)
+    ∷ []
+    )
+
+-- the departure rate moves on; probability, old delay and allowance stay
+abbrev pub departedPie : Pie → (clock size bytesLeft : ℕ) → Pie
+departedPie pie clock size bytesLeft =
+    record { prob = pie .prob; old = pie .old; allowance = pie .allowance; rate = rateAfter (pie .rate) clock size bytesLeft }
+
+-- the head, of this size, leaves; first place goes up by one modulo slots
+unfoldable pub departedState : State → (clock size : ℕ) → State
+departedState s clock size =
+    record {
+      settings = s .settings;
+      clock = micros clock;
+      last = s .last;
+      pie = departedPie (s .pie) clock size (s .backlog .bytes .0 - size);
+      backlog = left (s .backlog) size;
+      first = (s .first + 1) % s .settings .slots;
+      verdicts = s .verdicts;
+    }
+
+unfoldable pub departure : State → (handles sizes : List ℕ) (clock : ℕ) → Reply
+departure s handles sizes clock =
+    unlessRefused (departureRefusal s (length handles) (length sizes) clock (headOf s sizes)) s
+    (record { answer = departed (headOf s handles) (headOf s sizes); state = departedState s clock (headOf s sizes) })

@@ -1,0 +1,33 @@
+-- A tick (document 01, 'Tick').
+use mathlib.Core.List.{List, [], _∷_}
+use Prim.Native.Nat.{ℕ}
+use Rattle.units.specs.Kinds.{micros}
+use Rattle.pie.specs.Update.{updated}
+use Rattle.queue.specs.Answer.{Reply, ticked, unlessRefused}
+use Rattle.queue.specs.Refusals.{clockRefused, earlyRefused, firstRefusal, stateRefused}
+use Rattle.queue.specs.declared.State.{State}
+
+unfoldable pub tickRefusal : State → (clock : ℕ) → ℕ
+tickRefusal s clock =
+    firstRefusal (
+    (2, stateRefused s)
+    ∷ (4, clockRefused s clock)
+    ∷ (5, earlyRefused s clock)
+    ∷ []
+    )
+
+-- rules 1 to 9
+unfoldable pub tickedState : State → (clock : ℕ) → State
+tickedState s clock =
+    record {
+      settings = s .settings;
+      clock = micros clock;
+      last = micros clock;
+      pie = updated (s .pie) (s .settings .target .0) (s .backlog .bytes .0);
+      backlog = s .backlog;
+      first = s .first;
+      verdicts = s .verdicts;
+    }
+
+unfoldable pub tick : State → (clock : ℕ) → Reply
+tick s clock = unlessRefused (tickRefusal s clock) s (record { answer = ticked; state = tickedState s clock })
