@@ -1,5 +1,4 @@
 -- The ranges that the algorithm's numbers keep, whatever the inputs.
-use mathlib.Core.Bool.{Bool, true, false, cond}
 use Prim.Native.Nat.{ℕ, _+_, _-_, _*_, _/_, _≤_}
 use native.Mathlib.Omega.{arith}
 use lib.Dec.{eqb}
@@ -8,10 +7,7 @@ use Rattle.units.specs.Kinds.{whole}
 use Rattle.pie.specs.Constants.{fullAllowance, longest, period}
 use Rattle.pie.specs.DepartureRate.{averageOf, sampleOf}
 use Rattle.pie.specs.Update.{delayOf, limited, nextAllowance, nextProb, refills}
-
-cond-le : (t : Bool) (a b : ℕ) {m : ℕ} → a ≤ m → b ≤ m → cond t a b ≤ m
-cond-le true a b h k = h
-cond-le false a b h k = k
+use Rattle.pie.proofs.Choice.{either}
 
 pub delay-le : (bytes average : ℕ) → delayOf bytes average ≤ longest
 unfolding delayOf
@@ -29,7 +25,7 @@ next-prob-le p delay old target = limited-le _
 pub next-allowance-le : (allowance p delay old target : ℕ) → allowance ≤ fullAllowance → nextAllowance allowance p delay old target ≤ fullAllowance
 unfolding nextAllowance
 next-allowance-le allowance p delay old target h =
-    cond-le (refills p delay old target) fullAllowance (allowance - period) (omega arith) (omega arith)
+    either (λ n. n ≤ fullAllowance) (refills p delay old target) fullAllowance (allowance - period) (omega arith) (omega arith)
 
 pub sample-ge : (clock start : ℕ) → 1 ≤ sampleOf clock start
 unfolding sampleOf
@@ -41,4 +37,5 @@ sample-le clock start = omega arith
 
 pub average-le : (average sample : ℕ) → average ≤ longest → sample ≤ longest → averageOf average sample ≤ longest
 unfolding averageOf
-average-le average sample h k = cond-le (eqb average 0) sample ((sample + 3 * average) / 4) k (omega arith)
+average-le average sample h k =
+    either (λ n. n ≤ longest) (eqb average 0) sample ((sample + 3 * average) / 4) k (omega arith)

@@ -1,18 +1,18 @@
 -- `update::decay`, by the sign of the number.
-use mathlib.Core.Path.{_≡_, refl, sym, _∙_, ap}
-use mathlib.Core.Bool.{Bool, true, false, true≢false, false≢true}
-use Prim.Native.Nat.{ℕ, _≤_, _<_, _-_, _/_}
+use mathlib.Core.Path.{_≡_, refl, ap}
+use mathlib.Core.Bool.{true, false, false≢true}
+use Prim.Native.Nat.{_/_}
 use native.Mathlib.Nat.{div-le-self}
 use native.Mathlib.Omega.{arith}
-use borrow.Author.Tests.{ltb-true, ltb-false}
+use borrow.Author.Tests.{ltb-false}
 use lib.Dec.{lit<}
-use lib.IntN.{ℤ, pos, negsuc, natAbs, _-ℤ_}
+use lib.IntN.{ℤ, pos, negsuc, _-ℤ_}
 use lib.Signed.{ltZ, quotZ}
 use mir.Syntax.{w64}
-use mir.Val.{SFits, toZ, ofZ}
-use mir.Facts.{toZ-ofZ, toZ-pos}
+use mir.Val.{SFits}
+use mir.Facts.{toZ-ofZ}
 use Rattle.pie.specs.Update.{decayed}
-use Rattle.pie.proofs.Ints.{pos-minus}
+use Rattle.pie.proofs.Ints.{pos-minus, read}
 use Rattle.pie.proofs.update.decay.Statement.{statement}
 use Rattle.pie.proofs.update.decay.Tie as tie
 
@@ -42,29 +42,36 @@ unfolding decayed
 kept-busy (pos n) = refl
 kept-busy (negsuc n) = refl
 
+module _ (c : tie.Then2) where
+  abbrev p : ℤ
+  p = c .before .before .args .p
+
+  p-back : read p ≡ p
+  p-back = toZ-ofZ (c .before .before .fits .p)
+
+  positive : ltZ (pos 0) p ≡ true
+  positive = rw p-back at (c .if2 .taken)
+
+  part-fits : SFits w64 (quotZ p (pos 64))
+  part-fits = part p (c .before .before .fits .p) positive
+
+  rest-fits : SFits w64 (decayed true p)
+  rest-fits = left-fits p (c .before .before .fits .p)
+
 div-result : tie.Need-div-result
-div-result c =
-    let f = c .before .before .fits .p in
-    rw (toZ-ofZ f) (lit< tt, part (c .before .before .args .p) f (rw (toZ-ofZ f) at (c .if2 .taken)))
+div-result c = rw (p-back c) (lit< tt, part-fits c)
 
 sub-result : tie.Need-sub-result
-sub-result c =
-    let p = c .before .before .args .p in
-    let f = c .before .before .fits .p in
-    let e : ltZ (pos 0) p ≡ true = rw (toZ-ofZ f) at (c .if2 .taken) in
-    rw (toZ-ofZ f, toZ-ofZ (part p f e), left p e) (left-fits p f)
+sub-result c = rw (p-back c, toZ-ofZ (part-fits c), left (p c) (positive c)) (rest-fits c)
 
 returns : tie.Need-returns
 returns c =
-    let p = c .before .before .args .p in
-    let f = c .before .before .fits .p in
-    let e : ltZ (pos 0) p ≡ true = rw (toZ-ofZ f) at (c .if2 .taken) in
-    rw (c .before .if1 .taken, toZ-ofZ f, toZ-ofZ (part p f e), left p e) (toZ-ofZ (left-fits p f))
+    rw (c .before .if1 .taken, p-back c, toZ-ofZ (part-fits c), left (p c) (positive c)) (toZ-ofZ (rest-fits c))
 
 returns-2 : tie.Need-returns-2
 returns-2 c =
-    let f = c .before .before .fits .p in
-    rw (c .before .if1 .taken, toZ-ofZ f) (kept (c .before .before .args .p) (rw (toZ-ofZ f) at (c .if2 .left)))
+    let e = toZ-ofZ (c .before .before .fits .p) in
+    rw (c .before .if1 .taken, e) (kept (c .before .before .args .p) (rw e at (c .if2 .left)))
 
 returns-3 : tie.Need-returns-3
 returns-3 c = rw (c .if1 .left, toZ-ofZ (c .before .fits .p)) (kept-busy (c .before .args .p))

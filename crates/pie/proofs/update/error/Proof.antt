@@ -22,21 +22,27 @@ module _ (c : tie.Start) where
   abbrev t : ℕ
   t = c .args .target .0
 
+  d-back : toZ w64 d ≡ pos d
+  d-back = as-pos (omega arith)
+
+  o-back : toZ w64 o ≡ pos o
+  o-back = as-pos (omega arith)
+
+  t-back : toZ w64 t ≡ pos t
+  t-back = as-pos (omega arith)
+
   off-target : natAbs (toZ w64 d -ℤ toZ w64 t) ≤ 2 ^ 62
-  off-target = rw (as-pos {n = d} (omega arith), as-pos {n = t} (omega arith)) (omega (arith, abs-minus d t))
+  off-target = rw (d-back, t-back) (omega (arith, abs-minus d t))
 
   change : natAbs (toZ w64 d -ℤ toZ w64 o) ≤ 2 ^ 62
-  change = rw (as-pos {n = d} (omega arith), as-pos {n = o} (omega arith)) (omega (arith, abs-minus d o))
+  change = rw (d-back, o-back) (omega (arith, abs-minus d o))
 
   ten : natAbs (pos 10 *ℤ read (toZ w64 d -ℤ toZ w64 o)) ≤ 2 ^ 62
-  ten =
-      rw (back _ change, as-pos {n = d} (omega arith), as-pos {n = o} (omega arith))
-      (omega (arith, ten-small d o (omega arith) (omega arith)))
+  ten = rw (back _ change, d-back, o-back) (omega (arith, ten-small d o (omega arith) (omega arith)))
 
   sum : read (toZ w64 d -ℤ toZ w64 t) +ℤ read (pos 10 *ℤ read (toZ w64 d -ℤ toZ w64 o)) ≡ errorOf d o t
   unfolding errorOf
-  sum =
-      rw (back _ off-target, back _ ten, back _ change, as-pos {n = d} (omega arith), as-pos {n = o} (omega arith), as-pos {n = t} (omega arith))
+  sum = rw (back _ off-target, back _ ten, back _ change, d-back, o-back, t-back)
 
   sum-small : natAbs (errorOf d o t) ≤ 2 ^ 62
   sum-small = omega (arith, error-small d o t (omega arith) (omega arith) (omega arith))

@@ -4,7 +4,6 @@ use mathlib.Core.Path.{_≡_}
 use Prim.Native.Nat.{_*_, _≤_, _^_}
 use native.Mathlib.Omega.{arith}
 use lib.IntN.{ℤ, pos, natAbs, _*ℤ_}
-use lib.Signed.{quotZ}
 use mir.Syntax.{w64}
 use mir.Val.{toZ}
 use Rattle.pie.specs.Update.{stepOf}
