@@ -54,7 +54,8 @@ impl State {
         if wrong_size {
             return Accepted::No(Refusal::Size);
         }
-        let full = sum(self.verdicts) == LIMIT;
+        let counts = self.verdicts;
+        let full = sum(counts) == LIMIT;
         if full {
             return Accepted::No(Refusal::Counts);
         }
@@ -86,7 +87,8 @@ impl State {
         requires { ⌜ (total (self .verdicts) < limit) × (size .0 ≤ largest) ⌝ }
         ensures { λ r. ⌜ r ≡ arrivedState self (clock .0) (size .0) v ⌝ }
     {
-        let verdicts = raise(self.verdicts, v);
+        let counts = self.verdicts;
+        let verdicts = raise(counts, v);
         let admits = v.admits();
         if admits {
             let queued = self.backlog;

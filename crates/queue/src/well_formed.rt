@@ -48,7 +48,8 @@ impl State {
         }
         let settings = self.settings;
         let runs = self.pie.rate.measuring;
-        let fits = counts_fit(self.verdicts);
+        let counts = self.verdicts;
+        let fits = counts_fit(counts);
         settings.in_range()
             & (self.last.0 <= self.clock.0)
             & (self.clock.0 <= LIMIT)
