@@ -37,7 +37,7 @@ impl State {
     fn check_arrival(self, handles: u64, sizes: u64, clock: Micros, size: Bytes) -> Accepted
         ensures { λ r. ⌜ refusalIn r ≡ arrivalRefusal self handles sizes (clock .0) (size .0) ⌝ }
     {
-        let formed = self.well_formed();
+        let formed = self.queue_formed() & self.records_formed();
         if !formed {
             return Accepted::No(Refusal::Malformed);
         }

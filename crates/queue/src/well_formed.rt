@@ -2,10 +2,11 @@
 use crate::Settings;
 use crate::State;
 ghost use mathlib.Core.Path.{_≡_};
+ghost use mathlib.Core.List.{_++_};
 ghost use lib.Dec.{leb};
 ghost use Rattle.pie.specs.Constants.{limit};
 ghost use Rattle.pie.specs.Verdicts.{total};
-ghost use Rattle.queue.specs.State.{all, settingsConditions, wellFormed};
+ghost use Rattle.queue.specs.State.{all, queueConditions, recordConditions, settingsConditions, wellFormed};
 
 // The latest clock, and the most that the verdict counts may sum to.
 pub const LIMIT: u64 = 281_474_976_710_656;
@@ -38,18 +39,17 @@ impl Settings {
     }
 }
 
+// The conditions in two halves: each is small enough that the compiler puts it into every call.
 impl State {
-    pub fn well_formed(self) -> bool
-        ensures { λ r. ⌜ r ≡ wellFormed self ⌝ }
+    // The clocks, the probability and the delays, and the packets queued.
+    pub fn queue_formed(self) -> bool
+        ensures { λ r. ⌜ r ≡ all (settingsConditions (self .settings) ++ queueConditions self) ⌝ }
     {
         let count = self.backlog.count;
         if 65_536 < count {
             return false;
         }
         let settings = self.settings;
-        let runs = self.pie.rate.measuring;
-        let counts = self.verdicts;
-        let fits = counts_fit(counts);
         settings.in_range()
             & (self.last.0 <= self.clock.0)
             & (self.clock.0 <= LIMIT)
@@ -62,10 +62,25 @@ impl State {
             & (count <= self.backlog.bytes.0)
             & (self.backlog.bytes.0 <= 65_535 * count)
             & (self.backlog.bytes.0 <= settings.buffer.0)
-            & (self.pie.rate.start.0 <= self.clock.0)
+    }
+
+    // The measurement and the five counts.
+    pub fn records_formed(self) -> bool
+        ensures { λ r. ⌜ r ≡ all (recordConditions self) ⌝ }
+    {
+        let runs = self.pie.rate.measuring;
+        let counts = self.verdicts;
+        let fits = counts_fit(counts);
+        (self.pie.rate.start.0 <= self.clock.0)
             & (self.pie.rate.counted.0 < 16_384)
             & (runs | (self.pie.rate.start.0 == 0))
             & (runs | (self.pie.rate.counted.0 == 0))
             & fits
+    }
+
+    pub fn well_formed(self) -> bool
+        ensures { λ r. ⌜ r ≡ wellFormed self ⌝ }
+    {
+        self.queue_formed() & self.records_formed()
     }
 }
