@@ -5,3 +5,5 @@ pub mod FiveCounts
 pub mod WellFormed
 pub mod WhenAccepted
 pub mod Replies
+pub mod Admitted
+pub mod Kept

@@ -1,19 +1,17 @@
 -- What a call that no test refuses is known to have.
 use mathlib.Core.Path.{_≡_, refl}
-use mathlib.Core.Bool.{Bool, true, false, _&&_, _||_}
-use mathlib.Core.List.{List}
+use mathlib.Core.Bool.{true, false, _&&_, _||_}
 use mathlib.Core.Logic.{_≢_}
 use Prim.Native.Nat.{ℕ, _+_, _-_, _*_, _≤_, _<_}
 use native.Mathlib.Omega.{arith}
 use lib.Dec.{eqb, ltb}
-use lib.ListN.{getD}
 use borrow.Author.Tests.{eqb-false, eqb-true, ltb-false, not-false}
 use Rattle.pie.specs.Constants.{largest, limit, period}
 use Rattle.pie.specs.Verdicts.{total}
 use Rattle.pie.specs.declared.Backlog.{Backlog}
 use Rattle.queue.specs.Arrival.{arrivalRefusal, arrivalRefusals}
 use Rattle.queue.specs.Departure.{departureRefusal, departureRefusals}
-use Rattle.queue.specs.Refusals.{clockRefused, firstRefusal, headRefused, sizeRefused, tablesRefused}
+use Rattle.queue.specs.Refusals.{clockRefused, headRefused, sizeRefused, tablesRefused}
 use Rattle.queue.specs.State.{wellFormed}
 use Rattle.queue.specs.Tick.{tickRefusal, tickRefusals}
 use Rattle.queue.specs.declared.State.{State}

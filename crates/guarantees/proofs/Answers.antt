@@ -1,0 +1,95 @@
+-- The five counts of the state follow the answers: each is the number of arrivals so answered.
+use mathlib.Core.Path.{_≡_, refl, _∙_}
+use mathlib.Core.Bool.{Bool, true, false, cond}
+use mathlib.Core.List.{List, [], _∷_, _++_}
+use Prim.Native.Nat.{ℕ, _+_}
+use native.Mathlib.Omega.{arith}
+use borrow.Author.Tests.{eqb-false, eqb-true}
+use lib.Dec.{eqb}
+use lib.ListN.{getD, length}
+use lib.Seq.{getD-set-other, getD-set-same}
+use Rattle.pie.specs.Verdicts.{placeOf, raised}
+use Rattle.pie.specs.declared.Verdict.{Verdict}
+use Rattle.pie.specs.declared.Verdict.the-variants.{Enqueued, Marked, DroppedBytes, DroppedSlots, DroppedEarly}
+use Rattle.pie.proofs.Counts.{length-raised, place-lt}
+use Rattle.queue.specs.declared.State.{State}
+use Rattle.queue.specs.Answer.{Answer, departed, made, refused, ticked, verdict}
+use Rattle.queue.specs.Arrival.{arrivedState}
+use Rattle.queue.specs.Departure.{departedState}
+use Rattle.queue.specs.Tick.{tickedState}
+use Rattle.guarantees.specs.Calls.{Call, reply}
+use Rattle.guarantees.specs.Conservation.{isVerdict, timesAnswered}
+use Rattle.guarantees.proofs.Replies.{at-reply}
+
+-- the counts after this answer
+abbrev countedBy : Answer → List ℕ → List ℕ
+countedBy (refused number) counts = counts
+countedBy made counts = counts
+countedBy (verdict v) counts = raised counts v
+countedBy (departed handle size) counts = counts
+countedBy ticked counts = counts
+
+reply-counts : (s : State) (c : Call) → (reply s c) .state .verdicts ≡ countedBy ((reply s c) .answer) (s .verdicts)
+unfolding arrivedState departedState tickedState
+reply-counts s =
+    at-reply s (λ c r. r .state .verdicts ≡ countedBy (r .answer) (s .verdicts))
+    (λ c number. refl)
+    (λ handles sizes clock handle size ecn u a. refl)
+    (λ handles sizes clock a. refl)
+    (λ clock a. refl)
+
+pub record Counted (counts : List ℕ) (answers : List Answer) : Type 0 where
+  pub five : length counts ≡ 5
+  pub each : (v : Verdict) → getD counts (placeOf v) 0 ≡ timesAnswered v answers
+
+pub none-counted : Counted (0 ∷ 0 ∷ 0 ∷ 0 ∷ 0 ∷ []) []
+none-counted = record { five = refl; each = zero-at }
+  where
+    zero-at : (v : Verdict) → getD {A = ℕ} (0 ∷ 0 ∷ 0 ∷ 0 ∷ 0 ∷ []) (placeOf v) 0 ≡ 0
+    zero-at Enqueued = refl
+    zero-at Marked = refl
+    zero-at DroppedBytes = refl
+    zero-at DroppedSlots = refl
+    zero-at DroppedEarly = refl
+
+times-last : (v : Verdict) (answers : List Answer) (a : Answer) →
+    timesAnswered v (answers ++ a ∷ []) ≡ timesAnswered v answers + cond (isVerdict v a) 1 0
+times-last v [] a = omega arith
+times-last v (b ∷ answers) a = omega (arith, times-last v answers a)
+
+raised-at : (counts : List ℕ) (v w : Verdict) → length counts ≡ 5 →
+    getD (raised counts w) (placeOf v) 0 ≡ getD counts (placeOf v) 0 + cond (eqb (placeOf v) (placeOf w)) 1 0
+unfolding raised
+raised-at counts v w five = go (eqb (placeOf v) (placeOf w)) refl
+  where
+    go : (b : Bool) → eqb (placeOf v) (placeOf w) ≡ b →
+        getD (raised counts w) (placeOf v) 0 ≡ getD counts (placeOf v) 0 + cond b 1 0
+    go true e =
+        let same : placeOf v ≡ placeOf w = eqb-true (placeOf v) (placeOf w) e in
+        rw same (getD-set-same counts (placeOf w) (getD counts (placeOf w) 0 + 1) 0 (omega (arith, place-lt w)))
+    go false e =
+        getD-set-other counts (placeOf w) (placeOf v) (getD counts (placeOf w) 0 + 1) 0 (eqb-false (placeOf v) (placeOf w) e) ∙ omega arith
+
+counted-at : (counts : List ℕ) (a : Answer) (v : Verdict) → length counts ≡ 5 →
+    getD (countedBy a counts) (placeOf v) 0 ≡ getD counts (placeOf v) 0 + cond (isVerdict v a) 1 0
+counted-at counts (refused number) v five = omega arith
+counted-at counts made v five = omega arith
+counted-at counts (verdict w) v five = raised-at counts v w five
+counted-at counts (departed handle size) v five = omega arith
+counted-at counts ticked v five = omega arith
+
+length-counted : (counts : List ℕ) (a : Answer) → length (countedBy a counts) ≡ length counts
+length-counted counts (refused number) = refl
+length-counted counts made = refl
+length-counted counts (verdict v) = length-raised counts v
+length-counted counts (departed handle size) = refl
+length-counted counts ticked = refl
+
+pub reply-counted : (s : State) (c : Call) (answers : List Answer) → Counted (s .verdicts) answers →
+    Counted ((reply s c) .state .verdicts) (answers ++ (reply s c) .answer ∷ [])
+reply-counted s c answers k =
+    let a = (reply s c) .answer in
+    rw (reply-counts s c) (record {
+      five = length-counted (s .verdicts) a ∙ k .five;
+      each = λ v. omega (arith, times-last v answers a, k .each v, counted-at (s .verdicts) a v (k .five));
+    })

@@ -1,0 +1,37 @@
+-- Question 2: a refilled allowance lasts 150,000 microseconds.
+use mathlib.Core.Path.{_≡_}
+use mathlib.Core.List.{List, List·Memᴰ}
+use Prim.Native.Nat.{ℕ, _+_, _≤_}
+use native.Mathlib.Omega.{arith}
+use Rattle.queue.specs.Answer.{ticked}
+use Rattle.queue.specs.Tick.{tickedState}
+use Rattle.queue.specs.declared.State.{State}
+use Rattle.guarantees.specs.Calls.{ByLimitsBefore, Call, Entry, reply, update}
+use Rattle.guarantees.specs.Grace.{Grace}
+use Rattle.guarantees.proofs.Lasting.{by-limits}
+use Rattle.guarantees.proofs.Replies.{at-reply}
+use Rattle.guarantees.proofs.Traces.{Cut, cut}
+
+ticked-last : (s : State) (c : Call) (t : ℕ) → c ≡ update t → (reply s c) .answer ≡ ticked → (reply s c) .state .last .0 ≡ t
+unfolding tickedState
+ticked-last s c t =
+    at-reply s (λ c r. c ≡ update t → r .answer ≡ ticked → r .state .last .0 ≡ t)
+    (λ c number e f. cc)
+    (λ handles sizes clock handle size ecn u a e f. cc)
+    (λ handles sizes clock a e f. cc)
+    (λ clock a e f. cc)
+    c
+
+-- after an accepted tick
+pub ticked-by-limits : {P : State → Type 0} (e : Entry) (later : List Entry) (t end : ℕ) → Cut P e later →
+    e .call ≡ update t → e .answer ≡ ticked → end ≤ e .returned .pie .allowance .0 + t →
+    (a : Entry) → List·Memᴰ a later → ByLimitsBefore end a
+ticked-by-limits e later t end k =
+    rw (← k .replied, ← k .onward)
+    (λ ec ea h. by-limits end ((reply (e .given) (e .call)) .state) (k .calls) (omega (arith, ticked-last (e .given) (e .call) t ec ea)))
+
+-- any state serves: a call that is accepted was given a well-formed one
+pub grace : Grace
+grace start calls before e later t w q ec ea full =
+    let k = cut (λ n x. tt) (λ n s. Unit {0}) (λ n s h c. tt) (tt {0}) start calls before e later tt q in
+    ticked-by-limits e later t _ k ec ea (omega arith)

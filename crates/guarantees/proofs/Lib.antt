@@ -1,0 +1,20 @@
+-- The proofs of the claims in specs/, each in the file of its name, and what they share.
+pub mod Replies
+pub mod Traces
+pub mod Refusals
+pub mod EarlyVerdicts
+pub mod Fall
+pub mod Bound
+pub mod Fading
+pub mod Lasting
+pub mod Grace
+pub mod Tallies
+pub mod Recovery
+pub mod Packets
+pub mod Ring
+pub mod Moves
+pub mod Answers
+pub mod Run
+pub mod NeverRefused
+pub mod FirstInFirstOut
+pub mod Conservation

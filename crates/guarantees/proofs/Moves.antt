@@ -1,0 +1,111 @@
+-- What one call does to the ring: at most one packet enters at the tail, or one leaves at the head.
+use mathlib.Core.Path.{_≡_, refl, sym, _∙_}
+use mathlib.Core.Bool.{Bool, true, false, cond}
+use mathlib.Core.List.{List, [], _∷_, _++_, append-nil}
+use Prim.Native.Nat.{ℕ, _+_}
+use native.Mathlib.Omega.{arith}
+use lib.ListN.{length}
+use Rattle.pie.specs.Verdicts.{admitted}
+use Rattle.pie.specs.declared.Verdict.{Verdict}
+use Rattle.queue.specs.Answer.{Reply, verdict}
+use Rattle.queue.specs.Arrival.{arrivedState, stored, verdictOf}
+use Rattle.queue.specs.Departure.{departedState, headOf}
+use Rattle.queue.specs.Tick.{tickedState}
+use Rattle.queue.proofs.Admitted.{admitted-room}
+use Rattle.queue.proofs.WhenAccepted.{ArrivalAccepted, DepartureAccepted}
+use Rattle.guarantees.specs.Calls.{reply}
+use Rattle.guarantees.specs.Conservation.{bytesOf}
+use Rattle.guarantees.specs.Handed.{Packet, Queue, Request, admittedBy, after, answerOf, askArrival, askDeparture, askTick, callOf, departedBy, queued}
+use Rattle.guarantees.proofs.Packets.{Sized}
+use Rattle.guarantees.proofs.Replies.{Accepted, acceptance, at-one-reply, refusalOf}
+use Rattle.guarantees.proofs.Ring.{enters, leaves, slot}
+
+-- the packets that enter come after those queued, and those that leave come before those that stay; the bytes move alike
+pub record Moved (q q′ : Queue) (entering leaving : List Packet) : Type 0 where
+  pub order : queued q ++ entering ≡ leaving ++ queued q′
+  pub bytes : q′ .state .backlog .bytes .0 + bytesOf leaving ≡ q .state .backlog .bytes .0 + bytesOf entering
+  pub sized : Sized entering
+
+-- nothing enters or leaves where the ring and the tables stay
+still : (q q′ : Queue) → queued q′ ≡ queued q → q′ .state .backlog .bytes .0 ≡ q .state .backlog .bytes .0 → Moved q q′ [] []
+still q q′ same bytes = record { order = append-nil (queued q) ∙ sym same; bytes = omega arith; sized = tt }
+
+module _ (q : Queue) (clock handle size : ℕ) (ecn : Bool) (u : ℕ) where
+  abbrev v : Verdict
+  v = verdictOf (q .state) size ecn u
+
+  abbrev arrived : Queue
+  arrived =
+      record {
+        state = arrivedState (q .state) clock size v;
+        handles = stored (q .state) (verdict v) (q .handles) handle;
+        sizes = stored (q .state) (verdict v) (q .sizes) size;
+      }
+
+  abbrev packet : Packet
+  packet = record { handle = handle; size = size }
+
+  arrives : ArrivalAccepted (q .state) (length (q .handles)) (length (q .sizes)) clock size → Moved q arrived (cond (admitted v) (packet ∷ []) []) []
+  unfolding arrivedState
+  arrives a = go (admitted v) refl
+    where
+      go : (b : Bool) → admitted v ≡ b → Moved q arrived (cond (admitted v) (packet ∷ []) []) []
+      go true e =
+          let s = q .state in
+          let f = a .known in
+          let room = admitted-room s size ecn u (f .count-high) e in
+          rw e (record {
+            order =
+                sym (enters (s .first) (s .settings .slots) (q .handles) (q .sizes) (f .first-high)
+                (s .backlog .count) handle size (room .1) (a .handles) (a .sizes));
+            bytes = omega arith;
+            sized = (a .size-low, a .size-high, tt);
+          })
+      go false e = rw e (still q _ refl refl)
+
+departs : (q : Queue) (clock : ℕ) → let head = headOf (q .state) (q .sizes) in
+    DepartureAccepted (q .state) (length (q .handles)) (length (q .sizes)) clock head →
+    Moved q (record { state = departedState (q .state) clock head; handles = q .handles; sizes = q .sizes }) []
+    (slot (q .handles) (q .sizes) (q .state .first) ∷ [])
+unfolding departedState
+departs q clock a =
+    let s = q .state in
+    let fits = a .head-fits in
+    record {
+      order = append-nil (queued q) ∙ leaves (s .first) (s .settings .slots) (q .handles) (q .sizes) (a .known .first-high) (s .backlog .count) (a .some);
+      bytes = omega arith;
+      sized = tt;
+    }
+
+-- the queue that a request with this reply returns
+abbrev afterReply : Queue → Request → Reply → Queue
+afterReply q (askArrival clock handle size ecn u) r =
+    record {
+      state = r .state;
+      handles = stored (q .state) (r .answer) (q .handles) handle;
+      sizes = stored (q .state) (r .answer) (q .sizes) size;
+    }
+afterReply q (askDeparture clock) r = record { state = r .state; handles = q .handles; sizes = q .sizes }
+afterReply q (askTick clock) r = record { state = r .state; handles = q .handles; sizes = q .sizes }
+
+abbrev MovedBy : Queue → Request → Reply → Type 0
+MovedBy q r reply = Moved q (afterReply q r reply) (admittedBy r (reply .answer)) (departedBy (reply .answer))
+
+accepted-moves : (q : Queue) (r : Request) → Accepted (q .state) (callOf q r) → MovedBy q r (acceptance (q .state) (callOf q r))
+unfolding tickedState
+accepted-moves q (askArrival clock handle size ecn u) a = arrives q clock handle size ecn u a
+accepted-moves q (askDeparture clock) a = departs q clock a
+accepted-moves q (askTick clock) a = still q _ refl refl
+
+refused-still : (q : Queue) (r : Request) (n : ℕ) → MovedBy q r (refusalOf (q .state) n)
+refused-still q (askArrival clock handle size ecn u) n = still q q refl refl
+refused-still q (askDeparture clock) n = still q q refl refl
+refused-still q (askTick clock) n = still q q refl refl
+
+reply-moves : (q : Queue) (r : Request) → MovedBy q r (reply (q .state) (callOf q r))
+reply-moves q r = at-one-reply (MovedBy q r) (q .state) (callOf q r) (refused-still q r) (accepted-moves q r)
+
+pub moved : (q : Queue) (r : Request) → Moved q (after q r) (admittedBy r (answerOf q r)) (departedBy (answerOf q r))
+moved q (askArrival clock handle size ecn u) = reply-moves q (askArrival clock handle size ecn u)
+moved q (askDeparture clock) = reply-moves q (askDeparture clock)
+moved q (askTick clock) = reply-moves q (askTick clock)

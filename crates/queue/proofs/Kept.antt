@@ -1,0 +1,219 @@
+-- Every accepted call returns a well-formed state where it is given one, and a fresh state is well formed.
+use mathlib.Core.Path.{_≡_, refl}
+use mathlib.Core.Bool.{Bool, true, false, cond, _&&_, _||_}
+use Prim.Native.Nat.{ℕ, _+_, _-_, _*_, _≤_, _<_}
+use native.Mathlib.Nat.{mod-lt}
+use native.Mathlib.Omega.{arith}
+use lib.Dec.{eqb, leb}
+use lib.ListN.{getD}
+use borrow.Author.Tests.{leb-false, leb-true, not-false}
+use Rattle.units.specs.Kinds.{whole}
+use Rattle.pie.specs.Constants.{fullAllowance, largest, limit, longest, threshold}
+use Rattle.pie.specs.DepartureRate.{counting, rateAfter, resting, running, sampleOf, starting}
+use Rattle.pie.specs.Update.{delayOf, nextProb, updated}
+use Rattle.pie.specs.Verdicts.{admitted, total}
+use Rattle.pie.specs.declared.Backlog.{Backlog}
+use Rattle.pie.specs.declared.Pie.{Pie}
+use Rattle.pie.specs.declared.Rate.{Rate}
+use Rattle.pie.proofs.Counts.{total-raised}
+use Rattle.pie.proofs.Ranges.{average-le, delay-le, next-allowance-le, next-prob-le, sample-le}
+use Rattle.queue.specs.Answer.{Reply, made}
+use Rattle.queue.specs.Arrival.{arrivedState, verdictOf}
+use Rattle.queue.specs.Departure.{departedState}
+use Rattle.queue.specs.Fresh.{fresh, freshState}
+use Rattle.queue.specs.Refusals.{settingsRefused}
+use Rattle.queue.specs.State.{all, settingsConditions, wellFormed}
+use Rattle.queue.specs.Tick.{tickedState}
+use Rattle.queue.specs.declared.Settings.{Settings}
+use Rattle.queue.specs.declared.State.{State}
+use Rattle.queue.proofs.Admitted.{admitted-room}
+use Rattle.queue.proofs.Facts.{Facts, well-formed}
+use Rattle.queue.proofs.Tests.{all-at, and-left, and-right, at-cond}
+use Rattle.queue.proofs.WhenAccepted.{ArrivalAccepted, DepartureAccepted, TickAccepted}
+
+-- ── the facts of a state, part by part ──
+
+record SettingsFit (s : Settings) : Type 0 where
+  target-low : 1000 ≤ s .target .0
+  target-high : s .target .0 ≤ 100000
+  buffer-low : 1 ≤ s .buffer .0
+  buffer-high : s .buffer .0 ≤ 16777216
+  slots-low : 1 ≤ s .slots
+  slots-high : s .slots ≤ 65536
+
+record PieFits (pie : Pie) : Type 0 where
+  prob-high : pie .prob .0 ≤ whole
+  old-high : pie .old .0 ≤ longest
+  allowance-high : pie .allowance .0 ≤ fullAllowance
+
+record RateFits (clock : ℕ) (r : Rate) : Type 0 where
+  average-high : r .average .0 ≤ longest
+  start-high : r .start .0 ≤ clock
+  counted-high : r .counted .0 < threshold
+  idle-start : r .measuring || eqb (r .start .0) 0 ≡ true
+  idle-counted : r .measuring || eqb (r .counted .0) 0 ≡ true
+
+record BacklogFits (s : Settings) (b : Backlog) : Type 0 where
+  count-high : b .count ≤ s .slots
+  bytes-low : b .count ≤ b .bytes .0
+  bytes-high : b .bytes .0 ≤ largest * b .count
+  bytes-fit : b .bytes .0 ≤ s .buffer .0
+
+record Fits (s : State) : Type 0 where
+  settings : SettingsFit (s .settings)
+  last-high : s .last .0 ≤ s .clock .0
+  clock-high : s .clock .0 ≤ limit
+  pie : PieFits (s .pie)
+  rate : RateFits (s .clock .0) (s .pie .rate)
+  backlog : BacklogFits (s .settings) (s .backlog)
+  first-high : s .first < s .settings .slots
+  total-high : total (s .verdicts) ≤ limit
+
+fits : (s : State) → Facts s → Fits s
+fits s f = search
+
+fits-well-formed : (s : State) → Fits s → wellFormed s ≡ true
+fits-well-formed s f = well-formed s (search)
+
+-- a clock that is no earlier
+later-fits : (clock later : ℕ) (r : Rate) → clock ≤ later → RateFits clock r → RateFits later r
+later-fits clock later r h f =
+    record {
+      average-high = f .average-high;
+      start-high = omega arith;
+      counted-high = f .counted-high;
+      idle-start = f .idle-start;
+      idle-counted = f .idle-counted;
+    }
+
+-- ── an arrival ──
+
+pub arrived-well-formed : (s : State) (handlesLength sizesLength clock size : ℕ) (ecn : Bool) (u : ℕ) →
+    ArrivalAccepted s handlesLength sizesLength clock size → wellFormed (arrivedState s clock size (verdictOf s size ecn u)) ≡ true
+unfolding arrivedState
+arrived-well-formed s handlesLength sizesLength clock size ecn u a =
+    let v = verdictOf s size ecn u in
+    let f = fits s (a .known) in
+    fits-well-formed (arrivedState s clock size v) (record {
+      settings = f .settings;
+      last-high = omega arith;
+      clock-high = a .clock-high;
+      pie = f .pie;
+      rate = later-fits (s .clock .0) clock (s .pie .rate) (a .clock-low) (f .rate);
+      backlog =
+          at-cond (BacklogFits (s .settings)) (admitted v)
+          (λ e. let room = admitted-room s size ecn u (f .backlog .count-high) e in omega arith)
+          (λ e. f .backlog);
+      first-high = f .first-high;
+      total-high = omega (arith, total-raised (s .verdicts) v);
+    })
+
+-- ── a departure ──
+
+rest-fits : (average clock : ℕ) → average ≤ longest → RateFits clock (resting average)
+rest-fits average clock h =
+    record { average-high = h; start-high = omega arith; counted-high = omega arith; idle-start = refl; idle-counted = refl }
+
+run-fits : (average start counted clock : ℕ) → average ≤ longest → start ≤ clock → counted < threshold → RateFits clock (running average start counted)
+run-fits average start counted clock h k l =
+    record { average-high = h; start-high = k; counted-high = l; idle-start = refl; idle-counted = refl }
+
+counting-fits : (r : Rate) (clock size : ℕ) → RateFits clock r → RateFits clock (counting r clock size)
+counting-fits r clock size f =
+    at-cond (RateFits clock) (leb threshold (r .counted .0 + size))
+    (λ e. rest-fits _ clock (average-le (r .average .0) (sampleOf clock (r .start .0)) (f .average-high) (sample-le clock (r .start .0))))
+    (λ e. run-fits (r .average .0) (r .start .0) _ clock (f .average-high) (f .start-high) (leb-false _ _ e))
+
+starting-fits : (r : Rate) (clock bytesLeft : ℕ) → RateFits clock r → RateFits clock (starting r clock bytesLeft)
+starting-fits r clock bytesLeft f =
+    at-cond (RateFits clock) (r .measuring)
+    (λ e. f)
+    (λ e. at-cond (RateFits clock) (leb threshold bytesLeft) (λ e. run-fits (r .average .0) clock 0 clock (f .average-high) (omega arith) (omega arith)) (λ e. f))
+
+rate-after-fits : (r : Rate) (clock size bytesLeft : ℕ) → RateFits clock r → RateFits clock (rateAfter r clock size bytesLeft)
+unfolding rateAfter
+rate-after-fits r clock size bytesLeft f =
+    starting-fits (cond (r .measuring) (counting r clock size) r) clock bytesLeft
+    (at-cond (RateFits clock) (r .measuring) (λ e. counting-fits r clock size f) (λ e. f))
+
+pub departed-well-formed : (s : State) (handlesLength sizesLength clock headSize : ℕ) →
+    DepartureAccepted s handlesLength sizesLength clock headSize → wellFormed (departedState s clock headSize) ≡ true
+unfolding departedState
+departed-well-formed s handlesLength sizesLength clock headSize a =
+    let f = fits s (a .known) in
+    fits-well-formed (departedState s clock headSize) (record {
+      settings = f .settings;
+      last-high = omega arith;
+      clock-high = a .clock-high;
+      pie = record { prob-high = f .pie .prob-high; old-high = f .pie .old-high; allowance-high = f .pie .allowance-high };
+      rate =
+          rate-after-fits (s .pie .rate) clock headSize (s .backlog .bytes .0 - headSize)
+          (later-fits (s .clock .0) clock (s .pie .rate) (a .clock-low) (f .rate));
+      backlog = omega arith;
+      first-high = mod-lt (s .first + 1) (f .settings .slots-low);
+      total-high = f .total-high;
+    })
+
+-- ── a tick ──
+
+pub ticked-well-formed : (s : State) (clock : ℕ) → TickAccepted s clock → wellFormed (tickedState s clock) ≡ true
+unfolding tickedState updated
+ticked-well-formed s clock a =
+    let f = fits s (a .known) in
+    let target = s .settings .target .0 in
+    let old = s .pie .old .0 in
+    let delay = delayOf (s .backlog .bytes .0) (s .pie .rate .average .0) in
+    let p = nextProb (s .pie .prob .0) delay old target in
+    fits-well-formed (tickedState s clock) (record {
+      settings = f .settings;
+      last-high = omega arith;
+      clock-high = a .clock-high;
+      pie =
+          record {
+            prob-high = next-prob-le (s .pie .prob .0) delay old target;
+            old-high = delay-le (s .backlog .bytes .0) (s .pie .rate .average .0);
+            allowance-high = next-allowance-le (s .pie .allowance .0) p delay old target (f .pie .allowance-high);
+          };
+      rate = later-fits (s .clock .0) clock (s .pie .rate) (a .clock-low) (f .rate);
+      backlog = f .backlog;
+      first-high = f .first-high;
+      total-high = f .total-high;
+    })
+
+-- ── a fresh state ──
+
+settings-fit : (s : Settings) → all (settingsConditions s) ≡ true → SettingsFit s
+settings-fit s e =
+    let at : (i : ℕ) → getD (settingsConditions s) i true ≡ true = all-at (settingsConditions s) e in
+    record {
+      target-low = leb-true _ _ (at 0);
+      target-high = leb-true _ _ (at 1);
+      buffer-low = leb-true _ _ (at 2);
+      buffer-high = leb-true _ _ (at 3);
+      slots-low = leb-true _ _ (at 4);
+      slots-high = leb-true _ _ (at 5);
+    }
+
+pub made-accepted : (settings : Settings) (clock : ℕ) → (fresh settings clock) .answer ≡ made → settingsRefused settings clock ≡ false
+unfolding fresh
+made-accepted settings clock =
+    at-cond (λ (r : Reply). r .answer ≡ made → settingsRefused settings clock ≡ false) (settingsRefused settings clock) (λ b e. cc) (λ b e. b)
+
+pub fresh-well-formed : (settings : Settings) (clock : ℕ) → (fresh settings clock) .answer ≡ made → wellFormed ((fresh settings clock) .state) ≡ true
+unfolding fresh
+fresh-well-formed settings clock e =
+    let no = made-accepted settings clock e in
+    let fine = all (settingsConditions settings) in
+    let ok : fine && leb clock limit ≡ true = not-false (fine && leb clock limit) no in
+    let time : clock ≤ limit = leb-true _ _ (and-right fine (leb clock limit) ok) in
+    let fit = settings-fit settings (and-left fine (leb clock limit) ok) in
+    rw no (fits-well-formed (freshState settings clock) (record {
+      settings = fit;
+      last-high = omega arith;
+      clock-high = time;
+      pie = omega arith;
+      rate = rest-fits 0 clock (omega arith);
+      backlog = omega arith;
+      first-high = fit .slots-low;
+      total-high = omega arith;
+    }))
