@@ -13,9 +13,8 @@ use Rattle.queue.specs.Departure.{departedState, headOf}
 use Rattle.queue.specs.Tick.{tickedState}
 use Rattle.queue.proofs.Admitted.{admitted-room}
 use Rattle.queue.proofs.WhenAccepted.{ArrivalAccepted, DepartureAccepted}
-use Rattle.guarantees.specs.Calls.{reply}
 use Rattle.guarantees.specs.Conservation.{bytesOf}
-use Rattle.guarantees.specs.Handed.{Packet, Queue, Request, admittedBy, after, answerOf, askArrival, askDeparture, askTick, callOf, departedBy, queued}
+use Rattle.guarantees.specs.Handed.{Packet, Queue, Request, admittedBy, after, answerOf, askArrival, askDeparture, askTick, callOf, departedBy, queued, returned}
 use Rattle.guarantees.proofs.Packets.{Sized}
 use Rattle.guarantees.proofs.Replies.{Accepted, acceptance, at-one-reply, refusalOf}
 use Rattle.guarantees.proofs.Ring.{enters, leaves, slot}
@@ -77,19 +76,8 @@ departs q clock a =
       sized = tt;
     }
 
--- the queue that a request with this reply returns
-abbrev afterReply : Queue → Request → Reply → Queue
-afterReply q (askArrival clock handle size ecn u) r =
-    record {
-      state = r .state;
-      handles = stored (q .state) (r .answer) (q .handles) handle;
-      sizes = stored (q .state) (r .answer) (q .sizes) size;
-    }
-afterReply q (askDeparture clock) r = record { state = r .state; handles = q .handles; sizes = q .sizes }
-afterReply q (askTick clock) r = record { state = r .state; handles = q .handles; sizes = q .sizes }
-
 abbrev MovedBy : Queue → Request → Reply → Type 0
-MovedBy q r reply = Moved q (afterReply q r reply) (admittedBy r (reply .answer)) (departedBy (reply .answer))
+MovedBy q r reply = Moved q (returned q r reply) (admittedBy r (reply .answer)) (departedBy (reply .answer))
 
 accepted-moves : (q : Queue) (r : Request) → Accepted (q .state) (callOf q r) → MovedBy q r (acceptance (q .state) (callOf q r))
 unfolding tickedState
@@ -102,10 +90,5 @@ refused-still q (askArrival clock handle size ecn u) n = still q q refl refl
 refused-still q (askDeparture clock) n = still q q refl refl
 refused-still q (askTick clock) n = still q q refl refl
 
-reply-moves : (q : Queue) (r : Request) → MovedBy q r (reply (q .state) (callOf q r))
-reply-moves q r = at-one-reply (MovedBy q r) (q .state) (callOf q r) (refused-still q r) (accepted-moves q r)
-
 pub moved : (q : Queue) (r : Request) → Moved q (after q r) (admittedBy r (answerOf q r)) (departedBy (answerOf q r))
-moved q (askArrival clock handle size ecn u) = reply-moves q (askArrival clock handle size ecn u)
-moved q (askDeparture clock) = reply-moves q (askDeparture clock)
-moved q (askTick clock) = reply-moves q (askTick clock)
+moved q r = at-one-reply (MovedBy q r) (q .state) (callOf q r) (refused-still q r) (accepted-moves q r)

@@ -18,9 +18,9 @@ use Rattle.queue.proofs.Facts.{facts}
 use Rattle.guarantees.specs.Calls.{Call, arrive, depart, update, reply}
 use Rattle.guarantees.specs.Conservation.{bytesOf}
 use Rattle.guarantees.specs.Handed.{Packet, Request, Run, answerOf, askArrival, askDeparture, askTick, callOf, queued}
-use Rattle.guarantees.specs.Refusals.{Applies, refusals as rows}
+use Rattle.guarantees.specs.Refusals.{Applies, rowsOf}
 use Rattle.guarantees.proofs.Packets.{Sized, sized-bytes}
-use Rattle.guarantees.proofs.Refusals.{refusals}
+use Rattle.guarantees.proofs.Refusals.{calls-refused}
 use Rattle.guarantees.proofs.Ring.{leaves, length-listed, ring, slot}
 use Rattle.guarantees.proofs.Run.{Kept}
 
@@ -35,8 +35,8 @@ applies-test n ((number, test) ∷ rows) (List·Memᴰ·head e) =
 applies-test n ((number, test) ∷ rows) (List·Memᴰ·tail m) = rw (applies-test n rows m, or-true)
 
 -- a number whose test fails is not given
-not-given : (s : State) (c : Call) (n : ℕ) → testOf n (rows s c) ≡ false → (reply s c) .answer ≢ refused n
-not-given s c n fails e = false≢true (sym fails ∙ applies-test n (rows s c) (refusals s c .lowest n e .0))
+not-given : (s : State) (c : Call) (n : ℕ) → testOf n (rowsOf s c) ≡ false → (reply s c) .answer ≢ refused n
+not-given s c n fails e = false≢true (sym fails ∙ applies-test n (rowsOf s c) (calls-refused s c .lowest n e .0))
 
 -- ── 2 ──
 
@@ -89,7 +89,7 @@ departure-not-9 r k clock e = go (emptyRefused s) refl
     go true empty =
         let row : _≡_ {A = ℕ × Bool} (6, true) (6, emptyRefused s) = rw empty in
         let six : Applies s c 6 = List·Memᴰ·tail (List·Memᴰ·tail (List·Memᴰ·tail (List·Memᴰ·head row))) in
-        omega (arith, refusals s c .lowest 9 e .1 6 six)
+        omega (arith, calls-refused s c .lowest 9 e .1 6 six)
     go false some = not-given s c 9 (rw (head-leaves r k (eqb-false (s .backlog .count) 0 some))) e
 
 pub never-9 : (r : Run) → Kept r → (q : Request) → answerOf (r .queue) q ≢ refused 9

@@ -6,12 +6,16 @@ use mathlib.Core.List.{List, [], _∷_, List·Memᴰ, List·Memᴰ·head, List·
 use Prim.Native.Nat.{ℕ, _≤_, _<_}
 use native.Mathlib.Omega.{arith}
 use lib.Dec.{T}
+use Rattle.queue.specs.declared.Settings.{Settings}
 use Rattle.queue.specs.declared.State.{State}
+use Rattle.queue.specs.State.{wellFormed}
+use Rattle.queue.specs.Fresh.{fresh}
 use Rattle.queue.specs.Answer.{Answer}
 use Rattle.queue.specs.Arrival.{stored}
 use Rattle.queue.specs.Refusals.{firstRefusal}
+use Rattle.queue.proofs.Kept.{fresh-well-formed}
 use Rattle.guarantees.specs.Calls.{Call, arrive, depart, update}
-use Rattle.guarantees.specs.Refusals.{Applies, Refusals, refusals as rows}
+use Rattle.guarantees.specs.Refusals.{Applies, FreshInOrder, RefusedInOrder, Refusals, rowsOf}
 use Rattle.guarantees.proofs.Replies.{number-refuses, refused-by-number}
 
 -- the rows' numbers go up, from above `low`
@@ -37,22 +41,35 @@ first-applies [] h = absurd (h refl)
 first-applies ((number, true) ∷ rows) h = List·Memᴰ·head refl
 first-applies ((number, false) ∷ rows) h = List·Memᴰ·tail (first-applies rows h)
 
-ascending : (s : State) (c : Call) → Ascending 0 (rows s c)
+ascending : (s : State) (c : Call) → Ascending 0 (rowsOf s c)
 ascending s (arrive handles sizes clock handle size ecn u) = omega arith
 ascending s (depart handles sizes clock) = omega arith
 ascending s (update clock) = omega arith
 
-pub refusals : Refusals
-refusals s c =
+pub calls-refused : (s : State) (c : Call) → RefusedInOrder s c
+calls-refused s c =
     record {
       lowest = λ n e.
           let r = refused-by-number s c n e in (
-            subst (Applies s c) (r .1) (first-applies (rows s c) (omega arith)),
-            λ m a. let f = first-lowest 0 (rows s c) m (ascending s c) a in omega arith,
+            subst (Applies s c) (r .1) (first-applies (rowsOf s c) (omega arith)),
+            λ m a. let f = first-lowest 0 (rowsOf s c) m (ascending s c) a in omega arith,
           );
       refuses = λ m a.
-          let f = first-lowest 0 (rows s c) m (ascending s c) a in
-          (firstRefusal (rows s c), number-refuses s c (omega arith));
+          let f = first-lowest 0 (rowsOf s c) m (ascending s c) a in
+          (firstRefusal (rowsOf s c), number-refuses s c (omega arith));
       unchanged = λ n e. cc (refused-by-number s c n e .2);
       unwritten = λ n e table element. subst (λ (a : Answer). stored s a table element ≡ table) (sym e) refl;
     }
+
+fresh-refused : (settings : Settings) (clock : ℕ) → FreshInOrder settings clock
+unfolding fresh wellFormed
+fresh-refused settings clock =
+    record {
+      refuses = λ e. rw e;
+      accepts = λ e. rw e;
+      formed = fresh-well-formed settings clock;
+      zero-malformed = refl;
+    }
+
+pub refusals : Refusals
+refusals = record { calls = calls-refused; starts = fresh-refused }

@@ -18,7 +18,7 @@ use Rattle.queue.specs.declared.State.{State}
 use Rattle.queue.proofs.Kept.{arrived-well-formed, departed-well-formed, ticked-well-formed}
 use Rattle.queue.proofs.WhenAccepted.{ArrivalAccepted, DepartureAccepted, TickAccepted, arrival-accepted, departure-accepted, tick-accepted}
 use Rattle.guarantees.specs.Calls.{Call, arrive, depart, reply, update}
-use Rattle.guarantees.specs.Refusals.{refusals}
+use Rattle.guarantees.specs.Refusals.{rowsOf}
 
 abbrev pub refusalOf : State → (number : ℕ) → Reply
 refusalOf s number = record { answer = refused number; state = s }
@@ -38,7 +38,7 @@ tickOf s clock = record { answer = ticked; state = tickedState s clock }
 
 -- 0 where no test of the call holds
 abbrev pub numberGiven : State → Call → ℕ
-numberGiven s c = firstRefusal (refusals s c)
+numberGiven s c = firstRefusal (rowsOf s c)
 
 -- the reply where none does
 abbrev pub acceptance : State → Call → Reply

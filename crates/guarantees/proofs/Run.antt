@@ -9,8 +9,9 @@ use Rattle.queue.specs.Answer.{made}
 use Rattle.queue.specs.Fresh.{fresh}
 use Rattle.queue.specs.State.{wellFormed}
 use Rattle.queue.proofs.Kept.{fresh-well-formed, made-accepted}
+use Rattle.guarantees.specs.Calls.{reply}
 use Rattle.guarantees.specs.Conservation.{bytesOf}
-use Rattle.guarantees.specs.Handed.{Request, Run, admittedBy, after, answerOf, begin, callOf, departedBy, queued, run, step}
+use Rattle.guarantees.specs.Handed.{Queue, Request, Run, admittedBy, after, answerOf, askArrival, askDeparture, askTick, begin, callOf, departedBy, queued, run, step}
 use Rattle.guarantees.proofs.Answers.{Counted, none-counted, reply-counted}
 use Rattle.guarantees.proofs.Moves.{moved}
 use Rattle.guarantees.proofs.Packets.{Sized, bytes-append, sized-append, sized-rest}
@@ -35,12 +36,17 @@ begin-kept settings clock handles sizes e =
       counted = none-counted;
     })
 
+after-state : (q : Queue) (r : Request) → (after q r) .state ≡ (reply (q .state) (callOf q r)) .state
+after-state q (askArrival clock handle size ecn u) = refl
+after-state q (askDeparture clock) = refl
+after-state q (askTick clock) = refl
+
 step-kept : (r : Run) (q : Request) → Kept r → Kept (step r q)
 step-kept r q k =
     let a = answerOf (r .queue) q in
     let m = moved (r .queue) q in
     record {
-      formed = reply-well-formed (r .queue .state) (k .formed) (callOf (r .queue) q);
+      formed = rw (after-state (r .queue) q) (reply-well-formed (r .queue .state) (k .formed) (callOf (r .queue) q));
       order = simp (k .order, append-assoc, m .order);
       bytes =
           omega (
@@ -52,7 +58,7 @@ step-kept r q k =
             bytes-append (departedBy a) (queued (after (r .queue) q)),
           );
       sized = sized-rest (departedBy a) _ (rw (m .order) at (sized-append (queued (r .queue)) (admittedBy q a) (k .sized) (m .sized)));
-      counted = reply-counted (r .queue .state) (callOf (r .queue) q) (r .answers) (k .counted);
+      counted = rw (after-state (r .queue) q) (reply-counted (r .queue .state) (callOf (r .queue) q) (r .answers) (k .counted));
     }
 
 steps-kept : (r : Run) (requests : List Request) → Kept r → Kept (foldl step r requests)

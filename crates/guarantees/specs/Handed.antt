@@ -5,7 +5,7 @@ use Prim.Native.Nat.{ℕ, zero, suc, _+_, _%_}
 use lib.ListN.{getD}
 use Rattle.queue.specs.declared.Settings.{Settings}
 use Rattle.queue.specs.declared.State.{State}
-use Rattle.queue.specs.Answer.{Answer, admits, departed, made, refused, ticked, verdict}
+use Rattle.queue.specs.Answer.{Answer, Reply, admits, departed, made, refused, ticked, verdict}
 use Rattle.queue.specs.Arrival.{stored}
 use Rattle.queue.specs.Fresh.{fresh}
 use Rattle.guarantees.specs.Calls.{Call, arrive, depart, update, reply}
@@ -49,17 +49,19 @@ callOf q (askTick clock) = update clock
 abbrev pub answerOf : Queue → Request → Answer
 answerOf q r = (reply (q .state) (callOf q r)) .answer
 
--- what the call writes: the packet's handle and size where an arrival is admitted
-abbrev pub storedBy : Queue → Request → Queue
-storedBy q (askArrival clock handle size ecn u) =
-    let a = answerOf q (askArrival clock handle size ecn u) in
-    record { state = q .state; handles = stored (q .state) a (q .handles) handle; sizes = stored (q .state) a (q .sizes) size }
-storedBy q (askDeparture clock) = q
-storedBy q (askTick clock) = q
+-- the queue that a request with this reply returns: an admitted arrival writes its handle and its size
+abbrev pub returned : Queue → Request → Reply → Queue
+returned q (askArrival clock handle size ecn u) r =
+    record {
+      state = r .state;
+      handles = stored (q .state) (r .answer) (q .handles) handle;
+      sizes = stored (q .state) (r .answer) (q .sizes) size;
+    }
+returned q (askDeparture clock) r = record { state = r .state; handles = q .handles; sizes = q .sizes }
+returned q (askTick clock) r = record { state = r .state; handles = q .handles; sizes = q .sizes }
 
 abbrev pub after : Queue → Request → Queue
-after q r =
-    record { state = (reply (q .state) (callOf q r)) .state; handles = (storedBy q r) .handles; sizes = (storedBy q r) .sizes }
+after q r = returned q r (reply (q .state) (callOf q r))
 
 -- the packet that an arrival brings, if it is admitted
 abbrev pub brought : Request → List Packet

@@ -1,26 +1,30 @@
 -- Demand 1: any call, on any state, with any tables and any numbers. It is refused exactly when one of its tests holds, by the lowest
 -- number whose test holds, and a refused call changes nothing.
 use mathlib.Core.Path.{_≡_}
-use mathlib.Core.Bool.{Bool, true}
+use mathlib.Core.Bool.{Bool, true, false}
 use mathlib.Core.List.{List, List·Memᴰ}
 use Prim.Native.Nat.{ℕ, _≤_}
 use lib.ListN.{length}
+use Rattle.queue.specs.declared.Settings.{Settings}
 use Rattle.queue.specs.declared.State.{State}
-use Rattle.queue.specs.Answer.{refused}
+use Rattle.queue.specs.State.{wellFormed}
+use Rattle.queue.specs.Answer.{made, refused}
+use Rattle.queue.specs.Fresh.{fresh, zeroState}
+use Rattle.queue.specs.Refusals.{settingsRefused}
 use Rattle.queue.specs.Arrival.{arrivalRefusals, stored}
 use Rattle.queue.specs.Departure.{departureRefusals, headOf}
 use Rattle.queue.specs.Tick.{tickRefusals}
 use Rattle.guarantees.specs.Calls.{Call, arrive, depart, update, reply}
 
 -- the call's rows of the table of refusals: each number with its test
-abbrev pub refusals : State → Call → List (ℕ × Bool)
-refusals s (arrive handles sizes clock handle size ecn u) = arrivalRefusals s (length handles) (length sizes) clock size
-refusals s (depart handles sizes clock) = departureRefusals s (length handles) (length sizes) clock (headOf s sizes)
-refusals s (update clock) = tickRefusals s clock
+abbrev pub rowsOf : State → Call → List (ℕ × Bool)
+rowsOf s (arrive handles sizes clock handle size ecn u) = arrivalRefusals s (length handles) (length sizes) clock size
+rowsOf s (depart handles sizes clock) = departureRefusals s (length handles) (length sizes) clock (headOf s sizes)
+rowsOf s (update clock) = tickRefusals s clock
 
 -- the test of this number holds
 abbrev pub Applies : State → Call → (number : ℕ) → Type 0
-Applies s c number = List·Memᴰ (number, true) (refusals s c)
+Applies s c number = List·Memᴰ (number, true) (rowsOf s c)
 
 pub record RefusedInOrder (s : State) (c : Call) : Type 0 where
   -- the number that is given applies, and no lower one does
@@ -31,5 +35,14 @@ pub record RefusedInOrder (s : State) (c : Call) : Type 0 where
   pub unchanged : (n : ℕ) → (reply s c) .answer ≡ refused n → (reply s c) .state ≡ s
   pub unwritten : (n : ℕ) → (reply s c) .answer ≡ refused n → (table : List ℕ) (element : ℕ) → stored s ((reply s c) .answer) table element ≡ table
 
-abbrev pub Refusals : Type 0
-Refusals = (s : State) (c : Call) → RefusedInOrder s c
+-- a fresh call is refused, by 1, exactly when its settings or its clock are out of range: it returns the all-zero record then, which is not
+-- well formed, and else a state that is
+pub record FreshInOrder (settings : Settings) (clock : ℕ) : Type 0 where
+  pub refuses : settingsRefused settings clock ≡ true → fresh settings clock ≡ record { answer = refused 1; state = zeroState }
+  pub accepts : settingsRefused settings clock ≡ false → (fresh settings clock) .answer ≡ made
+  pub formed : (fresh settings clock) .answer ≡ made → wellFormed ((fresh settings clock) .state) ≡ true
+  pub zero-malformed : wellFormed zeroState ≡ false
+
+pub record Refusals : Type 0 where
+  pub calls : (s : State) (c : Call) → RefusedInOrder s c
+  pub starts : (settings : Settings) (clock : ℕ) → FreshInOrder settings clock
