@@ -31,6 +31,10 @@ module _ (c : tie.Start) where
   quotient : natAbs (stepOf (c .args .x) (c .args .k)) ≤ 2 ^ 62
   quotient = omega (arith, step-small (c .args .x) (c .args .k))
 
+returns : tie.Need-returns
+unfolding stepOf
+returns c = rw (x-back c, k-back c, divisor c, product-back c) (back _ (quotient c))
+
 mul-result : tie.Need-mul-result
 mul-result c = rw (x-back c) (small (product c))
 
@@ -43,10 +47,6 @@ mul-result-2 c = rw (k-back c) (small (omega arith))
 div-result : tie.Need-div-result
 unfolding stepOf
 div-result c = rw (x-back c, k-back c, divisor c, product-back c) (omega arith, small (quotient c))
-
-returns : tie.Need-returns
-unfolding stepOf
-returns c = rw (x-back c, k-back c, divisor c, product-back c) (back _ (quotient c))
 
 pub step-spec : {M : Type 1} → statement M
 step-spec = tie.close (tie.spec mul-result cast-result mul-result-2 div-result returns)
