@@ -1,7 +1,7 @@
 -- The ranges that the algorithm's numbers keep, whatever the inputs.
-use Prim.Native.Nat.{ℕ, _+_, _-_, _*_, _/_, _≤_}
+use Prim.Native.Nat.{ℕ, zero, suc, _-_, _≤_}
 use native.Mathlib.Omega.{arith}
-use lib.Dec.{eqb}
+use borrow.Author.Tests.{ne-eqb}
 use lib.IntN.{ℤ, pos, negsuc}
 use Rattle.units.specs.Kinds.{whole}
 use Rattle.pie.specs.Constants.{fullAllowance, longest, period}
@@ -37,5 +37,5 @@ sample-le clock start = omega arith
 
 pub average-le : (average sample : ℕ) → average ≤ longest → sample ≤ longest → averageOf average sample ≤ longest
 unfolding averageOf
-average-le average sample h k =
-    either (λ n. n ≤ longest) (eqb average 0) sample ((sample + 3 * average) / 4) k (omega arith)
+average-le zero sample h k = k
+average-le (suc average) sample h k = rw (ne-eqb (suc average) 0 (λ e. omega arith)) (omega arith)

@@ -7,8 +7,9 @@ use native.Mathlib.Nat.{div-le-self}
 use native.Mathlib.Omega.{arith}
 use lib.Dec.{T, ltb, leb, lit<, lit≤}
 use lib.IntN.{ℤ, pos, natAbs, _-ℤ_, _*ℤ_}
+use lib.Signed.{quotZ}
 use Rattle.pie.specs.Constants.{longest}
-use Rattle.pie.specs.Update.{divisorOf, errorOf, lookup, stepOf, table}
+use Rattle.pie.specs.Update.{divisorOf, errorOf, lookup, table}
 use Rattle.pie.proofs.Choice.{either}
 use Rattle.pie.proofs.Ints.{abs-add, abs-minus, abs-mul, abs-quot}
 
@@ -20,10 +21,9 @@ unfolding errorOf
 error-small d o t h k l =
     omega (arith, abs-add (pos d -ℤ pos t) (pos 10 *ℤ (pos d -ℤ pos o)), abs-minus d t, ten-small d o h k)
 
-pub step-small : (x : ℤ) (k : ℕ) → natAbs (stepOf x k) ≤ natAbs x * 8388608
-unfolding stepOf
-step-small x k =
-    rw (abs-quot (x *ℤ pos 8388608) (pos (15625 * k)), abs-mul x (pos 8388608)) (div-le-self (natAbs x * 8388608) (15625 * k))
+pub quotient-small : (x : ℤ) (m : ℕ) → natAbs (quotZ (x *ℤ pos 8388608) (pos m)) ≤ natAbs x * 8388608
+quotient-small x m =
+    rw (abs-quot (x *ℤ pos 8388608) (pos m), abs-mul x (pos 8388608)) (div-le-self (natAbs x * 8388608) m)
 
 -- a k of 1 to 2048: every row of the table has one, and so has what is past it
 abbrev pub Divides : ℕ → Type 0
