@@ -11,7 +11,9 @@
  * names the packet to the caller) and a size for each.
  *
  * Hand state and tables back to the next call as the last call left them. The library checks
- * what it is given: a damaged record or table is refused, never followed.
+ * what it is given: a damaged record or table is refused, never followed. What it cannot check is
+ * that a pointer leads to as much memory as is said, and that what one call is lent does not
+ * overlap: that is the caller's part. No pointer may be null, even with a length of 0.
  *
  * Threads: a state and its tables belong to one caller at a time. Calls on different queues may
  * run at the same time.
@@ -43,7 +45,7 @@ struct obikuteru_state {
     uint64_t old_delay;   /* queueing delay at the last tick, at most 10,000,000 */
     uint64_t allowance;   /* burst allowance that is left, at most 150,000 */
     uint64_t average;     /* average time for 16,384 bytes to leave; 0: none measured yet */
-    uint64_t measuring;   /* not 0: a measurement of the departure rate runs */
+    uint64_t measuring;   /* not 0: a measurement of the departure rate runs; written as 0 or 1 */
     uint64_t start;       /* clock at which it started; 0 if none runs */
     uint64_t counted;     /* bytes that have left since, below 16,384; 0 if none runs */
     uint64_t count;       /* packets queued */

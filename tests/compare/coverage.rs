@@ -1,0 +1,239 @@
+//! Counts what the compared calls reached, and names what they did not.
+//!
+//! Pairs of refusals that can apply to one call together (others are evaluated on the raw fields
+//! even where the state is not well formed):
+//!   arrival:   any two of 2, 3, 4, 7, 8
+//!   departure: any two of 2, 3, 4, 6, 9 but 6 and 9, as a count of 0 has no head
+//!   tick:      any two of 2, 4, 5
+//! Refusal 1 stands alone: it is the only one of fresh.
+
+use crate::events;
+use crate::model::{self, Refusals, BANDS, CONDITIONS};
+use crate::side::{Call, Side};
+
+/// One kind of thing that is counted.
+struct Group {
+    name: &'static str,
+    /// An empty label stands for what cannot be.
+    labels: Vec<String>,
+    counts: Vec<u64>,
+    /// Whether the long runs must reach every label, and whether the single calls must.
+    needed: (bool, bool),
+}
+
+pub struct Coverage {
+    pub calls: u64,
+    groups: Vec<Group>,
+}
+
+const VERDICTS: usize = 0;
+const RULES: usize = 1;
+const REFUSALS: usize = 2; // and 3, 4, 5: fresh, arrival, departure, tick
+const PAIRS: usize = 6; // and 7, 8: arrival, departure, tick
+const STEP_UP: usize = 9;
+const STEP_DOWN: usize = 10;
+const BAND_FIRST: usize = 11;
+const BAND_LAST: usize = 12;
+const CONDITION: usize = 13;
+const EVENTS: usize = 14; // and the following: the groups of `events`
+
+const APPLY: [&[usize]; 4] = [&[1], &[2, 3, 4, 7, 8], &[2, 3, 4, 6, 9], &[2, 4, 5]];
+
+fn numbered(list: &[usize], limit: usize) -> Vec<String> {
+    let label = |n: usize| if list.contains(&n) { n.to_string() } else { String::new() };
+    (0..limit).map(label).collect()
+}
+
+/// The refusals that runs from fresh can give: all but 2 and 9.
+fn refusal_labels(kind: usize, runs: bool) -> Vec<String> {
+    let given = |n: &usize| !runs || (*n != 2 && *n != 9);
+    let list: Vec<usize> = APPLY[kind].iter().copied().filter(given).collect();
+    numbered(&list, 10)
+}
+
+fn pair_labels(kind: usize) -> Vec<String> {
+    let mut labels = vec![String::new(); 100];
+    for &low in APPLY[kind] {
+        for &high in APPLY[kind].iter().filter(|&&high| high > low) {
+            if (low, high) != (6, 9) {
+                labels[low * 10 + high] = format!("{low} and {high}");
+            }
+        }
+    }
+    labels
+}
+
+fn owned(list: &[&str]) -> Vec<String> {
+    list.iter().map(|label| label.to_string()).collect()
+}
+
+fn band_ends() -> (Vec<String>, Vec<String>) {
+    let last: Vec<String> = BANDS.iter().map(|band| band.0.to_string()).collect();
+    let first = |i: usize| if i == 0 { 0 } else { BANDS[i - 1].0 + 1 };
+    ((0..7).map(|i| first(i).to_string()).collect(), last)
+}
+
+impl Coverage {
+    /// Counts for the long runs, or for the single calls.
+    pub fn new(runs: bool) -> Coverage {
+        let mut coverage = Coverage { calls: 0, groups: Vec::new() };
+        let bands: Vec<String> = BANDS.iter().map(|band| format!("k {}", band.1)).collect();
+        let (first, last) = band_ends();
+        let both = (true, true);
+        let single = (false, true);
+        coverage.add("verdict", both, owned(&events::VERDICTS));
+        coverage.add("arrival rule", both, numbered(&[1, 2, 3, 4, 5, 6, 7], 8));
+        for (kind, name) in
+            ["refusal of fresh", "refusal of arrival", "refusal of departure", "refusal of tick"]
+                .into_iter()
+                .enumerate()
+        {
+            coverage.add(name, both, refusal_labels(kind, runs));
+        }
+        coverage.add("pair of refusals, arrival", single, pair_labels(1));
+        coverage.add("pair of refusals, departure", single, pair_labels(2));
+        coverage.add("pair of refusals, tick", single, pair_labels(3));
+        coverage.add("band with a step above zero", both, bands.clone());
+        coverage.add("band with a step below zero", both, bands);
+        coverage.add("probability at the first of a band", single, first);
+        coverage.add("probability at the last of a band", single, last);
+        coverage.add("only this condition broken", single, owned(&CONDITIONS));
+        coverage.add("measurement", both, owned(&events::MEASUREMENT));
+        coverage.add("event", both, owned(&events::EVENTS));
+        coverage.add("event of long runs", (true, false), owned(&events::RUN_EVENTS));
+        coverage.add("event of single calls", single, owned(&events::SINGLE_EVENTS));
+        coverage.add("end of a range", single, owned(&events::ENDS));
+        coverage
+    }
+
+    fn add(&mut self, name: &'static str, needed: (bool, bool), labels: Vec<String>) {
+        let counts = vec![0; labels.len()];
+        self.groups.push(Group { name, labels, counts, needed });
+    }
+
+    fn hit(&mut self, group: usize, label: usize) {
+        self.groups[group].counts[label] += 1;
+    }
+
+    /// Counts one call that was compared.
+    pub fn note(&mut self, before: &Side, call: &Call, after: &Side) {
+        self.calls += 1;
+        self.note_refusals(before, call, after);
+        if after.answer < 100 {
+            self.note_accepted(before, call, after);
+        }
+        let mut hits = Vec::new();
+        events::found(before, call, after, &mut hits);
+        for (group, label) in hits {
+            self.hit(EVENTS + group, label);
+        }
+    }
+
+    /// Counts one of `events::RUN_EVENTS`.
+    pub fn note_run_event(&mut self, label: usize) {
+        self.hit(EVENTS + 2, label);
+    }
+
+    fn note_refusals(&mut self, before: &Side, call: &Call, after: &Side) {
+        let (kind, applying) = applying(before, call);
+        if (101..=109).contains(&after.answer) {
+            self.hit(REFUSALS + kind, after.answer as usize - 100);
+        }
+        for low in 2..10 {
+            for high in (low + 1..10).filter(|&high| applying[low] && applying[high]) {
+                self.hit(PAIRS + kind - 1, low * 10 + high);
+            }
+        }
+        if kind > 0 && applying[2] {
+            let conditions = model::conditions(&before.state);
+            if conditions.iter().filter(|&&holds| !holds).count() == 1 {
+                let broken = conditions.iter().position(|&holds| !holds);
+                self.hit(CONDITION, broken.unwrap_or(0));
+            }
+        }
+    }
+
+    fn note_accepted(&mut self, before: &Side, call: &Call, after: &Side) {
+        let state = &before.state;
+        match call {
+            Call::Arrival { packet, .. } => {
+                self.hit(VERDICTS, after.answer as usize);
+                self.hit(RULES, model::deciding_rule(state, packet));
+            }
+            Call::Tick { .. } => {
+                let band = model::band(state.probability);
+                match model::step(state, model::queueing_delay(state)) {
+                    step if step > 0 => self.hit(STEP_UP, band),
+                    step if step < 0 => self.hit(STEP_DOWN, band),
+                    _ => {}
+                }
+                if state.probability == BANDS[band].0 {
+                    self.hit(BAND_LAST, band);
+                }
+                if state.probability == 0 || model::band(state.probability - 1) != band {
+                    self.hit(BAND_FIRST, band);
+                }
+            }
+            _ => {}
+        }
+    }
+
+    /// What was needed and not reached.
+    pub fn missing(&self, runs: bool) -> Vec<String> {
+        let mut missing = Vec::new();
+        for group in &self.groups {
+            let needed = if runs { group.needed.0 } else { group.needed.1 };
+            for (label, count) in group.labels.iter().zip(&group.counts) {
+                if needed && !label.is_empty() && *count == 0 {
+                    missing.push(format!("{} {label}", group.name));
+                }
+            }
+        }
+        missing
+    }
+
+    /// One line for each group: how many of its labels were reached, and the rarest of them.
+    pub fn print(&self, runs: bool, all: bool) {
+        for group in &self.groups {
+            if if runs { group.needed.0 } else { group.needed.1 } {
+                group.print(all);
+            }
+        }
+    }
+}
+
+impl Group {
+    fn print(&self, all: bool) {
+        let named = self.labels.iter().zip(&self.counts).filter(|(label, _)| !label.is_empty());
+        let named: Vec<(&String, &u64)> = named.collect();
+        let reached = named.iter().filter(|(_, count)| **count > 0).count();
+        let rarest = named.iter().min_by_key(|(_, count)| **count);
+        if let Some((label, count)) = rarest {
+            let name = self.name;
+            let total = named.len();
+            println!("  {name:<35} {reached:>3} of {total:>3}   rarest: {label} ({count})");
+        }
+        for (label, count) in named.into_iter().filter(|_| all) {
+            println!("      {label:<50} {count:>9}");
+        }
+    }
+}
+
+/// The kind of the call (0 to 3) and the refusals that apply to it.
+pub fn applying(before: &Side, call: &Call) -> (usize, Refusals) {
+    let s = &before.state;
+    match *call {
+        Call::Fresh { target, buffer, slots, clock } => {
+            (0, model::fresh_refusals(target, buffer, slots, clock))
+        }
+        Call::Arrival { lent, clock, packet } => {
+            let lengths = (lent.handles, lent.sizes);
+            (1, model::arrival_refusals(s, lengths, clock, packet.size))
+        }
+        Call::Departure { lent, clock } => {
+            let sizes = &before.sizes[..lent.sizes];
+            (2, model::departure_refusals(s, lent.handles, sizes, clock))
+        }
+        Call::Tick { clock } => (3, model::tick_refusals(s, clock)),
+    }
+}

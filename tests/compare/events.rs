@@ -1,0 +1,218 @@
+//! Names the things that happen at a call, from the state before it and the state after it.
+
+use crate::model::{self, State};
+use crate::side::{Call, Side};
+
+pub const VERDICTS: [&str; 5] =
+    ["enqueued", "marked", "dropped, bytes", "dropped, slots", "dropped, early"];
+
+pub const MEASUREMENT: [&str; 5] = [
+    "none runs and none starts",
+    "none runs and one starts",
+    "goes on",
+    "ends and none starts",
+    "ends and another starts",
+];
+
+pub const EVENTS: [&str; 20] = [
+    "fresh accepted",
+    "allowance loses 15,000",
+    "allowance stays at 0",
+    "allowance filled by rule 8",
+    "probability loses 1/64 by rule 5",
+    "probability limited to 0",
+    "probability limited to 2^32",
+    "delay limited to 10,000,000",
+    "sample raised to 1",
+    "sample limited to 10,000,000",
+    "sample becomes the average",
+    "sample mixed into the average",
+    "tail written below the head",
+    "head goes from the last place to 0",
+    "queue left empty",
+    "last slot taken",
+    "queue of one slot",
+    "queue of 65,536 slots",
+    "tick exactly when due",
+    "clock 2^48 accepted",
+];
+
+pub const RUN_EVENTS: [&str; 1] = ["arrival after 1,000 ticks with an empty queue"];
+
+pub const SINGLE_EVENTS: [&str; 9] = [
+    "allowance below 15,000 becomes 0",
+    "measuring other than 0 and 1 accepted",
+    "head of size 0 refused",
+    "head above 65,535 refused",
+    "head refused: bytes would be below 0",
+    "head refused: bytes would be below count",
+    "head refused: bytes would be above 65,535 x count",
+    "head leaves bytes = count",
+    "head leaves bytes = 65,535 x count",
+];
+
+pub const ENDS: [&str; 32] = [
+    "target 1,000",
+    "target 100,000",
+    "buffer 1",
+    "buffer 16,777,216",
+    "slots 1",
+    "slots 65,536",
+    "clock 0",
+    "clock 2^48",
+    "last tick = clock",
+    "probability 0",
+    "probability 2^32",
+    "old delay 0",
+    "old delay 10,000,000",
+    "allowance 0",
+    "allowance 150,000",
+    "average 0",
+    "average 10,000,000",
+    "first 0",
+    "first = slots - 1",
+    "count 0",
+    "count = slots",
+    "bytes = count",
+    "bytes = 65,535 x count",
+    "bytes = buffer",
+    "start 0",
+    "start = clock",
+    "counted 0",
+    "counted 16,383",
+    "sum of counts 0",
+    "sum of counts 2^48",
+    "size 1",
+    "size 65,535",
+];
+
+/// Adds each thing found as a pair: its list (0 is `MEASUREMENT`, 1 `EVENTS`, 2 `RUN_EVENTS`,
+/// 3 `SINGLE_EVENTS`, 4 `ENDS`) and its place in that list.
+pub fn found(before: &Side, call: &Call, after: &Side, hits: &mut Vec<(usize, usize)>) {
+    let accepted = after.answer < 100;
+    let mut events = Vec::new();
+    let mut singles = Vec::new();
+    match call {
+        Call::Fresh { .. } if accepted => events.push((true, 0)),
+        Call::Arrival { .. } if accepted => arrival(&before.state, &after.state, &mut events),
+        Call::Departure { .. } if accepted => {
+            hits.push((0, measurement(&before.state, &after.state)));
+            departure(&before.state, &after.state, &mut events);
+            departed(&after.state, &mut singles);
+        }
+        Call::Departure { .. } if after.answer == 109 => wrong_head(before, &mut singles),
+        Call::Tick { .. } if accepted => tick(&before.state, &after.state, &mut events),
+        _ => {}
+    }
+    let fresh = matches!(call, Call::Fresh { .. });
+    if accepted && !fresh {
+        let odd = before.state.measuring > 1;
+        singles.push((odd && after.state.measuring == 1, 1));
+        let small = before.state.allowance > 0 && before.state.allowance < 15_000;
+        singles.push((small && after.state.allowance == 0, 0));
+    }
+    if after.well_formed && !fresh {
+        ends(&before.state, call, hits);
+    }
+    let chosen =
+        |list: usize| move |&(holds, label): &(bool, usize)| holds.then_some((list, label));
+    hits.extend(events.iter().filter_map(chosen(1)));
+    hits.extend(singles.iter().filter_map(chosen(3)));
+}
+
+type Found = Vec<(bool, usize)>;
+
+fn arrival(before: &State, after: &State, events: &mut Found) {
+    let admitted = after.count > before.count;
+    events.push((admitted && before.first + before.count >= before.slots, 12));
+    events.push((admitted && after.count == after.slots, 15));
+    events.push((after.slots == 1, 16));
+    events.push((after.slots == 65_536, 17));
+    events.push((after.clock == model::CLOCK_MAX, 19));
+}
+
+fn departure(before: &State, after: &State, events: &mut Found) {
+    events.push((after.first == 0, 13));
+    events.push((after.count == 0, 14));
+    if measurement(before, after) >= 3 {
+        let time = after.clock - before.start;
+        events.push((time == 0, 8));
+        events.push((time > model::TIME_MAX, 9));
+        events.push((before.average == 0, 10));
+        events.push((before.average != 0, 11));
+    }
+}
+
+/// What happened to the measurement at an accepted departure.
+fn measurement(before: &State, after: &State) -> usize {
+    match (before.measuring != 0, after.measuring != 0) {
+        (false, false) => 0,
+        (false, true) => 1,
+        (true, true) if after.counted > 0 => 2,
+        (true, false) => 3,
+        (true, true) => 4,
+    }
+}
+
+fn departed(after: &State, singles: &mut Found) {
+    singles.push((after.count > 0 && after.bytes == after.count, 7));
+    singles.push((after.count > 0 && after.bytes == 65_535 * after.count, 8));
+}
+
+fn wrong_head(before: &Side, singles: &mut Found) {
+    let s = &before.state;
+    let size = u64::from(before.sizes[s.first as usize]);
+    let plain = (1..=65_535).contains(&size);
+    let count = s.count - 1;
+    let left = s.bytes.checked_sub(size);
+    singles.push((size == 0, 2));
+    singles.push((size > 65_535, 3));
+    singles.push((plain && left.is_none(), 4));
+    singles.push((plain && left.is_some_and(|bytes| bytes < count), 5));
+    singles.push((plain && left.is_some_and(|bytes| bytes > 65_535 * count), 6));
+}
+
+fn tick(before: &State, after: &State, events: &mut Found) {
+    let delay = model::queueing_delay(before);
+    let p = before.probability as i64 + model::step(before, delay);
+    let fell = before.allowance >= 15_000 && after.allowance == before.allowance - 15_000;
+    events.push((fell, 1));
+    events.push((before.allowance == 0 && after.allowance == 0, 2));
+    events.push((before.allowance < 150_000 && after.allowance == 150_000, 3));
+    events.push((delay == 0 && before.old_delay == 0 && p >= 64, 4));
+    events.push((p < 0, 5));
+    events.push((p > model::WHOLE as i64, 6));
+    events.push((before.bytes * before.average / 16_384 > model::TIME_MAX, 7));
+    events.push((after.clock == before.last + 15_000, 18));
+    events.push((after.clock == model::CLOCK_MAX, 19));
+}
+
+/// Which ends of ranges a well-formed state and a call stand at.
+fn ends(s: &State, call: &Call, hits: &mut Vec<(usize, usize)>) {
+    let runs = s.measuring != 0;
+    let size = match call {
+        Call::Arrival { packet, .. } => packet.size,
+        _ => 0,
+    };
+    #[rustfmt::skip]
+    let at = [
+        s.target == 1_000, s.target == 100_000,
+        s.buffer == 1, s.buffer == 16_777_216,
+        s.slots == 1, s.slots == 65_536,
+        s.clock == 0, s.clock == model::CLOCK_MAX,
+        s.last == s.clock,
+        s.probability == 0, s.probability == model::WHOLE,
+        s.old_delay == 0, s.old_delay == 10_000_000,
+        s.allowance == 0, s.allowance == 150_000,
+        s.average == 0, s.average == 10_000_000,
+        s.first == 0, s.first == s.slots - 1,
+        s.count == 0, s.count == s.slots,
+        s.count > 0 && s.bytes == s.count, s.count > 0 && s.bytes == 65_535 * s.count,
+        s.bytes == s.buffer,
+        runs && s.start == 0, runs && s.start == s.clock,
+        runs && s.counted == 0, runs && s.counted == 16_383,
+        model::verdict_sum(s) == 0, model::verdict_sum(s) == 1 << 48,
+        size == 1, size == 65_535,
+    ];
+    hits.extend(at.iter().enumerate().filter(|(_, &at)| at).map(|(label, _)| (4, label)));
+}

@@ -1,0 +1,98 @@
+//! The figures of the document, run on both sides. The figures themselves are checked as well, so
+//! a misreading that model and library share would show here.
+
+use crate::pair::{Pair, Failure};
+use crate::model::{Arriving, State, WHOLE};
+use crate::side::{Call, Lender, Lent, Side};
+
+const SLOTS: usize = 8;
+
+/// Probability and the two delays before a tick, and the probability after it.
+const TICKS: [(u64, u64, u64, u64); 9] = [
+    (0, 16_000, 15_000, 2_883),
+    (4_294, 16_000, 15_000, 7_177),
+    (4_295, 16_000, 15_000, 15_829),
+    (429_496_729, 16_000, 15_000, 432_449_519),
+    (429_496_730, 16_000, 15_000, 435_402_310),
+    (2_882, 14_000, 15_000, 0),
+    (1_000_000, 0, 0, 736_650),
+    (WHOLE, 10_000_000, 0, WHOLE),
+    (5_000_000, 14_000, 15_000, 5_000_000 - 738_197),
+];
+
+/// Probability, old delay, bytes and u of an arrival that is not ECN-capable, and whether it is
+/// dropped early.
+const ARRIVALS: [(u64, u64, u64, u32, bool); 9] = [
+    (5, 7_500, 3_001, 4, true),
+    (5, 7_500, 3_001, 5, false),
+    (0, 7_500, 3_001, 0, false),
+    (WHOLE, 7_500, 3_001, u32::MAX, true),
+    (858_993_459, 7_499, 3_001, 0, false),
+    (858_993_459, 7_500, 3_001, 0, true),
+    (858_993_460, 7_499, 3_001, 0, true),
+    (858_993_459, 7_500, 3_000, 0, false),
+    (858_993_460, 7_499, 3_000, 0, false),
+];
+
+fn state() -> State {
+    State {
+        target: 15_000,
+        buffer: 1_000_000,
+        slots: SLOTS as u64,
+        clock: 1_000_000,
+        count: 2,
+        bytes: 16_384,
+        ..State::default()
+    }
+}
+
+fn one(lender: &mut dyn Lender, state: State, call: Call) -> Result<Side, Failure> {
+    let start = Side::new(state, vec![1; SLOTS], vec![8_192; SLOTS]);
+    let mut pair = Pair::new(&start, lender);
+    pair.call(&call)?;
+    Ok(pair.library)
+}
+
+fn expect(what: &str, found: u64, figure: u64) -> Result<(), Failure> {
+    if found == figure {
+        return Ok(());
+    }
+    Err(Failure::Broken(format!("{what} is {found}, and the document says {figure}")))
+}
+
+pub fn run(lender: &mut dyn Lender) -> Result<(), Failure> {
+    let tick = Call::Tick { clock: 1_015_000 };
+    for (probability, delay, old_delay, figure) in TICKS {
+        let before = State { probability, old_delay, average: delay, ..state() };
+        let after = one(lender, before, tick)?;
+        expect("the probability after a tick", after.state.probability, figure)?;
+        expect("the delay", after.state.old_delay, delay)?;
+    }
+    let before = State { bytes: 32_768, average: 1_750, ..state() };
+    expect("the delay", one(lender, before, tick)?.state.old_delay, 3_500)?;
+    let before = State { allowance: 15_000, probability: 1_000_000, ..state() };
+    expect("the allowance", one(lender, before, tick)?.state.allowance, 0)?;
+    arrivals(lender)?;
+    average(lender)
+}
+
+fn arrivals(lender: &mut dyn Lender) -> Result<(), Failure> {
+    let lent = Lent { handles: SLOTS, sizes: SLOTS };
+    for (probability, old_delay, bytes, u, early) in ARRIVALS {
+        let before = State { probability, old_delay, bytes, ..state() };
+        let packet = Arriving { handle: 7, size: 1_000, ecn: false, u };
+        let after = one(lender, before, Call::Arrival { lent, clock: 1_000_000, packet })?;
+        let figure = if early { 4 } else { 0 };
+        expect("the verdict", u64::from(after.answer), figure)?;
+    }
+    Ok(())
+}
+
+/// An average of 2,000 and a sample of 1,000 make 1,750.
+fn average(lender: &mut dyn Lender) -> Result<(), Failure> {
+    let lent = Lent { handles: SLOTS, sizes: SLOTS };
+    let running = State { measuring: 1, start: 1_000_000, counted: 8_192, ..state() };
+    let before = State { average: 2_000, ..running };
+    let after = one(lender, before, Call::Departure { lent, clock: 1_001_000 })?;
+    expect("the average", after.state.average, 1_750)
+}

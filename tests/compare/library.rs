@@ -1,0 +1,78 @@
+//! The library under test, through its C interface.
+
+/// The state record: its 20 words, in the order of the C header.
+#[repr(C)]
+#[derive(Clone, Copy, PartialEq, Eq, Debug)]
+pub struct Record(pub [u64; 20]);
+
+/// What a departure hands back.
+#[repr(C)]
+#[derive(Clone, Copy, PartialEq, Eq, Debug)]
+pub struct Packet {
+    pub handle: u32,
+    pub size: u32,
+}
+
+extern "C" {
+    fn obikuteru_fresh(state: *mut Record, target: u64, buffer: u64, slots: u64, clock: u64)
+        -> u32;
+    fn obikuteru_arrival(
+        state: *mut Record,
+        handles: *mut u32,
+        handles_len: usize,
+        sizes: *mut u32,
+        sizes_len: usize,
+        clock: u64,
+        handle: u32,
+        size: u32,
+        ecn: bool,
+        u: u32,
+    ) -> u32;
+    fn obikuteru_departure(
+        state: *mut Record,
+        handles: *const u32,
+        handles_len: usize,
+        sizes: *const u32,
+        sizes_len: usize,
+        clock: u64,
+        packet: *mut Packet,
+    ) -> u32;
+    fn obikuteru_tick(state: *mut Record, clock: u64) -> u32;
+    fn obikuteru_well_formed(state: *const Record) -> bool;
+}
+
+pub fn fresh(state: &mut Record, target: u64, buffer: u64, slots: u64, clock: u64) -> u32 {
+    unsafe { obikuteru_fresh(state, target, buffer, slots, clock) }
+}
+
+pub fn arrival(
+    state: &mut Record,
+    handles: &mut [u32],
+    sizes: &mut [u32],
+    clock: u64,
+    (handle, size, ecn, u): (u32, u32, bool, u32),
+) -> u32 {
+    let (h, h_len) = (handles.as_mut_ptr(), handles.len());
+    let (s, s_len) = (sizes.as_mut_ptr(), sizes.len());
+    unsafe { obikuteru_arrival(state, h, h_len, s, s_len, clock, handle, size, ecn, u) }
+}
+
+pub fn departure(
+    state: &mut Record,
+    handles: &[u32],
+    sizes: &[u32],
+    clock: u64,
+    packet: &mut Packet,
+) -> u32 {
+    let (h, h_len) = (handles.as_ptr(), handles.len());
+    let (s, s_len) = (sizes.as_ptr(), sizes.len());
+    unsafe { obikuteru_departure(state, h, h_len, s, s_len, clock, packet) }
+}
+
+pub fn tick(state: &mut Record, clock: u64) -> u32 {
+    unsafe { obikuteru_tick(state, clock) }
+}
+
+pub fn well_formed(state: &Record) -> bool {
+    unsafe { obikuteru_well_formed(state) }
+}

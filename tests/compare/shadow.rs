@@ -1,0 +1,128 @@
+//! Rules that hold over a whole run from fresh, checked without the model: a queue of our own
+//! follows the library's answers.
+
+use crate::model::State;
+use crate::side::{Call, Side};
+use std::collections::VecDeque;
+
+pub struct Shadow {
+    queue: VecDeque<(u32, u32)>,
+    admitted: u64,
+    departed: u64,
+    verdicts: [u64; 5],
+    clock: u64,
+    /// Accepted ticks in succession, up to now, that found the queue empty.
+    empty_ticks: u64,
+    /// The end of the time in which nothing is dropped early, after 1,000 of those.
+    pub quiet_until: u64,
+}
+
+impl Shadow {
+    pub fn new(start: &State) -> Shadow {
+        Shadow {
+            queue: VecDeque::new(),
+            admitted: 0,
+            departed: 0,
+            verdicts: start.verdicts,
+            clock: start.clock,
+            empty_ticks: 0,
+            quiet_until: 0,
+        }
+    }
+
+    /// Whether the rules of a run hold after this call; the sentence says which does not.
+    pub fn follow(&mut self, call: &Call, before: &State, after: &Side) -> Result<(), String> {
+        if !after.well_formed {
+            return Err("a state that the library returned is not well formed".to_string());
+        }
+        if after.answer == 102 || after.answer == 109 {
+            return Err(format!("refusal {} in a run from fresh", after.answer - 100));
+        }
+        if after.answer >= 100 {
+            return self.agrees(&after.state);
+        }
+        match *call {
+            Call::Arrival { clock, packet, .. } => {
+                self.clock = clock;
+                self.arrived(packet.handle, packet.size, before, after.answer as usize)?;
+            }
+            Call::Departure { clock, .. } => {
+                self.clock = clock;
+                self.left(after.packet)?;
+            }
+            Call::Tick { clock } => {
+                self.clock = clock;
+                self.ticked(after)?;
+            }
+            Call::Fresh { .. } => {}
+        }
+        self.agrees(&after.state)
+    }
+
+    fn arrived(
+        &mut self,
+        handle: u32,
+        size: u32,
+        before: &State,
+        verdict: usize,
+    ) -> Result<(), String> {
+        self.verdicts[verdict] += 1;
+        if verdict < 2 {
+            self.queue.push_back((handle, size));
+            self.admitted += u64::from(size);
+        }
+        let quiet = match (before.bytes + u64::from(size) > before.buffer, before.count) {
+            (true, _) => 2,
+            (false, count) if count == before.slots => 3,
+            _ => 0,
+        };
+        if self.clock < self.quiet_until && verdict != quiet {
+            return Err(
+                "another verdict than expected after 1,000 ticks with an empty queue".into()
+            );
+        }
+        Ok(())
+    }
+
+    fn left(&mut self, packet: (u32, u32)) -> Result<(), String> {
+        let head = self.queue.pop_front();
+        self.departed += u64::from(packet.1);
+        match head {
+            Some(head) if head == packet => Ok(()),
+            _ => Err(format!("departure gave {packet:?} where {head:?} was first in the queue")),
+        }
+    }
+
+    fn ticked(&mut self, after: &Side) -> Result<(), String> {
+        self.empty_ticks = if self.queue.is_empty() { self.empty_ticks + 1 } else { 0 };
+        if self.empty_ticks >= 1_000 {
+            self.quiet_until = self.clock + 150_000;
+            if after.state.probability != 0 {
+                return Err("the probability is not 0 after 1,000 ticks with an empty queue".into());
+            }
+        }
+        Ok(())
+    }
+
+    fn agrees(&self, state: &State) -> Result<(), String> {
+        let bytes = self.admitted - self.departed;
+        let same = state.count == self.queue.len() as u64
+            && state.bytes == bytes
+            && state.clock == self.clock
+            && state.verdicts == self.verdicts;
+        if same {
+            return Ok(());
+        }
+        Err(format!(
+            "state has count {}, bytes {}, clock {}, verdicts {:?}; the answers so far make it \
+             count {}, bytes {bytes}, clock {}, verdicts {:?}",
+            state.count,
+            state.bytes,
+            state.clock,
+            state.verdicts,
+            self.queue.len(),
+            self.clock,
+            self.verdicts
+        ))
+    }
+}
