@@ -9,7 +9,7 @@ use borrow.Author.Tests.{le-leb, leb-true, lt-ltb, ltb-true}
 use Rattle.units.specs.Kinds.{whole}
 use Rattle.pie.specs.Constants.{fullAllowance, largest, limit, longest, threshold}
 use Rattle.pie.specs.Verdicts.{total}
-use Rattle.queue.specs.State.{queueConditions, recordConditions, settingsConditions, wellFormed}
+use Rattle.queue.specs.State.{settingsConditions, stateConditions, wellFormed}
 use Rattle.queue.specs.declared.State.{State}
 use Rattle.queue.proofs.Tests.{all-at}
 
@@ -41,7 +41,7 @@ pub record Facts (s : State) : Type 0 where
 pub facts : (s : State) → wellFormed s ≡ true → Facts s
 unfolding wellFormed
 facts s w =
-    let tests = settingsConditions (s .settings) ++ queueConditions s ++ recordConditions s in
+    let tests = settingsConditions (s .settings) ++ stateConditions s in
     let at : (i : ℕ) → getD tests i true ≡ true = all-at tests w in
     record {
       target-low = leb-true _ _ (at 0);

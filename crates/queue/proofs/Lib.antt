@@ -2,7 +2,6 @@
 pub mod Tests
 pub mod Facts
 pub mod FiveCounts
-pub mod WellFormed
 pub mod WhenAccepted
 pub mod Replies
 pub mod Admitted

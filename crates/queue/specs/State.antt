@@ -24,9 +24,9 @@ settingsConditions s =
     ∷ leb (s .slots) 65536
     ∷ []
 
--- the clocks, the probability and the delays, and the packets queued
-abbrev pub queueConditions : State → List Bool
-queueConditions s =
+-- all else that is asked of a state
+abbrev pub stateConditions : State → List Bool
+stateConditions s =
     leb (s .last .0) (s .clock .0)
     ∷ leb (s .clock .0) limit
     ∷ leb (s .pie .prob .0) whole
@@ -38,12 +38,7 @@ queueConditions s =
     ∷ leb (s .backlog .count) (s .backlog .bytes .0)
     ∷ leb (s .backlog .bytes .0) (largest * s .backlog .count)
     ∷ leb (s .backlog .bytes .0) (s .settings .buffer .0)
-    ∷ []
-
--- the measurement, whose start and counted bytes are 0 if none runs, and the five counts
-abbrev pub recordConditions : State → List Bool
-recordConditions s =
-    leb (s .pie .rate .start .0) (s .clock .0)
+    ∷ leb (s .pie .rate .start .0) (s .clock .0)
     ∷ ltb (s .pie .rate .counted .0) threshold
     ∷ (s .pie .rate .measuring || eqb (s .pie .rate .start .0) 0)
     ∷ (s .pie .rate .measuring || eqb (s .pie .rate .counted .0) 0)
@@ -51,4 +46,4 @@ recordConditions s =
     ∷ []
 
 unfoldable pub wellFormed : State → Bool
-wellFormed s = all (settingsConditions (s .settings) ++ queueConditions s ++ recordConditions s)
+wellFormed s = all (settingsConditions (s .settings) ++ stateConditions s)

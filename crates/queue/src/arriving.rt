@@ -11,7 +11,7 @@ use units::Bytes;
 use units::Micros;
 ghost use mathlib.Core.Path.{_≡_};
 ghost use mathlib.Core.Bool.{cond, true};
-ghost use Prim.Native.Nat.{_≤_, _<_};
+ghost use Prim.Native.Nat.{_-_, _≤_, _<_};
 ghost use lib.ListN.{length, set};
 ghost use Rattle.pie.specs.Constants.{largest, limit};
 ghost use Rattle.pie.specs.Verdicts.{admitted, total};
@@ -19,17 +19,17 @@ ghost use Rattle.queue.specs.State.{wellFormed};
 ghost use Rattle.queue.specs.Answer.{arrivalReply, refusalIn};
 ghost use Rattle.queue.specs.Arrival.{arrival, arrivalRefusal, arrivedState, stored, tailPlace, verdictOf};
 
-// The sum of the five counts.
-fn sum(counts: [u64; 5]) -> u64
+// How many more arrivals the five counts can take.
+fn room(counts: [u64; 5]) -> u64
     requires { ⌜ total counts ≤ limit ⌝ }
-    ensures { λ r. ⌜ r ≡ total counts ⌝ }
+    ensures { λ r. ⌜ r ≡ limit - total counts ⌝ }
 {
     let a = counts[0];
     let b = counts[1];
     let c = counts[2];
     let d = counts[3];
     let e = counts[4];
-    a + b + c + d + e
+    LIMIT - a - b - c - d - e
 }
 
 impl State {
@@ -37,7 +37,7 @@ impl State {
     fn check_arrival(self, handles: u64, sizes: u64, clock: Micros, size: Bytes) -> Accepted
         ensures { λ r. ⌜ refusalIn r ≡ arrivalRefusal self handles sizes (clock .0) (size .0) ⌝ }
     {
-        let formed = self.queue_formed() & self.records_formed();
+        let formed = self.well_formed();
         if !formed {
             return Accepted::No(Refusal::Malformed);
         }
@@ -55,7 +55,7 @@ impl State {
             return Accepted::No(Refusal::Size);
         }
         let counts = self.verdicts;
-        let full = sum(counts) == LIMIT;
+        let full = room(counts) == 0;
         if full {
             return Accepted::No(Refusal::Counts);
         }

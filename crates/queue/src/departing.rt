@@ -37,7 +37,7 @@ impl State {
     fn check_departure(self, handles: u64, sizes: &[u32], clock: Micros) -> Accepted
         ensures { λ r. ⌜ refusalIn r ≡ departureRefusal self handles (length (now (sizes .entry))) (clock .0) (headOf self (now (sizes .entry))) ⌝ }
     {
-        let formed = self.queue_formed() & self.records_formed();
+        let formed = self.well_formed();
         if !formed {
             return Accepted::No(Refusal::Malformed);
         }

@@ -16,7 +16,7 @@ impl State {
     fn check_tick(self, clock: Micros) -> Accepted
         ensures { λ r. ⌜ refusalIn r ≡ tickRefusal self (clock .0) ⌝ }
     {
-        let formed = self.queue_formed() & self.records_formed();
+        let formed = self.well_formed();
         if !formed {
             return Accepted::No(Refusal::Malformed);
         }

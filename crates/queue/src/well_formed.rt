@@ -1,17 +1,24 @@
 // Whether a state record is well formed. Any values of its fields are taken.
+// One early return a test, each test where its numbers are at hand: the compiler makes a compare and a jump of it.
 use crate::Settings;
 use crate::State;
+use pie::Backlog;
+use pie::Pie;
+use pie::Rate;
+use units::Micros;
 ghost use mathlib.Core.Path.{_≡_};
-ghost use mathlib.Core.List.{_++_};
-ghost use lib.Dec.{leb};
-ghost use Rattle.pie.specs.Constants.{limit};
+ghost use mathlib.Core.Bool.{_&&_, _||_};
+ghost use Prim.Native.Nat.{_*_, _≤_};
+ghost use lib.Dec.{eqb, leb, ltb};
+ghost use Rattle.units.specs.Kinds.{whole};
+ghost use Rattle.pie.specs.Constants.{fullAllowance, largest, limit, longest, threshold};
 ghost use Rattle.pie.specs.Verdicts.{total};
-ghost use Rattle.queue.specs.State.{all, queueConditions, recordConditions, settingsConditions, wellFormed};
+ghost use Rattle.queue.specs.State.{all, settingsConditions, wellFormed};
 
 // The latest clock, and the most that the verdict counts may sum to.
 pub const LIMIT: u64 = 281_474_976_710_656;
 
-// Whether the five counts sum to at most 2^48.
+// Whether the five counts sum to at most 2^48: what is left of it after each of them.
 pub fn counts_fit(counts: [u64; 5]) -> bool
     ensures { λ r. ⌜ r ≡ leb (total counts) limit ⌝ }
 {
@@ -20,10 +27,19 @@ pub fn counts_fit(counts: [u64; 5]) -> bool
     let c = counts[2];
     let d = counts[3];
     let e = counts[4];
-    if (a <= LIMIT) & (b <= LIMIT) & (c <= LIMIT) & (d <= LIMIT) & (e <= LIMIT) {
-        return a + b + c + d + e <= LIMIT;
+    if LIMIT < a {
+        return false;
     }
-    false
+    if LIMIT - a < b {
+        return false;
+    }
+    if LIMIT - a - b < c {
+        return false;
+    }
+    if LIMIT - a - b - c < d {
+        return false;
+    }
+    e <= LIMIT - a - b - c - d
 }
 
 impl Settings {
@@ -39,48 +55,85 @@ impl Settings {
     }
 }
 
-// The conditions in two halves: each is small enough that the compiler puts it into every call.
-impl State {
-    // The clocks, the probability and the delays, and the packets queued.
-    pub fn queue_formed(self) -> bool
-        ensures { λ r. ⌜ r ≡ all (settingsConditions (self .settings) ++ queueConditions self) ⌝ }
-    {
-        let count = self.backlog.count;
-        if 65_536 < count {
+// The packets queued, with settings that are in range.
+fn backlog_fits(b: Backlog, settings: Settings) -> bool
+    requires { ⌜ settings .slots ≤ 65536 ⌝ }
+    ensures { λ r. ⌜ r ≡ (leb (b .count) (settings .slots) && leb (b .count) (b .bytes .0) && leb (b .bytes .0) (largest * b .count) && leb (b .bytes .0) (settings .buffer .0)) ⌝ }
+{
+    if settings.slots < b.count {
+        return false;
+    }
+    if b.bytes.0 < b.count {
+        return false;
+    }
+    if 65_535 * b.count < b.bytes.0 {
+        return false;
+    }
+    b.bytes.0 <= settings.buffer.0
+}
+
+// The probability, the delays and the allowance.
+fn pie_fits(p: Pie) -> bool
+    ensures { λ r. ⌜ r ≡ (leb (p .prob .0) whole && leb (p .old .0) longest && leb (p .allowance .0) fullAllowance && leb (p .rate .average .0) longest) ⌝ }
+{
+    if 4_294_967_296 < p.prob.0 {
+        return false;
+    }
+    if 10_000_000 < p.old.0 {
+        return false;
+    }
+    if 150_000 < p.allowance.0 {
+        return false;
+    }
+    p.rate.average.0 <= 10_000_000
+}
+
+// The measurement: start and counted bytes are 0 if none runs.
+fn measurement_fits(rate: Rate, clock: Micros) -> bool
+    ensures { λ r. ⌜ r ≡ (leb (rate .start .0) (clock .0) && ltb (rate .counted .0) threshold && (rate .measuring || eqb (rate .start .0) 0) && (rate .measuring || eqb (rate .counted .0) 0)) ⌝ }
+{
+    let runs = rate.measuring;
+    if runs {
+        if clock.0 < rate.start.0 {
             return false;
         }
-        let settings = self.settings;
-        settings.in_range()
-            & (self.last.0 <= self.clock.0)
-            & (self.clock.0 <= LIMIT)
-            & (self.pie.prob.0 <= 4_294_967_296)
-            & (self.pie.old.0 <= 10_000_000)
-            & (self.pie.allowance.0 <= 150_000)
-            & (self.pie.rate.average.0 <= 10_000_000)
-            & (self.first < settings.slots)
-            & (count <= settings.slots)
-            & (count <= self.backlog.bytes.0)
-            & (self.backlog.bytes.0 <= 65_535 * count)
-            & (self.backlog.bytes.0 <= settings.buffer.0)
+        return rate.counted.0 < 16_384;
     }
-
-    // The measurement and the five counts.
-    pub fn records_formed(self) -> bool
-        ensures { λ r. ⌜ r ≡ all (recordConditions self) ⌝ }
-    {
-        let runs = self.pie.rate.measuring;
-        let counts = self.verdicts;
-        let fits = counts_fit(counts);
-        (self.pie.rate.start.0 <= self.clock.0)
-            & (self.pie.rate.counted.0 < 16_384)
-            & (runs | (self.pie.rate.start.0 == 0))
-            & (runs | (self.pie.rate.counted.0 == 0))
-            & fits
+    if rate.start.0 != 0 {
+        return false;
     }
+    rate.counted.0 == 0
+}
 
+impl State {
     pub fn well_formed(self) -> bool
         ensures { λ r. ⌜ r ≡ wellFormed self ⌝ }
     {
-        self.queue_formed() & self.records_formed()
+        let settings = self.settings;
+        if !settings.in_range() {
+            return false;
+        }
+        if settings.slots <= self.first {
+            return false;
+        }
+        let backlog = self.backlog;
+        if !backlog_fits(backlog, settings) {
+            return false;
+        }
+        if self.clock.0 < self.last.0 {
+            return false;
+        }
+        if LIMIT < self.clock.0 {
+            return false;
+        }
+        let pie = self.pie;
+        if !pie_fits(pie) {
+            return false;
+        }
+        let counts = self.verdicts;
+        if !counts_fit(counts) {
+            return false;
+        }
+        measurement_fits(pie.rate, self.clock)
     }
 }

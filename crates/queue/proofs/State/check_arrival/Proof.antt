@@ -1,54 +1,67 @@
 -- `State::check_arrival`: each test in turn is the definition's own.
 use borrow.Author.Needs.{needs}
-use borrow.Author.Tests.{not-false}
-use mathlib.Core.Path.{_≡_, sym, _∙_}
-use mathlib.Core.Bool.{_&&_}
+use borrow.Author.Tests.{eq-eqb, eqb-false, eqb-true, ne-eqb, not-false}
+use mathlib.Core.Path.{_≡_, refl, sym, _∙_}
+use mathlib.Core.Bool.{Bool, true, false}
+use mathlib.Core.Logic.{_≢_}
+use Prim.Native.Nat.{ℕ, _-_, _≤_}
+use native.Mathlib.Omega.{arith}
+use lib.Dec.{eqb}
+use Rattle.pie.specs.Constants.{limit}
+use Rattle.pie.specs.Verdicts.{total}
 use Rattle.queue.specs.Arrival.{arrivalRefusal}
-use Rattle.queue.specs.State.{wellFormed}
 use Rattle.queue.proofs.Facts.{facts}
-use Rattle.queue.proofs.WellFormed.{halves}
 use Rattle.queue.proofs.State.check_arrival.Statement.{statement}
 use Rattle.queue.proofs.State.check_arrival.Tie as tie
 
-queue-formed-requires : tie.Need-queue-formed-requires
-queue-formed-requires c κs = search needs
-
-records-formed-requires : tie.Need-records-formed-requires
-records-formed-requires c κs = search needs
-
--- both halves together
-formed : (c : tie.After-records-formed) →
-    c .before .queue-formed .result && c .records-formed .result ≡ wellFormed (c .before .before .args .self)
-formed c = halves _ (c .before .queue-formed .ensures) (c .records-formed .ensures)
+well-formed-requires : tie.Need-well-formed-requires
+well-formed-requires c κs = search needs
 
 returns : tie.Need-returns
 unfolding arrivalRefusal
-returns c = simp (← (formed (c .before)), c .if1 .taken)
+returns c = simp (← (c .before .well-formed .ensures), c .if1 .taken)
 
 returns-2 : tie.Need-returns-2
 unfolding arrivalRefusal
 returns-2 c =
-    let e1 = c .before in simp (← (formed (e1 .before)), e1 .if1 .left, c .if2 .taken)
+    let e1 = c .before in simp (← (e1 .before .well-formed .ensures), e1 .if1 .left, c .if2 .taken)
 
 returns-3 : tie.Need-returns-3
 unfolding arrivalRefusal
 returns-3 c =
     let e2 = c .before .before .before .before in
-    let e1 = e2 .before in simp (← (formed (e1 .before)), e1 .if1 .left, e2 .if2 .left, c .if3 .taken)
+    let e1 = e2 .before in simp (← (e1 .before .well-formed .ensures), e1 .if1 .left, e2 .if2 .left, c .if3 .taken)
 
 returns-4 : tie.Need-returns-4
 unfolding arrivalRefusal
 returns-4 c =
     let e3 = c .before .before .before in
     let e2 = e3 .before .before .before .before in
-    let e1 = e2 .before in simp (← (formed (e1 .before)), e1 .if1 .left, e2 .if2 .left, e3 .if3 .left, c .if4 .taken)
+    let e1 = e2 .before in simp (← (e1 .before .well-formed .ensures), e1 .if1 .left, e2 .if2 .left, e3 .if3 .left, c .if4 .taken)
 
-sum-requires : tie.Need-sum-requires
-sum-requires c κs =
+abbrev at-start : tie.After-counts → tie.Start
+at-start c = c .before .before .before .before .before .before .before .before .before .before .before
+
+total-le : (c : tie.After-counts) → total (at-start c .args .self .verdicts) ≤ limit
+total-le c =
     let e3 = c .before .before .before .before in
     let e1 = e3 .before .before .before .before .before in
     let w = e1 .before in
-    facts (w .before .before .args .self) (sym (formed w) ∙ not-false _ (e1 .if1 .left)) .total-high
+    facts (w .before .args .self) (sym (w .well-formed .ensures) ∙ not-false _ (e1 .if1 .left)) .total-high
+
+room-requires : tie.Need-room-requires
+room-requires c κs = total-le c
+
+-- no room is left exactly where the counts sum to 2^48
+no-room : (sum : ℕ) → sum ≤ limit → eqb (limit - sum) 0 ≡ eqb sum limit
+no-room sum h = go (eqb sum limit) refl
+  where
+    go : (b : Bool) → eqb sum limit ≡ b → eqb (limit - sum) 0 ≡ b
+    go true e = eq-eqb (limit - sum) 0 (omega (arith, eqb-true sum limit e))
+    go false e = let n : sum ≢ limit = eqb-false sum limit e in ne-eqb (limit - sum) 0 (omega arith)
+
+full : (c : tie.After-room) → eqb (c .room .result) 0 ≡ eqb (total (at-start (c .before) .args .self .verdicts)) limit
+full c = rw (c .room .ensures) (no-room _ (total-le (c .before)))
 
 returns-5 : tie.Need-returns-5
 unfolding arrivalRefusal
@@ -58,12 +71,12 @@ returns-5 c =
     let e2 = e3 .before .before .before .before in
     let e1 = e2 .before in
     simp (
-      ← (formed (e1 .before)),
+      ← (e1 .before .well-formed .ensures),
       e1 .if1 .left,
       e2 .if2 .left,
       e3 .if3 .left,
       e4 .if4 .left,
-      ← (c .before .sum .ensures),
+      ← (full (c .before)),
       c .if5 .taken,
     )
 
@@ -75,16 +88,16 @@ returns-6 c =
     let e2 = e3 .before .before .before .before in
     let e1 = e2 .before in
     simp (
-      ← (formed (e1 .before)),
+      ← (e1 .before .well-formed .ensures),
       e1 .if1 .left,
       e2 .if2 .left,
       e3 .if3 .left,
       e4 .if4 .left,
-      ← (c .before .sum .ensures),
+      ← (full (c .before)),
       c .if5 .left,
     )
 
 pub check-arrival-spec : {M : Type 1} → statement M
 check-arrival-spec =
     tie.close
-    (tie.spec queue-formed-requires records-formed-requires returns returns-2 returns-3 returns-4 sum-requires returns-5 returns-6)
+    (tie.spec well-formed-requires returns returns-2 returns-3 returns-4 room-requires returns-5 returns-6)

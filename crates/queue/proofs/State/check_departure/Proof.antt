@@ -2,61 +2,50 @@
 use borrow.Author.Needs.{needs}
 use borrow.Author.Tests.{eqb-false, eqb-true, not-false}
 use mathlib.Core.Path.{_≡_, sym, _∙_}
-use mathlib.Core.Bool.{_&&_}
 use mathlib.Core.Logic.{_≢_}
 use native.Mathlib.Omega.{arith}
 use lib.Dec.{eqb}
 use lib.ListN.{length}
 use denote.Ref.{now}
 use Rattle.queue.specs.Departure.{departureRefusal}
-use Rattle.queue.specs.State.{wellFormed}
 use Rattle.queue.proofs.Facts.{Facts, facts}
 use Rattle.queue.proofs.Tests.{and-right}
-use Rattle.queue.proofs.WellFormed.{halves}
 use Rattle.queue.proofs.State.check_departure.Statement.{statement}
 use Rattle.queue.proofs.State.check_departure.Tie as tie
 
-queue-formed-requires : tie.Need-queue-formed-requires
-queue-formed-requires c κs = search needs
-
-records-formed-requires : tie.Need-records-formed-requires
-records-formed-requires c κs = search needs
-
--- both halves together
-formed : (c : tie.After-records-formed) →
-    c .before .queue-formed .result && c .records-formed .result ≡ wellFormed (c .before .before .before .args .self)
-formed c = halves _ (c .before .queue-formed .ensures) (c .records-formed .ensures)
+well-formed-requires : tie.Need-well-formed-requires
+well-formed-requires c κs = search needs
 
 returns : tie.Need-returns
 unfolding departureRefusal
-returns c = simp (← (formed (c .before)), c .if1 .taken)
+returns c = simp (← (c .before .well-formed .ensures), c .if1 .taken)
 
 returns-2 : tie.Need-returns-2
 unfolding departureRefusal
 returns-2 c =
-    let e1 = c .before in simp (← (formed (e1 .before)), e1 .if1 .left, c .if2 .taken)
+    let e1 = c .before in simp (← (e1 .before .well-formed .ensures), e1 .if1 .left, c .if2 .taken)
 
 returns-3 : tie.Need-returns-3
 unfolding departureRefusal
 returns-3 c =
     let e2 = c .before .before .before .before in
-    let e1 = e2 .before in simp (← (formed (e1 .before)), e1 .if1 .left, e2 .if2 .left, c .if3 .taken)
+    let e1 = e2 .before in simp (← (e1 .before .well-formed .ensures), e1 .if1 .left, e2 .if2 .left, c .if3 .taken)
 
 returns-4 : tie.Need-returns-4
 unfolding departureRefusal
 returns-4 c =
     let e3 = c .before .before .before in
     let e2 = e3 .before .before .before .before in
-    let e1 = e2 .before in simp (← (formed (e1 .before)), e1 .if1 .left, e2 .if2 .left, e3 .if3 .left, c .if4 .taken)
+    let e1 = e2 .before in simp (← (e1 .before .well-formed .ensures), e1 .if1 .left, e2 .if2 .left, e3 .if3 .left, c .if4 .taken)
 
 -- what is known where the head is read: the state's facts, that the table fits, and that a packet is queued
 abbrev at-start : tie.Else4 → tie.Start
-at-start c = c .before .before .before .before .before .before .before .before .before .before .before .before
+at-start c = c .before .before .before .before .before .before .before .before .before .before .before
 
 known : (c : tie.Else4) → Facts (at-start c .args .self)
 known c =
     let e1 = c .before .before .before .before .before .before .before .before in
-    let w = e1 .before in facts (w .before .before .before .args .self) (sym (formed w) ∙ not-false _ (e1 .if1 .left))
+    let w = e1 .before in facts (w .before .before .args .self) (sym (w .well-formed .ensures) ∙ not-false _ (e1 .if1 .left))
 
 fits : (c : tie.Else4) → length (now (at-start c .args .sizes)) ≡ at-start c .args .self .settings .slots
 fits c =
@@ -88,7 +77,7 @@ returns-5 c =
     let e2 = e3 .before .before .before .before in
     let e1 = e2 .before in
     simp (
-      ← (formed (e1 .before)),
+      ← (e1 .before .well-formed .ensures),
       e1 .if1 .left,
       e2 .if2 .left,
       e3 .if3 .left,
@@ -105,7 +94,7 @@ returns-6 c =
     let e2 = e3 .before .before .before .before in
     let e1 = e2 .before in
     simp (
-      ← (formed (e1 .before)),
+      ← (e1 .before .well-formed .ensures),
       e1 .if1 .left,
       e2 .if2 .left,
       e3 .if3 .left,
@@ -118,8 +107,7 @@ pub check-departure-spec : {M : Type 1} → statement M
 check-departure-spec =
     tie.close
     (tie.spec
-    queue-formed-requires
-    records-formed-requires
+    well-formed-requires
     returns
     returns-2
     returns-3

@@ -1,54 +1,25 @@
--- `well_formed::counts_fit`: where each count is at most 2^48 the sum fits 64 bits; where one is not, neither is the sum.
+-- `well_formed::counts_fit`: what is left of 2^48 after each count.
 use borrow.Author.Needs.{needs}
-use borrow.Author.Tests.{le-leb, leb-true}
-use mathlib.Core.Path.{_≡_, sym, _∙_}
-use mathlib.Core.Bool.{Bool, true, false, _&&_, false≢true}
-use mathlib.Core.List.{List, [], _∷_}
-use Prim.Native.Nat.{ℕ, _+_, _*_, _≤_}
+use borrow.Author.Tests.{leb-false, leb-true, le-leb, lt-leb}
+use mathlib.Core.Path.{_≡_, refl, sym}
+use mathlib.Core.Bool.{Bool, true, false}
+use Prim.Native.Nat.{ℕ, _+_, _-_, _≤_}
 use native.Mathlib.Omega.{arith}
 use lib.Dec.{leb}
-use lib.ListN.{getD, length}
+use lib.ListN.{getD}
 use Rattle.pie.specs.Constants.{limit}
 use Rattle.pie.specs.Verdicts.{total}
 use Rattle.queue.proofs.FiveCounts.{total-five}
-use Rattle.queue.proofs.Tests.{all-at, false-of}
 use Rattle.queue.proofs.well_formed.counts_fit.Statement.{statement}
 use Rattle.queue.proofs.well_formed.counts_fit.Tie as tie
 
--- each count is at most 2^48
-abbrev small : List ℕ → Bool
-small counts =
-    leb (getD counts 0 0) limit
-    && leb (getD counts 1 0) limit
-    && leb (getD counts 2 0) limit
-    && leb (getD counts 3 0) limit
-    && leb (getD counts 4 0) limit
-
-sum-small : (counts : List ℕ) → small counts ≡ true →
-    getD counts 0 0 + getD counts 1 0 + getD counts 2 0 + getD counts 3 0 + getD counts 4 0 ≤ 5 * limit
-sum-small counts e =
-    let tests : List Bool
-    = leb (getD counts 0 0) limit ∷ leb (getD counts 1 0) limit ∷ leb (getD counts 2 0) limit ∷ leb (getD counts 3 0) limit ∷ leb (getD counts 4 0) limit ∷ [] in
-    let at : (i : ℕ) → getD tests i true ≡ true = all-at tests e in
-    omega (
-      arith,
-      leb-true (getD counts 0 0) limit (at 0),
-      leb-true (getD counts 1 0) limit (at 1),
-      leb-true (getD counts 2 0) limit (at 2),
-      leb-true (getD counts 3 0) limit (at 3),
-      leb-true (getD counts 4 0) limit (at 4),
-    )
-
-total-small : (counts : List ℕ) → length counts ≡ 5 → total counts ≤ limit → small counts ≡ true
-total-small counts five h =
-    let t = total-five counts five in
-    simp (
-      le-leb (getD counts 0 0) limit (omega arith),
-      le-leb (getD counts 1 0) limit (omega arith),
-      le-leb (getD counts 2 0) limit (omega arith),
-      le-leb (getD counts 3 0) limit (omega arith),
-      le-leb (getD counts 4 0) limit (omega arith),
-    )
+-- a sum is at most m where its last part is at most what the rest leaves of m
+last-part : (m rest part : ℕ) → rest ≤ m → leb part (m - rest) ≡ leb (rest + part) m
+last-part m rest part h = go (leb (rest + part) m) refl
+  where
+    go : (b : Bool) → leb (rest + part) m ≡ b → leb part (m - rest) ≡ b
+    go true e = le-leb part (m - rest) (omega (arith, leb-true (rest + part) m e))
+    go false e = lt-leb part (m - rest) (omega (arith, leb-false (rest + part) m e))
 
 array-read-a : tie.Need-array-read-a
 array-read-a c = search needs
@@ -65,24 +36,50 @@ array-read-d c = search needs
 array-read-e : tie.Need-array-read-e
 array-read-e c = search needs
 
-add-result : tie.Need-add-result
-add-result c = omega (arith, sum-small (c .before .args .t1) (c .if1 .taken))
-
-add-result-2 : tie.Need-add-result-2
-add-result-2 c = omega (arith, sum-small (c .before .args .t1) (c .if1 .taken))
-
-add-result-3 : tie.Need-add-result-3
-add-result-3 c = omega (arith, sum-small (c .before .args .t1) (c .if1 .taken))
-
-add-result-4 : tie.Need-add-result-4
-add-result-4 c = omega (arith, sum-small (c .before .args .t1) (c .if1 .taken))
-
 returns : tie.Need-returns
-returns c = rw (total-five (c .before .args .t1) (search needs))
+returns c =
+    let counts = c .before .args .t1 in
+    let five = total-five counts (search needs) in sym (lt-leb (total counts) limit (omega arith))
 
 returns-2 : tie.Need-returns-2
 returns-2 c =
-    false-of _ (λ e. false≢true (sym (c .if1 .left) ∙ total-small (c .before .args .t1) (search needs) (leb-true _ _ e)))
+    let counts = c .before .before .args .t1 in
+    let five = total-five counts (search needs) in sym (lt-leb (total counts) limit (omega arith))
+
+sub-if3 : tie.Need-sub-if3
+sub-if3 c = omega arith
+
+returns-3 : tie.Need-returns-3
+returns-3 c =
+    let counts = c .before .before .before .args .t1 in
+    let five = total-five counts (search needs) in sym (lt-leb (total counts) limit (omega arith))
+
+sub-if4 : tie.Need-sub-if4
+sub-if4 c = omega arith
+
+sub-if4-2 : tie.Need-sub-if4-2
+sub-if4-2 c = omega arith
+
+returns-4 : tie.Need-returns-4
+returns-4 c =
+    let counts = c .before .before .before .before .args .t1 in
+    let five = total-five counts (search needs) in sym (lt-leb (total counts) limit (omega arith))
+
+sub-result : tie.Need-sub-result
+sub-result c = omega arith
+
+sub-result-2 : tie.Need-sub-result-2
+sub-result-2 c = omega arith
+
+sub-result-3 : tie.Need-sub-result-3
+sub-result-3 c = omega arith
+
+returns-5 : tie.Need-returns-5
+returns-5 c =
+    let counts = c .before .before .before .before .args .t1 in
+    let at : ℕ → ℕ = λ i. getD counts i 0 in
+    let left : limit - at 0 - at 1 - at 2 - at 3 ≡ limit - (at 0 + at 1 + at 2 + at 3) = omega arith in
+    rw (total-five counts (search needs), left) (last-part limit (at 0 + at 1 + at 2 + at 3) (at 4) (omega arith))
 
 pub counts-fit-spec : {M : Type 1} → statement M
 counts-fit-spec =
@@ -93,9 +90,14 @@ counts-fit-spec =
     array-read-c
     array-read-d
     array-read-e
-    add-result
-    add-result-2
-    add-result-3
-    add-result-4
     returns
-    returns-2)
+    returns-2
+    sub-if3
+    returns-3
+    sub-if4
+    sub-if4-2
+    returns-4
+    sub-result
+    sub-result-2
+    sub-result-3
+    returns-5)
