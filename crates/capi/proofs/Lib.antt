@@ -1,2 +1,3 @@
 -- What the entries' proofs share.
 pub mod Codes
+pub mod Words

@@ -1,13 +1,15 @@
 -- The state record as twenty words, in the order of struct obikuteru_state.
 use mathlib.Core.Bool.{Bool, not, cond}
 use mathlib.Core.List.{List, [], _∷_}
-use Prim.Native.Nat.{ℕ}
+use Prim.Native.Nat.{ℕ, _+_}
 use lib.Dec.{eqb}
-use lib.ListN.{getD}
+use lib.ListN.{getD, set}
 use Rattle.units.specs.Kinds.{bytes, micros, prob}
 use Rattle.pie.specs.declared.Backlog.{Backlog}
 use Rattle.pie.specs.declared.Pie.{Pie}
 use Rattle.pie.specs.declared.Rate.{Rate}
+use Rattle.pie.specs.declared.Verdict.{Verdict}
+use Rattle.pie.specs.Verdicts.{placeOf}
 use Rattle.queue.specs.declared.State.{State}
 use Rattle.queue.specs.Fresh.{settingsOf}
 
@@ -68,3 +70,9 @@ wordsOf s =
     ∷ getD (s .verdicts) 3 0
     ∷ getD (s .verdicts) 4 0
     ∷ []
+
+-- the words that an arrival with this verdict changes: clock, count, bytes and the verdict's count; `measuring` becomes 0 or 1
+abbrev pub arrivalWords : (words : List ℕ) → State → Verdict → List ℕ
+arrivalWords w s v =
+    let next = set (set (set (set w 3 (s .clock .0)) 9 (cond (s .pie .rate .measuring) 1 0)) 12 (s .backlog .count)) 13 (s .backlog .bytes .0) in
+    set next (15 + placeOf v) (getD next (15 + placeOf v) 0 + 1)

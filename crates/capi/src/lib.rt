@@ -13,19 +13,22 @@ use units::Bytes;
 use units::Micros;
 use units::Prob;
 ghost use mathlib.Core.Path.{_≡_};
-ghost use Prim.Native.Nat.{_+_, _≤_};
-ghost use Rattle.queue.specs.Answer.{numberOf, arrivalAnswer};
+ghost use Prim.Native.Nat.{_+_, _<_};
+ghost use lib.ListN.{getD, length};
+ghost use Rattle.pie.specs.Constants.{limit};
+ghost use Rattle.pie.specs.Verdicts.{placeOf};
+ghost use Rattle.queue.specs.Answer.{numberOf};
 ghost use Rattle.queue.specs.State.{wellFormed};
 ghost use Rattle.queue.specs.Fresh.{fresh, settingsOf};
 ghost use Rattle.queue.specs.Arrival.{arrival, stored};
 ghost use Rattle.queue.specs.Departure.{departure};
 ghost use Rattle.queue.specs.Tick.{tick};
-ghost use Rattle.capi.specs.Words.{stateOf, wordsOf};
+ghost use Rattle.capi.specs.Words.{arrivalWords, stateOf, wordsOf};
 ghost use Rattle.capi.specs.Codes.{codeOf, packetOf, wordsAfter};
 
-// The state that the words hold.
-fn decode(w: &[u64; 20]) -> State
-    ensures { λ r. ⌜ r ≡ stateOf (now (w .entry)) ⌝ }
+// The state that the words hold, and that they are twenty.
+fn decode(w: [u64; 20]) -> State
+    ensures { λ r. ⌜ (r ≡ stateOf w) × (length w ≡ 20) ⌝ }
 {
     let settings = Settings {
         target: Micros(w[0]),
@@ -94,6 +97,22 @@ fn encode(w: &mut [u64; 20], s: State)
     ];
 }
 
+// The words that an arrival with this verdict changes: fewer than `encode` writes, since the tables were written before.
+fn write_arrival(w: &mut [u64; 20], s: State, v: Verdict) -> u32
+    requires { ⌜ getD (now w) (15 + placeOf v) 0 < limit ⌝ }
+    ensures { λ r. ⌜ r ≡ placeOf v ⌝ }
+    ensures { λ _. ⌜ now (w .exit) ≡ arrivalWords (now (w .entry)) s v ⌝ }
+{
+    let place = v.place();
+    let at = 15 + place;
+    w[3] = s.clock.0;
+    w[9] = s.pie.rate.measuring as u64;
+    w[12] = s.backlog.count;
+    w[13] = s.backlog.bytes.0;
+    w[at] = w[at] + 1;
+    place as u32
+}
+
 // The number of a refusal, with 100.
 fn refused(r: Refusal) -> u32
     ensures { λ n. ⌜ n ≡ 100 + numberOf r ⌝ }
@@ -148,7 +167,7 @@ pub extern "C" fn obikuteru_arrival(
     ensures { λ _. ⌜ now (handles .exit) ≡ stored (stateOf (now (words .entry))) (arrival (stateOf (now (words .entry))) (now (handles .entry)) (now (sizes .entry)) clock size ecn u .answer) (now (handles .entry)) handle ⌝ }
     ensures { λ _. ⌜ now (sizes .exit) ≡ stored (stateOf (now (words .entry))) (arrival (stateOf (now (words .entry))) (now (handles .entry)) (now (sizes .entry)) clock size ecn u .answer) (now (sizes .entry)) size ⌝ }
 {
-    let s = decode(words);
+    let s = decode(*words);
     let r = s.arrival(
         handles,
         sizes,
@@ -162,10 +181,7 @@ pub extern "C" fn obikuteru_arrival(
     let answer = r.answer;
     match answer {
         ArrivalAnswer::Refused(refusal) => refused(refusal),
-        ArrivalAnswer::Decided(v) => {
-            encode(words, state);
-            v.place() as u32
-        }
+        ArrivalAnswer::Decided(v) => write_arrival(words, state, v),
     }
 }
 
@@ -181,15 +197,20 @@ pub extern "C" fn obikuteru_departure(
     ensures { λ _. ⌜ now (words .exit) ≡ wordsAfter (departure (stateOf (now (words .entry))) (now (handles .entry)) (now (sizes .entry)) clock) (now (words .entry)) ⌝ }
     ensures { λ _. ⌜ now (packet .exit) ≡ packetOf (departure (stateOf (now (words .entry))) (now (handles .entry)) (now (sizes .entry)) clock .answer) ⌝ }
 {
-    let s = decode(words);
+    let s = decode(*words);
     let r = s.departure(handles, sizes, Micros(clock));
-    *packet = [r.handle, r.size];
+    let handle = r.handle;
+    let size = r.size;
     let state = r.state;
     let accepted = r.accepted;
     match accepted {
-        Accepted::No(refusal) => refused(refusal),
+        Accepted::No(refusal) => {
+            *packet = [handle, size];
+            refused(refusal)
+        }
         Accepted::Yes => {
             encode(words, state);
+            *packet = [handle, size];
             0
         }
     }
@@ -200,7 +221,7 @@ pub extern "C" fn obikuteru_tick(words: &mut [u64; 20], clock: u64) -> u32
     ensures { λ r. ⌜ r ≡ codeOf (tick (stateOf (now (words .entry))) clock .answer) ⌝ }
     ensures { λ _. ⌜ now (words .exit) ≡ wordsAfter (tick (stateOf (now (words .entry))) clock) (now (words .entry)) ⌝ }
 {
-    let s = decode(words);
+    let s = decode(*words);
     let r = s.tick(Micros(clock));
     let state = r.state;
     let accepted = r.accepted;
@@ -217,6 +238,6 @@ pub extern "C" fn obikuteru_tick(words: &mut [u64; 20], clock: u64) -> u32
 pub extern "C" fn obikuteru_well_formed(words: &[u64; 20]) -> bool
     ensures { λ r. ⌜ r ≡ wellFormed (stateOf (now (words .entry))) ⌝ }
 {
-    let s = decode(words);
+    let s = decode(*words);
     s.well_formed()
 }

@@ -1,95 +1,96 @@
+-- `decode`: each field is its word.
 use mathlib.Core.Path.{refl}
 use Rattle.capi.specs.Words.{stateOf}
 use borrow.Author.Needs.{needs}
 use Rattle.capi.proofs.decode.Statement.{statement}
 use Rattle.capi.proofs.decode.Tie as tie
 
-element-copy-out-t9 : tie.Need-element-copy-out-t9
-element-copy-out-t9 c = search needs
+array-read-t10 : tie.Need-array-read-t10
+array-read-t10 c = search needs
 
-element-copy-out-t13 : tie.Need-element-copy-out-t13
-element-copy-out-t13 c = search needs
+array-read-t14 : tie.Need-array-read-t14
+array-read-t14 c = search needs
 
-element-copy-out-t17 : tie.Need-element-copy-out-t17
-element-copy-out-t17 c = search needs
+array-read-t18 : tie.Need-array-read-t18
+array-read-t18 c = search needs
 
-element-copy-out-t9-2 : tie.Need-element-copy-out-t9-2
-element-copy-out-t9-2 c = search needs
+array-read-t10-2 : tie.Need-array-read-t10-2
+array-read-t10-2 c = search needs
 
-element-copy-out-t17-2 : tie.Need-element-copy-out-t17-2
-element-copy-out-t17-2 c = search needs
+array-read-t18-2 : tie.Need-array-read-t18-2
+array-read-t18-2 c = search needs
 
-element-copy-out-t13-2 : tie.Need-element-copy-out-t13-2
-element-copy-out-t13-2 c = search needs
+array-read-t14-2 : tie.Need-array-read-t14-2
+array-read-t14-2 c = search needs
 
-element-copy-out-t28 : tie.Need-element-copy-out-t28
-element-copy-out-t28 c = search needs
+array-read-t29 : tie.Need-array-read-t29
+array-read-t29 c = search needs
 
-element-copy-out-t9-3 : tie.Need-element-copy-out-t9-3
-element-copy-out-t9-3 c = search needs
+array-read-t10-3 : tie.Need-array-read-t10-3
+array-read-t10-3 c = search needs
 
-element-copy-out-t17-3 : tie.Need-element-copy-out-t17-3
-element-copy-out-t17-3 c = search needs
+array-read-t18-3 : tie.Need-array-read-t18-3
+array-read-t18-3 c = search needs
 
-element-copy-out-t28-2 : tie.Need-element-copy-out-t28-2
-element-copy-out-t28-2 c = search needs
+array-read-t29-2 : tie.Need-array-read-t29-2
+array-read-t29-2 c = search needs
 
-element-copy-out-t13-3 : tie.Need-element-copy-out-t13-3
-element-copy-out-t13-3 c = search needs
+array-read-t14-3 : tie.Need-array-read-t14-3
+array-read-t14-3 c = search needs
 
-element-copy-out-t9-4 : tie.Need-element-copy-out-t9-4
-element-copy-out-t9-4 c = search needs
+array-read-t10-4 : tie.Need-array-read-t10-4
+array-read-t10-4 c = search needs
 
-element-copy-out-t28-3 : tie.Need-element-copy-out-t28-3
-element-copy-out-t28-3 c = search needs
+array-read-t29-3 : tie.Need-array-read-t29-3
+array-read-t29-3 c = search needs
 
-element-copy-out-t17-4 : tie.Need-element-copy-out-t17-4
-element-copy-out-t17-4 c = search needs
+array-read-t18-4 : tie.Need-array-read-t18-4
+array-read-t18-4 c = search needs
 
-element-copy-out-t9-5 : tie.Need-element-copy-out-t9-5
-element-copy-out-t9-5 c = search needs
+array-read-t10-5 : tie.Need-array-read-t10-5
+array-read-t10-5 c = search needs
 
-element-copy-out-t13-4 : tie.Need-element-copy-out-t13-4
-element-copy-out-t13-4 c = search needs
+array-read-t14-4 : tie.Need-array-read-t14-4
+array-read-t14-4 c = search needs
 
-element-copy-out-t50 : tie.Need-element-copy-out-t50
-element-copy-out-t50 c = search needs
+array-read-t51 : tie.Need-array-read-t51
+array-read-t51 c = search needs
 
-element-copy-out-t28-4 : tie.Need-element-copy-out-t28-4
-element-copy-out-t28-4 c = search needs
+array-read-t29-4 : tie.Need-array-read-t29-4
+array-read-t29-4 c = search needs
 
-element-copy-out-t13-5 : tie.Need-element-copy-out-t13-5
-element-copy-out-t13-5 c = search needs
+array-read-t14-5 : tie.Need-array-read-t14-5
+array-read-t14-5 c = search needs
 
-element-copy-out-t9-6 : tie.Need-element-copy-out-t9-6
-element-copy-out-t9-6 c = search needs
+array-read-t10-6 : tie.Need-array-read-t10-6
+array-read-t10-6 c = search needs
 
 returns : tie.Need-returns
 unfolding stateOf
-returns c = refl
+returns c = (refl, search needs)
 
 pub decode-spec : {M : Type 1} → statement M
 decode-spec =
     tie.close
     (tie.spec
-    element-copy-out-t9
-    element-copy-out-t13
-    element-copy-out-t17
-    element-copy-out-t9-2
-    element-copy-out-t17-2
-    element-copy-out-t13-2
-    element-copy-out-t28
-    element-copy-out-t9-3
-    element-copy-out-t17-3
-    element-copy-out-t28-2
-    element-copy-out-t13-3
-    element-copy-out-t9-4
-    element-copy-out-t28-3
-    element-copy-out-t17-4
-    element-copy-out-t9-5
-    element-copy-out-t13-4
-    element-copy-out-t50
-    element-copy-out-t28-4
-    element-copy-out-t13-5
-    element-copy-out-t9-6
+    array-read-t10
+    array-read-t14
+    array-read-t18
+    array-read-t10-2
+    array-read-t18-2
+    array-read-t14-2
+    array-read-t29
+    array-read-t10-3
+    array-read-t18-3
+    array-read-t29-2
+    array-read-t14-3
+    array-read-t10-4
+    array-read-t29-3
+    array-read-t18-4
+    array-read-t10-5
+    array-read-t14-4
+    array-read-t51
+    array-read-t29-4
+    array-read-t14-5
+    array-read-t10-6
     returns)

@@ -1,14 +1,8 @@
-use mathlib.Core.Path.{_≡_, refl}
-use mathlib.Core.Bool.{Bool, true, false, cond}
-use mir.Val.{boolByte}
+use Rattle.capi.proofs.Words.{flag-word}
 use Rattle.capi.specs.Words.{wordsOf}
 use borrow.Author.Needs.{needs}
 use Rattle.capi.proofs.encode.Statement.{statement}
 use Rattle.capi.proofs.encode.Tie as tie
-
-as-number : (t : Bool) → boolByte t ≡ cond t 1 0
-as-number true = refl
-as-number false = refl
 
 element-copy-out-v0 : tie.Need-element-copy-out-v0
 element-copy-out-v0 c = search needs
@@ -30,7 +24,7 @@ cast-runs c = search needs
 
 returns : tie.Need-returns
 unfolding wordsOf
-returns c = rw (as-number (c .before .before .before .before .before .before .args .t2 .pie .rate .measuring))
+returns c = rw (flag-word (c .before .before .before .before .before .before .args .t2 .pie .rate .measuring))
 
 pub encode-spec : {M : Type 1} → statement M
 encode-spec =

@@ -1,4 +1,8 @@
+-- `obikuteru_arrival`: the reply's number and words, and the tables as the queue left them.
+use mathlib.Core.Path.{ap, sym, _∙_}
+use Rattle.queue.specs.Answer.{Reply, arrivalAnswer}
 use Rattle.capi.proofs.Codes.{arrival-decided, arrival-refused}
+use Rattle.capi.proofs.Words.{count-lt, words-of}
 use borrow.Author.Needs.{needs}
 use Rattle.capi.proofs.obikuteru_arrival.Statement.{statement}
 use Rattle.capi.proofs.obikuteru_arrival.Tie as tie
@@ -18,14 +22,13 @@ refused-requires c κs = search needs
 enum-known-answer-2 : tie.Need-enum-known-answer-2
 enum-known-answer-2 c = search needs
 
-encode-requires : tie.Need-encode-requires
-encode-requires c κs = search needs
-
-place-requires : tie.Need-place-requires
-place-requires c κs = search needs
-
-cast-result : tie.Need-cast-result
-cast-result c = search needs
+write-arrival-requires : tie.Need-write-arrival-requires
+write-arrival-requires c κs =
+    let t = c .before .before .before .before .before .before .before .before .before in
+    let w = t .before .before .before in
+    let a = t .arrival .ensures .0 in
+    let e = sym (ap (λ (r : Reply). r .answer) a) ∙ ap arrivalAnswer (c .before .before .answer2 .given .1) in
+    count-lt _ _ _ _ _ _ _ _ (rw (w .decode .ensures .0) at e)
 
 same-length : tie.Need-same-length
 same-length c = search needs
@@ -38,7 +41,7 @@ returns c =
     let t = c .before .before .before .before .before .before .before .before .before in
     let a = t .arrival .ensures in
     let g = arrival-refused _ (a .0) (c .before .before .answer .given .1) (c .refused .ensures) in
-    rw (← (t .before .before .before .decode .ensures)) (g .0, (g .1, a .1))
+    rw (← (t .before .before .before .decode .ensures .0)) (g .0, (g .1, a .1))
 
 same-length-3 : tie.Need-same-length-3
 same-length-3 c = search needs
@@ -48,10 +51,14 @@ same-length-4 c = search needs
 
 returns-2 : tie.Need-returns-2
 returns-2 c =
-    let t = c .before .before .before .before .before .before .before .before .before .before .before in
+    let t = c .before .before .before .before .before .before .before .before .before .before in
+    let w = t .before .before .before in
     let a = t .arrival .ensures in
-    let g = arrival-decided _ _ (a .0) (c .before .before .before .before .answer2 .given .1) (c .place .ensures .0) (c .before .encode .ensures) in
-    rw (← (t .before .before .before .decode .ensures)) (g .0, (g .1, a .1))
+    let given = c .before .before .before .answer2 .given .1 in
+    let e = sym (ap (λ (r : Reply). r .answer) (a .0)) ∙ ap arrivalAnswer given in
+    let written = words-of _ _ _ _ _ _ _ _ (w .decode .ensures .1) (rw (w .decode .ensures .0) at e) _ (rw (w .decode .ensures .0) at (sym (ap (λ (r : Reply). r .state) (a .0)))) in
+    let g = arrival-decided _ _ (a .0) given (c .write-arrival .ensures .0) (c .write-arrival .ensures .1 ∙ written) in
+    rw (← (w .decode .ensures .0)) (g .0, (g .1, a .1))
 
 pub obikuteru-arrival-spec : {M : Type 1} → statement M
 obikuteru-arrival-spec =
@@ -62,9 +69,7 @@ obikuteru-arrival-spec =
     enum-known-answer
     refused-requires
     enum-known-answer-2
-    encode-requires
-    place-requires
-    cast-result
+    write-arrival-requires
     same-length
     same-length-2
     returns

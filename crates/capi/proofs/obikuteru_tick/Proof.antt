@@ -26,12 +26,12 @@ encode-requires c κs = search needs
 returns : tie.Need-returns
 returns c =
     let t = c .before .before .before .before .before in
-    rw (← (t .before .decode .ensures)) (refused ticked _ (t .tick .ensures) (c .before .before .accepted .given .1) (c .refused .ensures))
+    rw (← (t .before .decode .ensures .0)) (refused ticked _ (t .tick .ensures) (c .before .before .accepted .given .1) (c .refused .ensures))
 
 returns-2 : tie.Need-returns-2
 returns-2 c =
     let t = c .before .before .before .before .before in
-    rw (← (t .before .decode .ensures))
+    rw (← (t .before .decode .ensures .0))
     (accepted ticked _ _ (t .tick .ensures) (c .before .before .enum-told .given .1) refl refl (c .encode .ensures))
 
 pub obikuteru-tick-spec : {M : Type 1} → statement M

@@ -9,7 +9,7 @@ well-formed-requires : tie.Need-well-formed-requires
 well-formed-requires c κs = search needs
 
 returns : tie.Need-returns
-returns c = rw (← (c .before .decode .ensures)) (c .well-formed .ensures)
+returns c = rw (← (c .before .decode .ensures .0)) (c .well-formed .ensures)
 
 pub obikuteru-well-formed-spec : {M : Type 1} → statement M
 obikuteru-well-formed-spec = tie.close (tie.spec decode-requires well-formed-requires returns)

@@ -1,0 +1,89 @@
+-- Twenty words, written out, and what an arrival makes of them.
+use mathlib.Core.Path.{_≡_, refl, ap, _∙_}
+use mathlib.Core.Bool.{Bool, true, false, cond}
+use mathlib.Core.List.{List, [], _∷_}
+use Prim.Native.Nat.{ℕ, zero, suc, _+_, _≤_, _<_}
+use native.Mathlib.Omega.{arith}
+use lib.ListN.{getD, length, set}
+use lib.Seq.{getD-set-other}
+use mir.Val.{boolByte}
+use Rattle.pie.specs.Constants.{limit}
+use Rattle.pie.specs.Verdicts.{placeOf, raised}
+use Rattle.pie.proofs.Counts.{count-le-total}
+use Rattle.pie.specs.declared.Verdict.{Verdict}
+use Rattle.pie.specs.declared.Verdict.the-variants.{Enqueued, Marked, DroppedBytes, DroppedSlots, DroppedEarly}
+use Rattle.queue.specs.Answer.{Reply, verdict}
+use Rattle.queue.specs.Arrival.{arrival, arrivedState}
+use Rattle.queue.specs.declared.State.{State}
+use Rattle.queue.proofs.Replies.{decided}
+use Rattle.queue.proofs.WhenAccepted.{arrival-accepted}
+use Rattle.capi.specs.Words.{arrivalWords, stateOf, wordsOf}
+
+-- f 0, f 1, ..: n of them
+abbrev listed : ℕ → (ℕ → ℕ) → List ℕ
+listed zero f = []
+listed (suc n) f = f 0 ∷ listed n (λ i. f (suc i))
+
+written-out : (n : ℕ) (w : List ℕ) → length w ≡ n → w ≡ listed n (λ i. getD w i 0)
+written-out zero [] h = refl
+written-out zero (x ∷ w) h = absurd (omega arith)
+written-out (suc n) [] h = absurd (omega arith)
+written-out (suc n) (x ∷ w) h = ap (λ (l : List ℕ). x ∷ l) (written-out n w (omega arith))
+
+-- the counts are the last five words
+pub count-word : (w : List ℕ) (v : Verdict) → getD (stateOf w .verdicts) (placeOf v) 0 ≡ getD w (15 + placeOf v) 0
+unfolding stateOf
+count-word w Enqueued = refl
+count-word w Marked = refl
+count-word w DroppedBytes = refl
+count-word w DroppedSlots = refl
+count-word w DroppedEarly = refl
+
+changed : (w : List ℕ) (clock size : ℕ) (v : Verdict) →
+    arrivalWords (listed 20 (λ i. getD w i 0)) (arrivedState (stateOf w) clock size v) v ≡ wordsOf (arrivedState (stateOf w) clock size v)
+unfolding stateOf wordsOf arrivedState raised
+changed w clock size Enqueued = refl
+changed w clock size Marked = refl
+changed w clock size DroppedBytes = refl
+changed w clock size DroppedSlots = refl
+changed w clock size DroppedEarly = refl
+
+-- the words that an arrival changes are all in which the new state's differ
+pub arrival-words : (w : List ℕ) → length w ≡ 20 → (clock size : ℕ) (v : Verdict) →
+    arrivalWords w (arrivedState (stateOf w) clock size v) v ≡ wordsOf (arrivedState (stateOf w) clock size v)
+arrival-words w h clock size v =
+    let s = arrivedState (stateOf w) clock size v in
+    ap (λ (l : List ℕ). arrivalWords l s v) (written-out 20 w h) ∙ changed w clock size v
+
+-- ── an arrival that was decided ──
+
+module _ (w handles sizes : List ℕ) (clock size : ℕ) (ecn : Bool) (u : ℕ) (v : Verdict) where
+  abbrev reply : Reply
+  reply = arrival (stateOf w) handles sizes clock size ecn u
+
+  -- its count can rise
+  pub count-lt : reply .answer ≡ verdict v → getD w (15 + placeOf v) 0 < limit
+  count-lt e =
+      let d = decided (stateOf w) handles sizes clock size ecn u v e in
+      let k = arrival-accepted (stateOf w) (length handles) (length sizes) clock size (d .0) in
+      omega (arith, k .total-low, count-le-total (stateOf w .verdicts) (placeOf v), count-word w v)
+
+  -- the words that it changes make the words of the state that it returns
+  pub words-of : length w ≡ 20 → reply .answer ≡ verdict v → (s : State) → reply .state ≡ s → arrivalWords w s v ≡ wordsOf s
+  words-of h e s f =
+      let d = decided (stateOf w) handles sizes clock size ecn u v e in
+      rw (← f, d .1) (arrival-words w h clock size v)
+
+-- ── words that are written one after the other ──
+
+pub flag-word : (t : Bool) → boolByte t ≡ cond t 1 0
+flag-word true = refl
+flag-word false = refl
+
+-- the counts stand past the other words that an arrival changes
+pub past-writes : (w : List ℕ) (a b c d at : ℕ) → 14 ≤ at → getD (set (set (set (set w 3 a) 9 b) 12 c) 13 d) at 0 ≡ getD w at 0
+past-writes w a b c d at h =
+    getD-set-other (set (set (set w 3 a) 9 b) 12 c) 13 at d 0 (λ e. omega arith)
+    ∙ getD-set-other (set (set w 3 a) 9 b) 12 at c 0 (λ e. omega arith)
+    ∙ getD-set-other (set w 3 a) 9 at b 0 (λ e. omega arith)
+    ∙ getD-set-other w 3 at a 0 (λ e. omega arith)
