@@ -41,7 +41,7 @@ pub const RUN_EVENTS: [&str; 1] = ["arrival after 1,000 ticks with an empty queu
 
 pub const SINGLE_EVENTS: [&str; 9] = [
     "allowance below 15,000 becomes 0",
-    "measuring other than 0 and 1 accepted",
+    "measuring other than 0 and 1 left as it is",
     "head of size 0 refused",
     "head above 65,535 refused",
     "head refused: bytes would be below 0",
@@ -107,7 +107,7 @@ pub fn found(before: &Side, call: &Call, after: &Side, hits: &mut Vec<(usize, us
     let fresh = matches!(call, Call::Fresh { .. });
     if accepted && !fresh {
         let odd = before.state.measuring > 1;
-        singles.push((odd && after.state.measuring == 1, 1));
+        singles.push((odd && after.state.measuring == before.state.measuring, 1));
         let small = before.state.allowance > 0 && before.state.allowance < 15_000;
         singles.push((small && after.state.allowance == 0, 0));
     }

@@ -193,10 +193,9 @@ fn lowest(applying: Refusals) -> Result<(), u32> {
     }
 }
 
-/// An accepted call sets the clock, and writes 1 if a measurement runs.
+/// An accepted call sets the clock. The word `measuring` changes only where a measurement starts or ends.
 fn accept(s: &mut State, clock: u64) {
     s.clock = clock;
-    s.measuring = u64::from(s.measuring != 0);
 }
 
 /// A fresh state, or the number of the refusal and an all-zero record.

@@ -22,7 +22,7 @@ pub refused : {r : Accepted} {s : State} {q : Reply} {x : Refusal} {n : ℕ} (a 
 refused a w e f h = rw (← e, f) (h, refl)
 
 pub accepted : {r : Accepted} {s : State} {q : Reply} (a : Answer) (w after : List ℕ) →
-    record { answer = answerOf r a; state = s } ≡ q → r ≡ Yes → codeOf a ≡ 0 → wordsFor a w (wordsOf s) ≡ wordsOf s → after ≡ wordsOf s → Given q 0 w after
+    record { answer = answerOf r a; state = s } ≡ q → r ≡ Yes → codeOf a ≡ 0 → wordsFor a w (wordsOf w s) ≡ wordsOf w s → after ≡ wordsOf w s → Given q 0 w after
 accepted a w after e f c k h = rw (← e, f, c, k) (refl, h)
 
 pub arrival-refused : {r : ArrivalAnswer} {s : State} {q : Reply} {x : Refusal} {n : ℕ} (w : List ℕ) →
@@ -30,5 +30,5 @@ pub arrival-refused : {r : ArrivalAnswer} {s : State} {q : Reply} {x : Refusal} 
 arrival-refused w e f h = rw (← e, f) (h, refl)
 
 pub arrival-decided : {r : ArrivalAnswer} {s : State} {q : Reply} {v : Verdict} {n : ℕ} (w after : List ℕ) →
-    record { answer = arrivalAnswer r; state = s } ≡ q → r ≡ Decided v → n ≡ placeOf v → after ≡ wordsOf s → Given q n w after
+    record { answer = arrivalAnswer r; state = s } ≡ q → r ≡ Decided v → n ≡ placeOf v → after ≡ wordsOf w s → Given q n w after
 arrival-decided w after e f h k = rw (← e, f) (h, k)

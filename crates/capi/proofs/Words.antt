@@ -1,12 +1,13 @@
 -- Twenty words, written out, and what an arrival makes of them.
 use mathlib.Core.Path.{_≡_, refl, ap, _∙_}
-use mathlib.Core.Bool.{Bool, true, false, cond}
+use mathlib.Core.Bool.{Bool, true, false, cond, not}
 use mathlib.Core.List.{List, [], _∷_}
 use Prim.Native.Nat.{ℕ, zero, suc, _+_, _≤_, _<_}
 use native.Mathlib.Omega.{arith}
 use lib.ListN.{getD, length, set}
 use lib.Seq.{getD-set-other}
-use mir.Val.{boolByte}
+use lib.Dec.{eqb}
+use borrow.Author.Tests.{eqb-true}
 use Rattle.pie.specs.Constants.{limit}
 use Rattle.pie.specs.Verdicts.{placeOf, raised}
 use Rattle.pie.proofs.Counts.{count-le-total}
@@ -17,7 +18,7 @@ use Rattle.queue.specs.Arrival.{arrival, arrivedState}
 use Rattle.queue.specs.declared.State.{State}
 use Rattle.queue.proofs.Replies.{decided}
 use Rattle.queue.proofs.WhenAccepted.{arrival-accepted}
-use Rattle.capi.specs.Words.{arrivalWords, stateOf, wordsOf}
+use Rattle.capi.specs.Words.{arrivalWords, flagWord, isSet, stateOf, wordsOf}
 
 -- f 0, f 1, ..: n of them
 abbrev listed : ℕ → (ℕ → ℕ) → List ℕ
@@ -39,18 +40,26 @@ count-word w DroppedBytes = refl
 count-word w DroppedSlots = refl
 count-word w DroppedEarly = refl
 
+-- a word that says what it said is left as it is
+flag-kept : (word : ℕ) → flagWord word (isSet word) ≡ word
+flag-kept word = go (eqb word 0) refl
+  where
+    go : (b : Bool) → eqb word 0 ≡ b → cond (not b) (cond (not b) word 0) (cond (not b) 1 0) ≡ word
+    go true e = omega (arith, eqb-true word 0 e)
+    go false e = refl
+
 changed : (w : List ℕ) (clock size : ℕ) (v : Verdict) →
-    arrivalWords (listed 20 (λ i. getD w i 0)) (arrivedState (stateOf w) clock size v) v ≡ wordsOf (arrivedState (stateOf w) clock size v)
+    arrivalWords (listed 20 (λ i. getD w i 0)) (arrivedState (stateOf w) clock size v) v ≡ wordsOf w (arrivedState (stateOf w) clock size v)
 unfolding stateOf wordsOf arrivedState raised
-changed w clock size Enqueued = refl
-changed w clock size Marked = refl
-changed w clock size DroppedBytes = refl
-changed w clock size DroppedSlots = refl
-changed w clock size DroppedEarly = refl
+changed w clock size Enqueued = rw (flag-kept (getD w 9 0))
+changed w clock size Marked = rw (flag-kept (getD w 9 0))
+changed w clock size DroppedBytes = rw (flag-kept (getD w 9 0))
+changed w clock size DroppedSlots = rw (flag-kept (getD w 9 0))
+changed w clock size DroppedEarly = rw (flag-kept (getD w 9 0))
 
 -- the words that an arrival changes are all in which the new state's differ
 pub arrival-words : (w : List ℕ) → length w ≡ 20 → (clock size : ℕ) (v : Verdict) →
-    arrivalWords w (arrivedState (stateOf w) clock size v) v ≡ wordsOf (arrivedState (stateOf w) clock size v)
+    arrivalWords w (arrivedState (stateOf w) clock size v) v ≡ wordsOf w (arrivedState (stateOf w) clock size v)
 arrival-words w h clock size v =
     let s = arrivedState (stateOf w) clock size v in
     ap (λ (l : List ℕ). arrivalWords l s v) (written-out 20 w h) ∙ changed w clock size v
@@ -69,21 +78,16 @@ module _ (w handles sizes : List ℕ) (clock size : ℕ) (ecn : Bool) (u : ℕ) 
       omega (arith, k .total-low, count-le-total (stateOf w .verdicts) (placeOf v), count-word w v)
 
   -- the words that it changes make the words of the state that it returns
-  pub words-of : length w ≡ 20 → reply .answer ≡ verdict v → (s : State) → reply .state ≡ s → arrivalWords w s v ≡ wordsOf s
+  pub words-of : length w ≡ 20 → reply .answer ≡ verdict v → (s : State) → reply .state ≡ s → arrivalWords w s v ≡ wordsOf w s
   words-of h e s f =
       let d = decided (stateOf w) handles sizes clock size ecn u v e in
       rw (← f, d .1) (arrival-words w h clock size v)
 
 -- ── words that are written one after the other ──
 
-pub flag-word : (t : Bool) → boolByte t ≡ cond t 1 0
-flag-word true = refl
-flag-word false = refl
-
 -- the counts stand past the other words that an arrival changes
-pub past-writes : (w : List ℕ) (a b c d at : ℕ) → 14 ≤ at → getD (set (set (set (set w 3 a) 9 b) 12 c) 13 d) at 0 ≡ getD w at 0
-past-writes w a b c d at h =
-    getD-set-other (set (set (set w 3 a) 9 b) 12 c) 13 at d 0 (λ e. omega arith)
-    ∙ getD-set-other (set (set w 3 a) 9 b) 12 at c 0 (λ e. omega arith)
-    ∙ getD-set-other (set w 3 a) 9 at b 0 (λ e. omega arith)
+pub past-writes : (w : List ℕ) (a b c at : ℕ) → 14 ≤ at → getD (set (set (set w 3 a) 12 b) 13 c) at 0 ≡ getD w at 0
+past-writes w a b c at h =
+    getD-set-other (set (set w 3 a) 12 b) 13 at c 0 (λ e. omega arith)
+    ∙ getD-set-other (set w 3 a) 12 at b 0 (λ e. omega arith)
     ∙ getD-set-other w 3 at a 0 (λ e. omega arith)

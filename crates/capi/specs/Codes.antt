@@ -22,7 +22,7 @@ wordsFor (departed handle size) words returned = returned
 wordsFor ticked words returned = returned
 
 abbrev pub wordsAfter : Reply → (words : List ℕ) → List ℕ
-wordsAfter r words = wordsFor (r .answer) words (wordsOf (r .state))
+wordsAfter r words = wordsFor (r .answer) words (wordsOf words (r .state))
 
 -- what a departure writes for its packet: handle and size, or 0 and 0
 abbrev pub packetOf : Answer → List ℕ

@@ -46,9 +46,13 @@ stateOf w =
       verdicts = getD w 15 0 ∷ getD w 16 0 ∷ getD w 17 0 ∷ getD w 18 0 ∷ getD w 19 0 ∷ [];
     }
 
--- the twenty words of a state
-unfoldable pub wordsOf : State → List ℕ
-wordsOf s =
+-- the word `measuring`: left as it is where it says so already, else 1 or 0
+abbrev pub flagWord : (word : ℕ) (runs : Bool) → ℕ
+flagWord word runs = cond (isSet word) (cond runs word 0) (cond runs 1 0)
+
+-- the twenty words of a state, written over these
+unfoldable pub wordsOf : (words : List ℕ) → State → List ℕ
+wordsOf w s =
     s .settings .target .0
     ∷ s .settings .buffer .0
     ∷ s .settings .slots
@@ -58,7 +62,7 @@ wordsOf s =
     ∷ s .pie .old .0
     ∷ s .pie .allowance .0
     ∷ s .pie .rate .average .0
-    ∷ cond (s .pie .rate .measuring) 1 0
+    ∷ flagWord (getD w 9 0) (s .pie .rate .measuring)
     ∷ s .pie .rate .start .0
     ∷ s .pie .rate .counted .0
     ∷ s .backlog .count
@@ -71,8 +75,8 @@ wordsOf s =
     ∷ getD (s .verdicts) 4 0
     ∷ []
 
--- the words that an arrival with this verdict changes: clock, count, bytes and the verdict's count; `measuring` becomes 0 or 1
+-- the words that an arrival with this verdict changes: clock, count, bytes and the verdict's count
 abbrev pub arrivalWords : (words : List ℕ) → State → Verdict → List ℕ
 arrivalWords w s v =
-    let next = set (set (set (set w 3 (s .clock .0)) 9 (cond (s .pie .rate .measuring) 1 0)) 12 (s .backlog .count)) 13 (s .backlog .bytes .0) in
+    let next = set (set (set w 3 (s .clock .0)) 12 (s .backlog .count)) 13 (s .backlog .bytes .0) in
     set next (15 + placeOf v) (getD next (15 + placeOf v) 0 + 1)

@@ -23,7 +23,7 @@ ghost use Rattle.queue.specs.Fresh.{fresh, settingsOf};
 ghost use Rattle.queue.specs.Arrival.{arrival, stored};
 ghost use Rattle.queue.specs.Departure.{departure};
 ghost use Rattle.queue.specs.Tick.{tick};
-ghost use Rattle.capi.specs.Words.{arrivalWords, stateOf, wordsOf};
+ghost use Rattle.capi.specs.Words.{arrivalWords, flagWord, stateOf, wordsOf};
 ghost use Rattle.capi.specs.Codes.{codeOf, packetOf, wordsAfter};
 
 // The state that the words hold, and that they are twenty.
@@ -63,16 +63,30 @@ fn decode(w: [u64; 20]) -> State
     }
 }
 
+// The word `measuring`, left as it is where it says so already.
+fn flag(word: u64, runs: bool) -> u64
+    ensures { λ r. ⌜ r ≡ flagWord word runs ⌝ }
+{
+    let set = word != 0;
+    if set {
+        if runs {
+            return word;
+        }
+        return 0;
+    }
+    runs as u64
+}
+
 // The words of a state.
 fn encode(w: &mut [u64; 20], s: State)
-    ensures { λ _. ⌜ now (w .exit) ≡ wordsOf s ⌝ }
+    ensures { λ _. ⌜ now (w .exit) ≡ wordsOf (now (w .entry)) s ⌝ }
 {
     let v0 = s.verdicts[0];
     let v1 = s.verdicts[1];
     let v2 = s.verdicts[2];
     let v3 = s.verdicts[3];
     let v4 = s.verdicts[4];
-    let runs = s.pie.rate.measuring as u64;
+    let runs = flag(w[9], s.pie.rate.measuring);
     *w = [
         s.settings.target.0,
         s.settings.buffer.0,
@@ -106,7 +120,6 @@ fn write_arrival(w: &mut [u64; 20], s: State, v: Verdict) -> u32
     let place = v.place();
     let at = 15 + place;
     w[3] = s.clock.0;
-    w[9] = s.pie.rate.measuring as u64;
     w[12] = s.backlog.count;
     w[13] = s.backlog.bytes.0;
     w[at] = w[at] + 1;
@@ -139,7 +152,7 @@ pub extern "C" fn obikuteru_fresh(
     clock: u64,
 ) -> u32
     ensures { λ r. ⌜ r ≡ codeOf (fresh (settingsOf target buffer slots) clock .answer) ⌝ }
-    ensures { λ _. ⌜ now (words .exit) ≡ wordsOf (fresh (settingsOf target buffer slots) clock .state) ⌝ }
+    ensures { λ _. ⌜ now (words .exit) ≡ wordsOf (now (words .entry)) (fresh (settingsOf target buffer slots) clock .state) ⌝ }
 {
     let r = State::fresh(Micros(target), Bytes(buffer), slots, Micros(clock));
     let state = r.state;

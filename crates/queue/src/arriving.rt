@@ -11,7 +11,8 @@ use units::Bytes;
 use units::Micros;
 ghost use mathlib.Core.Path.{_≡_};
 ghost use mathlib.Core.Bool.{cond, true};
-ghost use Prim.Native.Nat.{_-_, _≤_, _<_};
+ghost use Prim.Native.Nat.{_≤_, _<_};
+ghost use lib.Dec.{eqb};
 ghost use lib.ListN.{length, set};
 ghost use Rattle.pie.specs.Constants.{largest, limit};
 ghost use Rattle.pie.specs.Verdicts.{admitted, total};
@@ -19,17 +20,17 @@ ghost use Rattle.queue.specs.State.{wellFormed};
 ghost use Rattle.queue.specs.Answer.{arrivalReply, refusalIn};
 ghost use Rattle.queue.specs.Arrival.{arrival, arrivalRefusal, arrivedState, stored, tailPlace, verdictOf};
 
-// How many more arrivals the five counts can take.
-fn room(counts: [u64; 5]) -> u64
+// Whether the five counts, whose sum is in range, sum to 2^48.
+fn counts_full(counts: [u64; 5]) -> bool
     requires { ⌜ total counts ≤ limit ⌝ }
-    ensures { λ r. ⌜ r ≡ limit - total counts ⌝ }
+    ensures { λ r. ⌜ r ≡ eqb (total counts) limit ⌝ }
 {
     let a = counts[0];
     let b = counts[1];
     let c = counts[2];
     let d = counts[3];
     let e = counts[4];
-    LIMIT - a - b - c - d - e
+    e == LIMIT - a - b - c - d
 }
 
 impl State {
@@ -55,7 +56,7 @@ impl State {
             return Accepted::No(Refusal::Size);
         }
         let counts = self.verdicts;
-        let full = room(counts) == 0;
+        let full = counts_full(counts);
         if full {
             return Accepted::No(Refusal::Counts);
         }
@@ -116,7 +117,8 @@ impl State {
     {
         let admits = v.admits();
         if admits {
-            let at = ((self.first + self.backlog.count) % self.settings.slots) as usize;
+            let at = ((self.first + self.backlog.count) as u32
+                % self.settings.slots as u32) as usize;
             handles[at] = handle;
             sizes[at] = size;
         }

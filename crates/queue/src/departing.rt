@@ -76,7 +76,7 @@ impl State {
         let measured = before.rate;
         let rate = measured.depart(clock, size, backlog.bytes);
         let pie = Pie { rate, ..before };
-        let first = (self.first + 1) % self.settings.slots;
+        let first = ((self.first + 1) as u32 % self.settings.slots as u32) as u64;
         State {
             clock,
             pie,

@@ -1,4 +1,4 @@
-use Rattle.capi.proofs.Words.{flag-word}
+-- `encode`: each word is its field.
 use Rattle.capi.specs.Words.{wordsOf}
 use borrow.Author.Needs.{needs}
 use Rattle.capi.proofs.encode.Statement.{statement}
@@ -19,12 +19,15 @@ element-copy-out-v3 c = search needs
 element-copy-out-v4 : tie.Need-element-copy-out-v4
 element-copy-out-v4 c = search needs
 
-cast-runs : tie.Need-cast-runs
-cast-runs c = search needs
+element-copy-out-flag : tie.Need-element-copy-out-flag
+element-copy-out-flag c = search needs
+
+flag-requires : tie.Need-flag-requires
+flag-requires c κs = search needs
 
 returns : tie.Need-returns
 unfolding wordsOf
-returns c = rw (flag-word (c .before .before .before .before .before .before .args .t2 .pie .rate .measuring))
+returns c = rw (c .before .flag .ensures)
 
 pub encode-spec : {M : Type 1} → statement M
 encode-spec =
@@ -35,5 +38,6 @@ encode-spec =
     element-copy-out-v2
     element-copy-out-v3
     element-copy-out-v4
-    cast-runs
+    element-copy-out-flag
+    flag-requires
     returns)

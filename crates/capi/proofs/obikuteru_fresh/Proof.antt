@@ -1,7 +1,7 @@
 use mathlib.Core.Path.{refl}
+use mathlib.Core.List.{[]}
 use Rattle.queue.specs.Answer.{made}
 use Rattle.capi.proofs.Codes.{accepted, refused}
-use mathlib.Core.List.{[]}
 use borrow.Author.Needs.{needs}
 use Rattle.capi.proofs.obikuteru_fresh.Statement.{statement}
 use Rattle.capi.proofs.obikuteru_fresh.Tie as tie
@@ -24,7 +24,7 @@ refused-requires c κs = search needs
 returns : tie.Need-returns
 returns c =
     let t = c .before .before .before .before .before in
-    let g = accepted made [] _ (t .fresh .ensures) (c .enum-told .given .1) refl refl (c .before .before .encode .ensures) in
+    let g = accepted made _ _ (t .fresh .ensures) (c .enum-told .given .1) refl refl (c .before .before .encode .ensures) in
     (g .0, rw (← (t .fresh .ensures)) (c .before .before .encode .ensures))
 
 returns-2 : tie.Need-returns-2

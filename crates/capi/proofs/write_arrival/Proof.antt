@@ -1,7 +1,7 @@
--- `write_arrival`: five words are written, one after the other.
-use native.Mathlib.Omega.{arith}
+-- `write_arrival`: four words are written, one after the other.
 use Prim.Native.Nat.{_+_, _≤_}
-use Rattle.capi.proofs.Words.{flag-word, past-writes}
+use native.Mathlib.Omega.{arith}
+use Rattle.capi.proofs.Words.{past-writes}
 use borrow.Author.Needs.{needs}
 use Rattle.capi.proofs.write_arrival.Statement.{statement}
 use Rattle.capi.proofs.write_arrival.Tie as tie
@@ -15,17 +15,11 @@ add-at c = search needs
 element-write-w : tie.Need-element-write-w
 element-write-w c = search needs
 
-cast-w : tie.Need-cast-w
-cast-w c = search needs
-
 element-write-w-2 : tie.Need-element-write-w-2
 element-write-w-2 c = search needs
 
 element-write-w-3 : tie.Need-element-write-w-3
 element-write-w-3 c = search needs
-
-element-write-w-4 : tie.Need-element-write-w-4
-element-write-w-4 c = search needs
 
 mul-w : tie.Need-mul-w
 mul-w c = search needs
@@ -35,23 +29,22 @@ element-copy-out-w c = search needs
 
 add-w : tie.Need-add-w
 add-w c =
-    let a = c .before .before .before in
-    let p = c .before .before .place in
+    let a = c .before .before in
+    let p = c .before .place in
     let past : 14 ≤ 15 + p .result = omega arith in rw (past-writes, p .ensures .0) (omega (arith, a .pre))
 
 mul-w-2 : tie.Need-mul-w-2
 mul-w-2 c = search needs
 
-element-write-w-5 : tie.Need-element-write-w-5
-element-write-w-5 c = search needs
+element-write-w-4 : tie.Need-element-write-w-4
+element-write-w-4 c = search needs
 
 cast-result : tie.Need-cast-result
 cast-result c = search needs
 
 returns : tie.Need-returns
 returns c =
-    let p = c .before .before .place in
-    (p .ensures .0, simp (p .ensures .0, flag-word))
+    let p = c .before .place in (p .ensures .0, simp (p .ensures .0))
 
 pub write-arrival-spec : {M : Type 1} → statement M
 write-arrival-spec =
@@ -60,14 +53,12 @@ write-arrival-spec =
     place-requires
     add-at
     element-write-w
-    cast-w
     element-write-w-2
     element-write-w-3
-    element-write-w-4
     mul-w
     element-copy-out-w
     add-w
     mul-w-2
-    element-write-w-5
+    element-write-w-4
     cast-result
     returns)

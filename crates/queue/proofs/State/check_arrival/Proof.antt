@@ -1,14 +1,7 @@
 -- `State::check_arrival`: each test in turn is the definition's own.
 use borrow.Author.Needs.{needs}
-use borrow.Author.Tests.{eq-eqb, eqb-false, eqb-true, ne-eqb, not-false}
-use mathlib.Core.Path.{_≡_, refl, sym, _∙_}
-use mathlib.Core.Bool.{Bool, true, false}
-use mathlib.Core.Logic.{_≢_}
-use Prim.Native.Nat.{ℕ, _-_, _≤_}
-use native.Mathlib.Omega.{arith}
-use lib.Dec.{eqb}
-use Rattle.pie.specs.Constants.{limit}
-use Rattle.pie.specs.Verdicts.{total}
+use borrow.Author.Tests.{not-false}
+use mathlib.Core.Path.{sym, _∙_}
 use Rattle.queue.specs.Arrival.{arrivalRefusal}
 use Rattle.queue.proofs.Facts.{facts}
 use Rattle.queue.proofs.State.check_arrival.Statement.{statement}
@@ -39,29 +32,12 @@ returns-4 c =
     let e2 = e3 .before .before .before .before in
     let e1 = e2 .before in simp (← (e1 .before .well-formed .ensures), e1 .if1 .left, e2 .if2 .left, e3 .if3 .left, c .if4 .taken)
 
-abbrev at-start : tie.After-counts → tie.Start
-at-start c = c .before .before .before .before .before .before .before .before .before .before .before
-
-total-le : (c : tie.After-counts) → total (at-start c .args .self .verdicts) ≤ limit
-total-le c =
+counts-full-requires : tie.Need-counts-full-requires
+counts-full-requires c κs =
     let e3 = c .before .before .before .before in
     let e1 = e3 .before .before .before .before .before in
     let w = e1 .before in
     facts (w .before .args .self) (sym (w .well-formed .ensures) ∙ not-false _ (e1 .if1 .left)) .total-high
-
-room-requires : tie.Need-room-requires
-room-requires c κs = total-le c
-
--- no room is left exactly where the counts sum to 2^48
-no-room : (sum : ℕ) → sum ≤ limit → eqb (limit - sum) 0 ≡ eqb sum limit
-no-room sum h = go (eqb sum limit) refl
-  where
-    go : (b : Bool) → eqb sum limit ≡ b → eqb (limit - sum) 0 ≡ b
-    go true e = eq-eqb (limit - sum) 0 (omega (arith, eqb-true sum limit e))
-    go false e = let n : sum ≢ limit = eqb-false sum limit e in ne-eqb (limit - sum) 0 (omega arith)
-
-full : (c : tie.After-room) → eqb (c .room .result) 0 ≡ eqb (total (at-start (c .before) .args .self .verdicts)) limit
-full c = rw (c .room .ensures) (no-room _ (total-le (c .before)))
 
 returns-5 : tie.Need-returns-5
 unfolding arrivalRefusal
@@ -76,7 +52,7 @@ returns-5 c =
       e2 .if2 .left,
       e3 .if3 .left,
       e4 .if4 .left,
-      ← (full (c .before)),
+      ← (c .before .counts-full .ensures),
       c .if5 .taken,
     )
 
@@ -93,11 +69,11 @@ returns-6 c =
       e2 .if2 .left,
       e3 .if3 .left,
       e4 .if4 .left,
-      ← (full (c .before)),
+      ← (c .before .counts-full .ensures),
       c .if5 .left,
     )
 
 pub check-arrival-spec : {M : Type 1} → statement M
 check-arrival-spec =
     tie.close
-    (tie.spec well-formed-requires returns returns-2 returns-3 returns-4 room-requires returns-5 returns-6)
+    (tie.spec well-formed-requires returns returns-2 returns-3 returns-4 counts-full-requires returns-5 returns-6)

@@ -17,6 +17,16 @@ add-at c =
     let a = c .before .before .before .before .before in
     let f = facts (a .args .self) (a .pre .0) in omega arith
 
+cast-at : tie.Need-cast-at
+cast-at c =
+    let a = c .before .before .before .before .before in
+    let f = facts (a .args .self) (a .pre .0) in omega arith
+
+cast-at-2 : tie.Need-cast-at-2
+cast-at-2 c =
+    let a = c .before .before .before .before .before .before in
+    let f = facts (a .args .self) (a .pre .0) in omega arith
+
 rem-at : tie.Need-rem-at
 rem-at c =
     let a = c .before .before .before .before .before .before in
@@ -25,6 +35,10 @@ rem-at c =
 tail-lt : (a : tie.Start) → tailPlace (a .args .self) < a .args .self .settings .slots
 tail-lt a =
     let s = a .args .self in mod-lt (s .first + s .backlog .count) (facts s (a .pre .0) .slots-low)
+
+cast-at-3 : tie.Need-cast-at-3
+cast-at-3 c =
+    let a = c .before .before .before .before .before .before in omega (arith, tail-lt a, facts (a .args .self) (a .pre .0) .slots-high)
 
 mul-handles : tie.Need-mul-handles
 mul-handles c =
@@ -61,7 +75,10 @@ store-spec =
     (tie.spec
     admits-requires
     add-at
+    cast-at
+    cast-at-2
     rem-at
+    cast-at-3
     mul-handles
     slice-write-handles
     mul-sizes
