@@ -193,7 +193,7 @@ fn lowest(applying: Refusals) -> Result<(), u32> {
     }
 }
 
-/// An accepted call sets the clock. The word `measuring` changes only where a measurement starts or ends.
+/// An accepted call sets the clock. The word `measuring` stays as it is where it says so already.
 fn accept(s: &mut State, clock: u64) {
     s.clock = clock;
 }
@@ -270,6 +270,7 @@ pub fn departure(
 ) -> Result<(u32, u32), u32> {
     lowest(departure_refusals(s, handles.len(), sizes, clock))?;
     accept(s, clock);
+    let word = s.measuring;
     let head = s.first as usize;
     let size = u64::from(sizes[head]);
     s.first = (s.first + 1) % s.slots;
@@ -282,7 +283,7 @@ pub fn departure(
         }
     }
     if s.measuring == 0 && s.bytes >= RATE_THRESHOLD {
-        s.measuring = 1;
+        s.measuring = if word == 0 { 1 } else { word };
         s.start = clock;
         s.counted = 0;
     }
