@@ -1,0 +1,208 @@
+/* The rules of document 01 in plain C. Numbers in comments are the rules' and refusals' own. */
+#include "plain.h"
+
+#include <string.h>
+
+#define LIMIT (UINT64_C(1) << 48) /* latest clock, and most arrivals counted */
+#define WHOLE (UINT64_C(1) << 32) /* probability one */
+#define LONGEST 10000000u         /* longest delay and rate sample */
+#define PERIOD 15000u
+#define ALLOWANCE 150000u
+#define THRESHOLD 16384u /* bytes of one rate measurement */
+#define SMALL 3000u      /* bytes of a small queue */
+#define LARGEST 65535u   /* largest packet */
+
+static bool settings_in_range(uint32_t target, uint32_t buffer, uint32_t slots)
+{
+    return 1000 <= target && target <= 100000
+        && 1 <= buffer && buffer <= 16777216
+        && 1 <= slots && slots <= 65536;
+}
+
+static uint64_t arrivals_counted(const struct plain_state *s)
+{
+    const uint64_t *v = s->verdicts;
+    return v[0] + v[1] + v[2] + v[3] + v[4];
+}
+
+/* Each count is tested first, so that the sum does not wrap. */
+static bool counts_fit(const struct plain_state *s)
+{
+    const uint64_t *v = s->verdicts;
+    return v[0] <= LIMIT && v[1] <= LIMIT && v[2] <= LIMIT && v[3] <= LIMIT && v[4] <= LIMIT
+        && arrivals_counted(s) <= LIMIT;
+}
+
+static bool well_formed(const struct plain_state *s)
+{
+    return settings_in_range(s->target, s->buffer, s->slots)
+        && s->last <= s->clock && s->clock <= LIMIT
+        && s->probability <= WHOLE
+        && s->old_delay <= LONGEST
+        && s->allowance <= ALLOWANCE
+        && s->average <= LONGEST
+        && s->first < s->slots
+        && s->count <= s->slots
+        && s->count <= s->bytes && s->bytes <= LARGEST * s->count
+        && s->bytes <= s->buffer
+        && s->start <= s->clock
+        && s->counted < THRESHOLD
+        && (s->measuring || (s->start == 0 && s->counted == 0))
+        && counts_fit(s);
+}
+
+uint32_t plain_fresh(struct plain_state *s, uint32_t target, uint32_t buffer, uint32_t slots,
+                     uint64_t clock)
+{
+    memset(s, 0, sizeof *s);
+    if (!settings_in_range(target, buffer, slots) || LIMIT < clock)
+        return PLAIN_REFUSED_SETTINGS; /* 1 */
+    s->target = target;
+    s->buffer = buffer;
+    s->slots = slots;
+    s->clock = clock;
+    s->last = clock;
+    s->allowance = ALLOWANCE;
+    return PLAIN_ACCEPTED;
+}
+
+/* Rules 1 to 7 of an arrival. */
+static uint32_t decide(const struct plain_state *s, uint32_t size, bool ecn, uint32_t u)
+{
+    if (s->buffer < s->bytes + size) /* 1 */
+        return PLAIN_DROPPED_BYTES;
+    if (s->count == s->slots) /* 2 */
+        return PLAIN_DROPPED_SLOTS;
+    if (0 < s->allowance) /* 3 */
+        return PLAIN_ENQUEUED;
+    if (2 * s->old_delay < s->target && 5 * s->probability < WHOLE) /* 4 */
+        return PLAIN_ENQUEUED;
+    if (s->bytes <= SMALL) /* 5 */
+        return PLAIN_ENQUEUED;
+    if (u < s->probability) /* 6 */
+        return ecn ? PLAIN_MARKED : PLAIN_DROPPED_EARLY;
+    return PLAIN_ENQUEUED; /* 7 */
+}
+
+uint32_t plain_arrival(struct plain_state *s, uint32_t *handles, size_t handles_len,
+                       uint32_t *sizes, size_t sizes_len, uint64_t clock, uint32_t handle,
+                       uint32_t size, bool ecn, uint32_t u)
+{
+    if (!well_formed(s))
+        return PLAIN_REFUSED_STATE; /* 2 */
+    if (handles_len != s->slots || sizes_len != s->slots)
+        return PLAIN_REFUSED_TABLES; /* 3 */
+    if (clock < s->clock || LIMIT < clock)
+        return PLAIN_REFUSED_CLOCK; /* 4 */
+    if (size == 0 || LARGEST < size)
+        return PLAIN_REFUSED_SIZE; /* 7 */
+    if (arrivals_counted(s) == LIMIT)
+        return PLAIN_REFUSED_COUNTS; /* 8 */
+
+    uint32_t verdict = decide(s, size, ecn, u);
+    if (verdict == PLAIN_ENQUEUED || verdict == PLAIN_MARKED) {
+        uint32_t tail = (s->first + s->count) % s->slots;
+        handles[tail] = handle;
+        sizes[tail] = size;
+        s->count++;
+        s->bytes += size;
+    }
+    s->verdicts[verdict]++;
+    s->clock = clock;
+    return verdict;
+}
+
+/* The measurement has reached its threshold: take the sample into the average. */
+static void end_measurement(struct plain_state *s, uint64_t clock)
+{
+    uint64_t took = clock - s->start;
+    uint32_t sample = took < 1 ? 1 : LONGEST < took ? LONGEST : (uint32_t)took;
+    s->average = s->average == 0 ? sample : (sample + 3 * s->average) / 4;
+    s->measuring = false;
+    s->start = 0;
+    s->counted = 0;
+}
+
+uint32_t plain_departure(struct plain_state *s, const uint32_t *handles, size_t handles_len,
+                         const uint32_t *sizes, size_t sizes_len, uint64_t clock,
+                         struct plain_packet *packet)
+{
+    packet->handle = 0;
+    packet->size = 0;
+    if (!well_formed(s))
+        return PLAIN_REFUSED_STATE; /* 2 */
+    if (handles_len != s->slots || sizes_len != s->slots)
+        return PLAIN_REFUSED_TABLES; /* 3 */
+    if (clock < s->clock || LIMIT < clock)
+        return PLAIN_REFUSED_CLOCK; /* 4 */
+    if (s->count == 0)
+        return PLAIN_REFUSED_EMPTY; /* 6 */
+    uint32_t size = sizes[s->first];
+    if (size == 0 || LARGEST < size || s->bytes < size)
+        return PLAIN_REFUSED_HEAD; /* 9 */
+    uint32_t count = s->count - 1;
+    uint32_t bytes = s->bytes - size;
+    if (bytes < count || LARGEST * count < bytes)
+        return PLAIN_REFUSED_HEAD; /* 9 */
+
+    packet->handle = handles[s->first];
+    packet->size = size;
+    s->first = (s->first + 1) % s->slots;
+    s->count = count;
+    s->bytes = bytes;
+    s->clock = clock;
+    if (s->measuring) {
+        s->counted += size;
+        if (THRESHOLD <= s->counted)
+            end_measurement(s, clock);
+    }
+    if (!s->measuring && THRESHOLD <= bytes) {
+        s->measuring = true;
+        s->start = clock;
+    }
+    return PLAIN_ACCEPTED;
+}
+
+/* Rule 3 of a tick: k by the probability before it. */
+static uint32_t divisor(uint64_t p)
+{
+    return p <= 4294 ? 2048
+         : p <= 42949 ? 512
+         : p <= 429496 ? 128
+         : p <= 4294967 ? 32
+         : p <= 42949672 ? 8
+         : p <= 429496729 ? 2
+         : 1;
+}
+
+/* Rules 2 to 6 of a tick. */
+static uint64_t next_probability(uint64_t before, uint32_t delay, uint32_t old, uint32_t target)
+{
+    int64_t x = ((int64_t)delay - target) + 10 * ((int64_t)delay - old);                /* 2 */
+    int64_t p = (int64_t)before + x * 8388608 / (15625 * (int64_t)divisor(before));     /* 4 */
+    if (delay == 0 && old == 0 && 0 < p)
+        p -= p / 64; /* 5 */
+    return p < 0 ? 0 : (int64_t)WHOLE < p ? WHOLE : (uint64_t)p; /* 6 */
+}
+
+uint32_t plain_tick(struct plain_state *s, uint64_t clock)
+{
+    if (!well_formed(s))
+        return PLAIN_REFUSED_STATE; /* 2 */
+    if (clock < s->clock || LIMIT < clock)
+        return PLAIN_REFUSED_CLOCK; /* 4 */
+    if (clock < s->last + PERIOD)
+        return PLAIN_REFUSED_EARLY; /* 5 */
+
+    uint64_t product = (uint64_t)s->bytes * s->average / THRESHOLD;
+    uint32_t delay = LONGEST < product ? LONGEST : (uint32_t)product; /* 1 */
+    uint32_t old = s->old_delay;
+    s->probability = next_probability(s->probability, delay, old, s->target);
+    s->allowance = s->allowance < PERIOD ? 0 : s->allowance - PERIOD; /* 7 */
+    if (s->probability == 0 && 2 * delay < s->target && 2 * old < s->target)
+        s->allowance = ALLOWANCE; /* 8 */
+    s->old_delay = delay;         /* 9 */
+    s->last = clock;
+    s->clock = clock;
+    return PLAIN_ACCEPTED;
+}

@@ -1,0 +1,68 @@
+/*
+ * The rules of document 01 in plain C: what the library is measured against.
+ * State by pointer, tables by pointer and length, every refusal checked in the stated order.
+ */
+#ifndef PLAIN_H
+#define PLAIN_H
+
+#include <stdbool.h>
+#include <stddef.h>
+#include <stdint.h>
+
+/* Times in microseconds, sizes in bytes, probabilities in units of 1/2^32. */
+struct plain_state {
+    uint32_t target;
+    uint32_t buffer;
+    uint32_t slots;
+    uint32_t old_delay;
+    uint64_t clock;
+    uint64_t last; /* clock of the last tick */
+    uint64_t probability;
+    uint64_t start; /* clock at which the measurement started; 0 if none runs */
+    uint32_t allowance;
+    uint32_t average; /* time for 16,384 bytes to leave; 0: none yet */
+    uint32_t counted; /* bytes that left during the measurement; 0 if none runs */
+    bool measuring;
+    uint32_t first; /* place of the head */
+    uint32_t count;
+    uint32_t bytes;
+    uint64_t verdicts[5];
+};
+
+struct plain_packet {
+    uint32_t handle;
+    uint32_t size;
+};
+
+enum plain_answer {
+    PLAIN_ACCEPTED = 0,
+    PLAIN_ENQUEUED = 0,
+    PLAIN_MARKED = 1,
+    PLAIN_DROPPED_BYTES = 2,
+    PLAIN_DROPPED_SLOTS = 3,
+    PLAIN_DROPPED_EARLY = 4,
+    PLAIN_REFUSED_SETTINGS = 101,
+    PLAIN_REFUSED_STATE = 102,
+    PLAIN_REFUSED_TABLES = 103,
+    PLAIN_REFUSED_CLOCK = 104,
+    PLAIN_REFUSED_EARLY = 105,
+    PLAIN_REFUSED_EMPTY = 106,
+    PLAIN_REFUSED_SIZE = 107,
+    PLAIN_REFUSED_COUNTS = 108,
+    PLAIN_REFUSED_HEAD = 109
+};
+
+uint32_t plain_fresh(struct plain_state *s, uint32_t target, uint32_t buffer, uint32_t slots,
+                     uint64_t clock);
+
+uint32_t plain_arrival(struct plain_state *s, uint32_t *handles, size_t handles_len,
+                       uint32_t *sizes, size_t sizes_len, uint64_t clock, uint32_t handle,
+                       uint32_t size, bool ecn, uint32_t u);
+
+uint32_t plain_departure(struct plain_state *s, const uint32_t *handles, size_t handles_len,
+                         const uint32_t *sizes, size_t sizes_len, uint64_t clock,
+                         struct plain_packet *packet);
+
+uint32_t plain_tick(struct plain_state *s, uint64_t clock);
+
+#endif

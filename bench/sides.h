@@ -1,0 +1,111 @@
+/* The implementations on the bench: plain C first, since the others are measured against it. */
+#ifndef SIDES_H
+#define SIDES_H
+
+#include "events.h"
+#include "obikuteru.h"
+#include "plain.h"
+
+/* Situations are timed in blocks of this many, so that their states stay in the nearest cache. */
+#define BLOCK 64
+
+/* The tables that every call of a block is lent: an arrival only writes to them, and a departure
+ * only reads its head. */
+static uint32_t block_handles[EVENTS_SLOTS];
+static uint32_t block_sizes[EVENTS_SLOTS];
+
+struct side {
+    const char *name;
+    void (*fresh)(void);
+    uint64_t (*mix)(const struct event *, size_t);
+    struct plain_state (*record)(void);
+    void (*load)(const struct plain_state *);
+    struct plain_state (*loaded)(size_t);
+    uint64_t (*block[KINDS])(const struct event *);
+};
+
+/* The Rust twin, and plain C by clang: records and calls of the same form as plain C's. */
+#define DECLARE(prefix)                                                                           \
+    uint32_t prefix##_fresh(struct plain_state *, uint32_t, uint32_t, uint32_t, uint64_t);        \
+    uint32_t prefix##_arrival(struct plain_state *, uint32_t *, size_t, uint32_t *, size_t,       \
+                              uint64_t, uint32_t, uint32_t, bool, uint32_t);                      \
+    uint32_t prefix##_departure(struct plain_state *, const uint32_t *, size_t, const uint32_t *, \
+                                size_t, uint64_t, struct plain_packet *);                         \
+    uint32_t prefix##_tick(struct plain_state *, uint64_t);
+DECLARE(twin)
+DECLARE(clang)
+
+static struct obikuteru_state library_state(struct plain_state r)
+{
+    struct obikuteru_state s = {
+        r.target, r.buffer, r.slots, r.clock, r.last, r.probability, r.old_delay, r.allowance,
+        r.average, r.measuring, r.start, r.counted, r.count, r.bytes, r.first, {0}};
+    for (int i = 0; i < 5; i++)
+        s.verdicts[i] = r.verdicts[i];
+    return s;
+}
+
+static struct plain_state library_record(struct obikuteru_state s)
+{
+    struct plain_state r = {
+        .target = (uint32_t)s.target, .buffer = (uint32_t)s.buffer, .slots = (uint32_t)s.slots,
+        .old_delay = (uint32_t)s.old_delay, .clock = s.clock, .last = s.last,
+        .probability = s.probability, .start = s.start, .allowance = (uint32_t)s.allowance,
+        .average = (uint32_t)s.average, .counted = (uint32_t)s.counted,
+        .measuring = s.measuring != 0, .first = (uint32_t)s.first, .count = (uint32_t)s.count,
+        .bytes = (uint32_t)s.bytes};
+    for (int i = 0; i < 5; i++)
+        r.verdicts[i] = s.verdicts[i];
+    return r;
+}
+
+#define SIDE(name) on_plain_##name
+#define CALL(name) plain_##name
+#define STATE struct plain_state
+#define PACKET struct plain_packet
+#define READ(state) (state)
+#define WRITE(record) (record)
+#include "side.h"
+
+#define SIDE(name) on_library_##name
+#define CALL(name) obikuteru_##name
+#define STATE struct obikuteru_state
+#define PACKET struct obikuteru_packet
+#define READ(state) library_record(state)
+#define WRITE(record) library_state(record)
+#include "side.h"
+
+#define SIDE(name) on_rust_##name
+#define CALL(name) twin_##name
+#define STATE struct plain_state
+#define PACKET struct plain_packet
+#define READ(state) (state)
+#define WRITE(record) (record)
+#include "side.h"
+
+#ifdef WITH_CLANG
+#define SIDE(name) on_clang_##name
+#define CALL(name) clang_##name
+#define STATE struct plain_state
+#define PACKET struct plain_packet
+#define READ(state) (state)
+#define WRITE(record) (record)
+#include "side.h"
+#endif
+
+#define ENTRIES(side)                                                                             \
+    {#side, on_##side##_fresh, on_##side##_mix, on_##side##_record, on_##side##_load,             \
+     on_##side##_loaded, {on_##side##_arrivals, on_##side##_departures, on_##side##_ticks}}
+
+static const struct side sides[] = {
+    ENTRIES(plain),
+    ENTRIES(library),
+    ENTRIES(rust),
+#ifdef WITH_CLANG
+    ENTRIES(clang),
+#endif
+};
+
+#define SIDES (sizeof sides / sizeof *sides)
+
+#endif

@@ -1,0 +1,365 @@
+//! The rules of document 01 in idiomatic Rust, for comparison with the library and plain C.
+//! Numbers in comments are the rules' and refusals' own.
+
+use std::slice;
+
+const LIMIT: u64 = 1 << 48; // latest clock, and most arrivals counted
+const WHOLE: u64 = 1 << 32; // probability one
+const LONGEST: u32 = 10_000_000; // longest delay and rate sample
+const PERIOD: u32 = 15_000;
+const ALLOWANCE: u32 = 150_000;
+const THRESHOLD: u32 = 16_384; // bytes of one rate measurement
+const SMALL: u32 = 3_000; // bytes of a small queue
+const LARGEST: u32 = 65_535; // largest packet
+
+/// The fields of `struct plain_state`, in its layout, so that one record serves both.
+#[repr(C)]
+#[derive(Default)]
+pub struct State {
+    target: u32,
+    buffer: u32,
+    slots: u32,
+    old_delay: u32,
+    clock: u64,
+    last: u64,
+    probability: u64,
+    start: u64,
+    allowance: u32,
+    average: u32,
+    counted: u32,
+    measuring: bool,
+    first: u32,
+    count: u32,
+    bytes: u32,
+    verdicts: [u64; 5],
+}
+
+#[repr(C)]
+#[derive(Default)]
+pub struct Packet {
+    handle: u32,
+    size: u32,
+}
+
+#[derive(Clone, Copy)]
+pub enum Verdict {
+    Enqueued,
+    Marked,
+    DroppedBytes,
+    DroppedSlots,
+    DroppedEarly,
+}
+
+#[derive(Clone, Copy)]
+pub enum Refusal {
+    Settings = 1,
+    State = 2,
+    Tables = 3,
+    Clock = 4,
+    Early = 5,
+    Empty = 6,
+    Size = 7,
+    Counts = 8,
+    Head = 9,
+}
+
+fn settings_in_range(target: u32, buffer: u32, slots: u32) -> bool {
+    (1_000..=100_000).contains(&target)
+        && (1..=16_777_216).contains(&buffer)
+        && (1..=65_536).contains(&slots)
+}
+
+/// Rule 3 of a tick: k by the probability before it.
+fn divisor(p: u64) -> i64 {
+    match p {
+        0..=4_294 => 2_048,
+        4_295..=42_949 => 512,
+        42_950..=429_496 => 128,
+        429_497..=4_294_967 => 32,
+        4_294_968..=42_949_672 => 8,
+        42_949_673..=429_496_729 => 2,
+        _ => 1,
+    }
+}
+
+/// Rules 2 to 6 of a tick.
+fn next_probability(before: u64, delay: u32, old: u32, target: u32) -> u64 {
+    let delayed = i64::from(delay);
+    let x = (delayed - i64::from(target)) + 10 * (delayed - i64::from(old)); // 2
+    let mut p = before as i64 + x * 8_388_608 / (15_625 * divisor(before)); // 4
+    if delay == 0 && old == 0 && p > 0 {
+        p -= p / 64; // 5
+    }
+    p.clamp(0, WHOLE as i64) as u64 // 6
+}
+
+impl State {
+    fn fresh(target: u32, buffer: u32, slots: u32, clock: u64) -> Result<State, Refusal> {
+        if !settings_in_range(target, buffer, slots) || clock > LIMIT {
+            return Err(Refusal::Settings);
+        }
+        Ok(State {
+            target,
+            buffer,
+            slots,
+            clock,
+            last: clock,
+            allowance: ALLOWANCE,
+            ..State::default()
+        })
+    }
+
+    fn arrivals_counted(&self) -> u64 {
+        self.verdicts.iter().sum()
+    }
+
+    /// Each count is tested first, so that the sum does not wrap.
+    fn counts_fit(&self) -> bool {
+        self.verdicts.iter().all(|&n| n <= LIMIT) && self.arrivals_counted() <= LIMIT
+    }
+
+    fn well_formed(&self) -> bool {
+        settings_in_range(self.target, self.buffer, self.slots)
+            && self.last <= self.clock
+            && self.clock <= LIMIT
+            && self.probability <= WHOLE
+            && self.old_delay <= LONGEST
+            && self.allowance <= ALLOWANCE
+            && self.average <= LONGEST
+            && self.first < self.slots
+            && self.count <= self.slots
+            && self.count <= self.bytes
+            && self.bytes <= LARGEST * self.count
+            && self.bytes <= self.buffer
+            && self.start <= self.clock
+            && self.counted < THRESHOLD
+            && (self.measuring || (self.start == 0 && self.counted == 0))
+            && self.counts_fit()
+    }
+
+    /// Refusals 2 and 4.
+    fn check(&self, clock: u64) -> Result<(), Refusal> {
+        if !self.well_formed() {
+            return Err(Refusal::State);
+        }
+        if clock < self.clock || clock > LIMIT {
+            return Err(Refusal::Clock);
+        }
+        Ok(())
+    }
+
+    /// Refusals 2, 3 and 4.
+    fn check_tables(&self, handles: &[u32], sizes: &[u32], clock: u64) -> Result<(), Refusal> {
+        if !self.well_formed() {
+            return Err(Refusal::State);
+        }
+        let slots = self.slots as usize;
+        if handles.len() != slots || sizes.len() != slots {
+            return Err(Refusal::Tables);
+        }
+        if clock < self.clock || clock > LIMIT {
+            return Err(Refusal::Clock);
+        }
+        Ok(())
+    }
+
+    /// Rules 1 to 7 of an arrival.
+    fn decide(&self, size: u32, ecn: bool, u: u32) -> Verdict {
+        if self.bytes + size > self.buffer {
+            Verdict::DroppedBytes // 1
+        } else if self.count == self.slots {
+            Verdict::DroppedSlots // 2
+        } else if self.allowance > 0 // 3
+            || (2 * self.old_delay < self.target && 5 * self.probability < WHOLE) // 4
+            || self.bytes <= SMALL // 5
+            || u64::from(u) >= self.probability
+        {
+            Verdict::Enqueued // 7
+        } else if ecn {
+            Verdict::Marked // 6
+        } else {
+            Verdict::DroppedEarly // 6
+        }
+    }
+
+    #[allow(clippy::too_many_arguments)]
+    fn arrival(
+        &mut self,
+        handles: &mut [u32],
+        sizes: &mut [u32],
+        clock: u64,
+        handle: u32,
+        size: u32,
+        ecn: bool,
+        u: u32,
+    ) -> Result<Verdict, Refusal> {
+        self.check_tables(handles, sizes, clock)?;
+        if size == 0 || size > LARGEST {
+            return Err(Refusal::Size);
+        }
+        if self.arrivals_counted() == LIMIT {
+            return Err(Refusal::Counts);
+        }
+        let verdict = self.decide(size, ecn, u);
+        if matches!(verdict, Verdict::Enqueued | Verdict::Marked) {
+            let tail = ((self.first + self.count) % self.slots) as usize;
+            handles[tail] = handle;
+            sizes[tail] = size;
+            self.count += 1;
+            self.bytes += size;
+        }
+        self.verdicts[verdict as usize] += 1;
+        self.clock = clock;
+        Ok(verdict)
+    }
+
+    /// Whether the head may have this size: refusal 9 otherwise.
+    fn head_fits(&self, size: u32) -> bool {
+        if size == 0 || size > LARGEST || size > self.bytes {
+            return false;
+        }
+        let (count, bytes) = (self.count - 1, self.bytes - size);
+        count <= bytes && bytes <= LARGEST * count
+    }
+
+    fn departure(&mut self, handles: &[u32], sizes: &[u32], clock: u64) -> Result<Packet, Refusal> {
+        self.check_tables(handles, sizes, clock)?;
+        if self.count == 0 {
+            return Err(Refusal::Empty);
+        }
+        let head = self.first as usize;
+        let (handle, size) = (handles[head], sizes[head]);
+        if !self.head_fits(size) {
+            return Err(Refusal::Head);
+        }
+        self.first = (self.first + 1) % self.slots;
+        self.count -= 1;
+        self.bytes -= size;
+        self.clock = clock;
+        self.measure(size);
+        Ok(Packet { handle, size })
+    }
+
+    /// The departure rate after a packet of this size has left.
+    fn measure(&mut self, size: u32) {
+        if self.measuring {
+            self.counted += size;
+            if self.counted >= THRESHOLD {
+                let sample = (self.clock - self.start).clamp(1, u64::from(LONGEST)) as u32;
+                self.average = match self.average {
+                    0 => sample,
+                    average => (sample + 3 * average) / 4,
+                };
+                self.measuring = false;
+                self.start = 0;
+                self.counted = 0;
+            }
+        }
+        if !self.measuring && self.bytes >= THRESHOLD {
+            self.measuring = true;
+            self.start = self.clock;
+        }
+    }
+
+    fn tick(&mut self, clock: u64) -> Result<(), Refusal> {
+        self.check(clock)?;
+        if clock < self.last + u64::from(PERIOD) {
+            return Err(Refusal::Early);
+        }
+        let product = u64::from(self.bytes) * u64::from(self.average) / u64::from(THRESHOLD);
+        let delay = product.min(u64::from(LONGEST)) as u32; // 1
+        let old = self.old_delay;
+        self.probability = next_probability(self.probability, delay, old, self.target);
+        self.allowance = self.allowance.saturating_sub(PERIOD); // 7
+        if self.probability == 0 && 2 * delay < self.target && 2 * old < self.target {
+            self.allowance = ALLOWANCE; // 8
+        }
+        self.old_delay = delay; // 9
+        self.last = clock;
+        self.clock = clock;
+        Ok(())
+    }
+}
+
+// The four calls for C: pointers and lengths become slices, and answers the header's numbers.
+
+fn refused(refusal: Refusal) -> u32 {
+    100 + refusal as u32
+}
+
+#[no_mangle]
+pub extern "C" fn twin_fresh(
+    state: &mut State,
+    target: u32,
+    buffer: u32,
+    slots: u32,
+    clock: u64,
+) -> u32 {
+    match State::fresh(target, buffer, slots, clock) {
+        Ok(fresh) => {
+            *state = fresh;
+            0
+        }
+        Err(refusal) => {
+            *state = State::default();
+            refused(refusal)
+        }
+    }
+}
+
+/// # Safety
+/// The tables are of these lengths and apart from each other and from the state.
+#[no_mangle]
+pub unsafe extern "C" fn twin_arrival(
+    state: &mut State,
+    handles: *mut u32,
+    handles_len: usize,
+    sizes: *mut u32,
+    sizes_len: usize,
+    clock: u64,
+    handle: u32,
+    size: u32,
+    ecn: bool,
+    u: u32,
+) -> u32 {
+    let handles = slice::from_raw_parts_mut(handles, handles_len);
+    let sizes = slice::from_raw_parts_mut(sizes, sizes_len);
+    match state.arrival(handles, sizes, clock, handle, size, ecn, u) {
+        Ok(verdict) => verdict as u32,
+        Err(refusal) => refused(refusal),
+    }
+}
+
+/// # Safety
+/// The tables are of these lengths.
+#[no_mangle]
+pub unsafe extern "C" fn twin_departure(
+    state: &mut State,
+    handles: *const u32,
+    handles_len: usize,
+    sizes: *const u32,
+    sizes_len: usize,
+    clock: u64,
+    packet: &mut Packet,
+) -> u32 {
+    let handles = slice::from_raw_parts(handles, handles_len);
+    let sizes = slice::from_raw_parts(sizes, sizes_len);
+    match state.departure(handles, sizes, clock) {
+        Ok(head) => {
+            *packet = head;
+            0
+        }
+        Err(refusal) => {
+            *packet = Packet::default();
+            refused(refusal)
+        }
+    }
+}
+
+#[no_mangle]
+pub extern "C" fn twin_tick(state: &mut State, clock: u64) -> u32 {
+    match state.tick(clock) {
+        Ok(()) => 0,
+        Err(refusal) => refused(refusal),
+    }
+}
