@@ -14,16 +14,17 @@ use Rattle.queue.specs.Answer.{Answer, Reply, admits, unlessRefused, ver
 use Rattle.queue.specs.Refusals.{clockRefused, countsRefused, firstRefusal, sizeRefused, stateRefused, tablesRefused}
 use Rattle.queue.specs.declared.State.{State}
 
-unfoldable pub arrivalRefusal : State → (handlesLength sizesLength clock size : ℕ) → ℕ
-arrivalRefusal s handlesLength sizesLength clock size =
-    firstRefusal (
+abbrev pub arrivalRefusals : State → (handlesLength sizesLength clock size : ℕ) → List (ℕ × Bool)
+arrivalRefusals s handlesLength sizesLength clock size =
     (2, stateRefused s)
     ∷ (3, tablesRefused s handlesLength sizesLength)
     ∷ (4, clockRefused s clock)
     ∷ (7, sizeRefused size)
     ∷ (8, countsRefused s)
     ∷ []
-    )
+
+unfoldable pub arrivalRefusal : State → (handlesLength sizesLength clock size : ℕ) → ℕ
+arrivalRefusal s handlesLength sizesLength clock size = firstRefusal (arrivalRefusals s handlesLength sizesLength clock size)
 
 -- rule 1
 abbrev pub bytesFull : State → (size : ℕ) → Bool

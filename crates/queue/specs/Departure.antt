@@ -1,4 +1,5 @@
 -- A departure (document 01, 'Departure'). It writes to neither table.
+use mathlib.Core.Bool.{Bool}
 use mathlib.Core.List.{List, [], _∷_}
 use Prim.Native.Nat.{ℕ, _+_, _-_, _%_}
 use lib.ListN.{getD, length}
@@ -14,16 +15,17 @@ use Rattle.queue.specs.declared.State.{State}
 abbrev pub headOf : State → (table : List ℕ) → ℕ
 headOf s table = getD table (s .first) 0
 
-unfoldable pub departureRefusal : State → (handlesLength sizesLength clock headSize : ℕ) → ℕ
-departureRefusal s handlesLength sizesLength clock headSize =
-    firstRefusal (
+abbrev pub departureRefusals : State → (handlesLength sizesLength clock headSize : ℕ) → List (ℕ × Bool)
+departureRefusals s handlesLength sizesLength clock headSize =
     (2, stateRefused s)
     ∷ (3, tablesRefused s handlesLength sizesLength)
     ∷ (4, clockRefused s clock)
     ∷ (6, emptyRefused s)
     ∷ (9, headRefused (s .backlog) headSize)
     ∷ []
-    )
+
+unfoldable pub departureRefusal : State → (handlesLength sizesLength clock headSize : ℕ) → ℕ
+departureRefusal s handlesLength sizesLength clock headSize = firstRefusal (departureRefusals s handlesLength sizesLength clock headSize)
 
 -- the departure rate moves on; probability, old delay and allowance stay
 abbrev pub departedPie : Pie → (clock size bytesLeft : ℕ) → Pie

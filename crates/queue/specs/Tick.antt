@@ -1,4 +1,5 @@
 -- A tick (document 01, 'Tick').
+use mathlib.Core.Bool.{Bool}
 use mathlib.Core.List.{List, [], _∷_}
 use Prim.Native.Nat.{ℕ}
 use Rattle.units.specs.Kinds.{micros}
@@ -7,14 +8,15 @@ use Rattle.queue.specs.Answer.{Reply, ticked, unlessRefused}
 use Rattle.queue.specs.Refusals.{clockRefused, earlyRefused, firstRefusal, stateRefused}
 use Rattle.queue.specs.declared.State.{State}
 
-unfoldable pub tickRefusal : State → (clock : ℕ) → ℕ
-tickRefusal s clock =
-    firstRefusal (
+abbrev pub tickRefusals : State → (clock : ℕ) → List (ℕ × Bool)
+tickRefusals s clock =
     (2, stateRefused s)
     ∷ (4, clockRefused s clock)
     ∷ (5, earlyRefused s clock)
     ∷ []
-    )
+
+unfoldable pub tickRefusal : State → (clock : ℕ) → ℕ
+tickRefusal s clock = firstRefusal (tickRefusals s clock)
 
 -- rules 1 to 9
 unfoldable pub tickedState : State → (clock : ℕ) → State

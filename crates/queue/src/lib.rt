@@ -5,11 +5,6 @@ use pie::Verdict;
 use units::Bytes;
 use units::Micros;
 
-mod arriving;
-mod departing;
-mod fresh;
-mod ticking;
-mod well_formed;
 
 pub struct Settings {
     pub target: Micros,

@@ -1,0 +1,47 @@
+-- A list of calls, and its trace: each call is given the state that the last one returned.
+use mathlib.Core.Path.{_≡_}
+use mathlib.Core.Bool.{Bool, cond}
+use mathlib.Core.List.{List, [], _∷_}
+use Prim.Native.Nat.{ℕ, _<_}
+use Rattle.pie.specs.declared.Verdict.{Verdict}
+use Rattle.pie.specs.declared.Verdict.the-variants.{Enqueued, DroppedBytes, DroppedSlots}
+use Rattle.queue.specs.declared.State.{State}
+use Rattle.queue.specs.Answer.{Answer, Reply, verdict}
+use Rattle.queue.specs.Arrival.{arrival, bytesFull, slotsFull}
+use Rattle.queue.specs.Departure.{departure}
+use Rattle.queue.specs.Tick.{tick}
+
+-- a call with its arguments, and the contents of the tables that are lent to it
+pub data Call : Type 0 where
+  arrive : (handles sizes : List ℕ) (clock handle size : ℕ) (ecn : Bool) (u : ℕ) → Call
+  depart : (handles sizes : List ℕ) (clock : ℕ) → Call
+  update : (clock : ℕ) → Call
+
+abbrev pub reply : State → Call → Reply
+reply s (arrive handles sizes clock handle size ecn u) = arrival s handles sizes clock size ecn u
+reply s (depart handles sizes clock) = departure s handles sizes clock
+reply s (update clock) = tick s clock
+
+-- one call of a list, the state that it was given, its answer, and the state that it returned
+pub record Entry : Type 0 where
+  pub call : Call
+  pub given : State
+  pub answer : Answer
+  pub returned : State
+
+abbrev pub entry : State → Call → Entry
+entry s c = record { call = c; given = s; answer = (reply s c) .answer; returned = (reply s c) .state }
+
+abbrev pub trace : State → List Call → List Entry
+trace s [] = []
+trace s (c ∷ cs) = entry s c ∷ trace ((reply s c) .state) cs
+
+-- the verdict by rules 1 and 2, and enqueued where neither holds
+abbrev pub limitsVerdict : State → (size : ℕ) → Verdict
+limitsVerdict s size = cond (bytesFull s size) DroppedBytes (cond (slotsFull s) DroppedSlots Enqueued)
+
+-- if the entry is an accepted arrival with a clock below `end`, rules 1 and 2 alone decide
+abbrev pub ByLimitsBefore : (end : ℕ) → Entry → Type 0
+ByLimitsBefore end e =
+    (handles sizes : List ℕ) (clock handle size : ℕ) (ecn : Bool) (u : ℕ) (v : Verdict) →
+    e .call ≡ arrive handles sizes clock handle size ecn u → e .answer ≡ verdict v → clock < end → v ≡ limitsVerdict (e .given) size
