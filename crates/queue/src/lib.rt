@@ -5,7 +5,6 @@ use pie::Verdict;
 use units::Bytes;
 use units::Micros;
 
-
 pub struct Settings {
     pub target: Micros,
     pub buffer: Bytes,

@@ -45,11 +45,12 @@ loop-less c = omega arith
 -- src/lib.rt:14:5
 loop-again : tie.Need-loop-again Inv-loop μ-loop
 loop-again c = (
-      omega arith,
-      simp length-set (omega arith),
-      let l = c .before .before .loop in
+  omega arith,
+  simp length-set (omega arith),
+  let l = c .before .before .loop in
       let a = c .before .before .before .args in
-      put-one (l .out) (a .out .now) (a .text .now) (a .at) (l .i) (omega arith) (omega arith) (l .inv .2))
+      put-one (l .out) (a .out .now) (a .text .now) (a .at) (l .i) (omega arith) (omega arith) (l .inv .2),
+)
 
 -- src/lib.rt:18:5
 add-result : tie.Need-add-result Inv-loop μ-loop

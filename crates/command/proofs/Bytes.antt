@@ -1,0 +1,48 @@
+-- What a byte's tests say of it.
+use mathlib.Core.Path.{_≡_, refl}
+use mathlib.Core.Bool.{Bool, true, false, _&&_}
+use Prim.Native.Nat.{ℕ, _≤_}
+use native.Mathlib.Omega.{arith}
+use borrow.Author.Tests.{leb-true, ne-eqb}
+use lib.Dec.{eqb, leb}
+use Rattle.decimal.specs.Digits.{isDigit}
+use Rattle.command.specs.Forms.{word}
+use Rattle.command.specs.declared.Reader.{Reader}
+
+pub and-left : (a b : Bool) → a && b ≡ true → a ≡ true
+and-left true b e = refl
+and-left false b e = e
+
+pub and-right : (a b : Bool) → a && b ≡ true → b ≡ true
+and-right true b e = e
+and-right false true e = refl
+and-right false false e = e
+
+pub digit-low : (byte : ℕ) → isDigit byte ≡ true → 48 ≤ byte
+digit-low byte e = leb-true 48 byte (and-left (leb 48 byte) (leb byte 57) e)
+
+pub digit-no-space : (byte : ℕ) → isDigit byte ≡ true → eqb byte 32 ≡ false
+digit-no-space byte e = let h = digit-low byte e in ne-eqb byte 32 (omega arith)
+
+-- the fields that passed their tests
+abbrev pub configureTests : Reader → Bool
+configureTests r = leb (r .third) word && leb (r .fourth) word && leb (r .value) 4096
+
+pub configure-fits : (r : Reader) → configureTests r ≡ true → (r .third ≤ word) × (r .fourth ≤ word) × (r .value ≤ 4096)
+configure-fits r e =
+    let one = leb (r .third) word in
+    let two = leb (r .fourth) word in
+    let both = and-left (one && two) (leb (r .value) 4096) e in
+    (leb-true _ _ (and-left one two both), leb-true _ _ (and-right one two both), leb-true _ _ (and-right (one && two) (leb (r .value) 4096) e))
+
+abbrev pub arrivalTests : Reader → Bool
+arrivalTests r = leb (r .second) word && leb (r .third) word && leb (r .fourth) 1 && leb (r .value) word
+
+pub arrival-fits : (r : Reader) → arrivalTests r ≡ true → (r .second ≤ word) × (r .third ≤ word) × (r .value ≤ word)
+arrival-fits r e =
+    let one = leb (r .second) word in
+    let two = leb (r .third) word in
+    let ecn = leb (r .fourth) 1 in
+    let three = and-left (one && two && ecn) (leb (r .value) word) e in
+    let both = and-left (one && two) ecn three in
+    (leb-true _ _ (and-left one two both), leb-true _ _ (and-right one two both), leb-true _ _ (and-right (one && two && ecn) (leb (r .value) word) e))

@@ -1,0 +1,4 @@
+pub mod Bytes
+pub mod Counts
+pub mod NoForm
+pub mod Reading

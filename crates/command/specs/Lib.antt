@@ -1,0 +1,6 @@
+-- A line of a script: which command it is (document 01, 'A script program').
+pub mod Words
+pub mod Forms
+pub mod Line
+pub mod Reader
+pub mod Incremental
