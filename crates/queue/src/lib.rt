@@ -5,6 +5,12 @@ use pie::Verdict;
 use units::Bytes;
 use units::Micros;
 
+mod arriving;
+mod departing;
+mod fresh;
+mod ticking;
+mod well_formed;
+
 pub struct Settings {
     pub target: Micros,
     pub buffer: Bytes,

@@ -1,0 +1,34 @@
+-- The number and the words that an entry gives, by what the queue's function answered.
+use mathlib.Core.Path.{_≡_, refl, sym}
+use mathlib.Core.List.{List}
+use Prim.Native.Nat.{ℕ, _+_}
+use Rattle.pie.specs.declared.Verdict.{Verdict}
+use Rattle.pie.specs.Verdicts.{placeOf}
+use Rattle.queue.specs.declared.Accepted.{Accepted}
+use Rattle.queue.specs.declared.Accepted.the-variants.{Yes, No}
+use Rattle.queue.specs.declared.ArrivalAnswer.{ArrivalAnswer}
+use Rattle.queue.specs.declared.ArrivalAnswer.the-variants.{Decided, Refused}
+use Rattle.queue.specs.declared.Refusal.{Refusal}
+use Rattle.queue.specs.declared.State.{State}
+use Rattle.queue.specs.Answer.{Answer, Reply, answerOf, arrivalAnswer, numberOf}
+use Rattle.capi.specs.Codes.{codeOf, wordsAfter, wordsFor}
+use Rattle.capi.specs.Words.{wordsOf}
+
+abbrev Given : Reply → (code : ℕ) (before after : List ℕ) → Type 0
+Given q n before after = (n ≡ codeOf (q .answer)) × (after ≡ wordsAfter q before)
+
+pub refused : {r : Accepted} {s : State} {q : Reply} {x : Refusal} {n : ℕ} (a : Answer) (w : List ℕ) →
+    record { answer = answerOf r a; state = s } ≡ q → r ≡ No x → n ≡ 100 + numberOf x → Given q n w w
+refused a w e f h = rw (← e, f) (h, refl)
+
+pub accepted : {r : Accepted} {s : State} {q : Reply} (a : Answer) (w after : List ℕ) →
+    record { answer = answerOf r a; state = s } ≡ q → r ≡ Yes → codeOf a ≡ 0 → wordsFor a w (wordsOf s) ≡ wordsOf s → after ≡ wordsOf s → Given q 0 w after
+accepted a w after e f c k h = rw (← e, f, c, k) (refl, h)
+
+pub arrival-refused : {r : ArrivalAnswer} {s : State} {q : Reply} {x : Refusal} {n : ℕ} (w : List ℕ) →
+    record { answer = arrivalAnswer r; state = s } ≡ q → r ≡ Refused x → n ≡ 100 + numberOf x → Given q n w w
+arrival-refused w e f h = rw (← e, f) (h, refl)
+
+pub arrival-decided : {r : ArrivalAnswer} {s : State} {q : Reply} {v : Verdict} {n : ℕ} (w after : List ℕ) →
+    record { answer = arrivalAnswer r; state = s } ≡ q → r ≡ Decided v → n ≡ placeOf v → after ≡ wordsOf s → Given q n w after
+arrival-decided w after e f h k = rw (← e, f) (h, k)

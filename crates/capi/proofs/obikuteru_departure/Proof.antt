@@ -1,0 +1,51 @@
+use mathlib.Core.Path.{refl}
+use Rattle.queue.specs.Answer.{departed}
+use Rattle.capi.proofs.Codes.{accepted, refused}
+use borrow.Author.Needs.{needs}
+use Rattle.capi.proofs.obikuteru_departure.Statement.{statement}
+use Rattle.capi.proofs.obikuteru_departure.Tie as tie
+
+decode-requires : tie.Need-decode-requires
+decode-requires c κs = search needs
+
+departure-requires : tie.Need-departure-requires
+departure-requires c κs = search needs
+
+enum-known-accepted : tie.Need-enum-known-accepted
+enum-known-accepted c = search needs
+
+refused-requires : tie.Need-refused-requires
+refused-requires c κs = search needs
+
+enum-told : tie.Need-enum-told
+enum-told c = search needs
+
+encode-requires : tie.Need-encode-requires
+encode-requires c κs = search needs
+
+returns : tie.Need-returns
+returns c =
+    let t = c .before .before .before .before .before .before in
+    let d = t .departure .ensures in
+    let g = refused (departed _ _) _ (d .0) (c .before .before .accepted .given .1) (c .refused .ensures) in
+    rw (← (t .before .decode .ensures)) (g .0, (g .1, rw (d .1 .0, d .1 .1)))
+
+returns-2 : tie.Need-returns-2
+returns-2 c =
+    let t = c .before .before .before .before .before .before in
+    let d = t .departure .ensures in
+    let g = accepted (departed _ _) _ _ (d .0) (c .before .before .enum-told .given .1) refl refl (c .encode .ensures) in
+    rw (← (t .before .decode .ensures)) (g .0, (g .1, rw (d .1 .0, d .1 .1)))
+
+pub obikuteru-departure-spec : {M : Type 1} → statement M
+obikuteru-departure-spec =
+    tie.close
+    (tie.spec
+    decode-requires
+    departure-requires
+    enum-known-accepted
+    refused-requires
+    enum-told
+    encode-requires
+    returns
+    returns-2)

@@ -1,0 +1,48 @@
+use mathlib.Core.Path.{refl}
+use Rattle.queue.specs.Answer.{ticked}
+use Rattle.capi.proofs.Codes.{accepted, refused}
+use borrow.Author.Needs.{needs}
+use Rattle.capi.proofs.obikuteru_tick.Statement.{statement}
+use Rattle.capi.proofs.obikuteru_tick.Tie as tie
+
+decode-requires : tie.Need-decode-requires
+decode-requires c κs = search needs
+
+tick-requires : tie.Need-tick-requires
+tick-requires c κs = search needs
+
+enum-known-accepted : tie.Need-enum-known-accepted
+enum-known-accepted c = search needs
+
+refused-requires : tie.Need-refused-requires
+refused-requires c κs = search needs
+
+enum-told : tie.Need-enum-told
+enum-told c = search needs
+
+encode-requires : tie.Need-encode-requires
+encode-requires c κs = search needs
+
+returns : tie.Need-returns
+returns c =
+    let t = c .before .before .before .before .before in
+    rw (← (t .before .decode .ensures)) (refused ticked _ (t .tick .ensures) (c .before .before .accepted .given .1) (c .refused .ensures))
+
+returns-2 : tie.Need-returns-2
+returns-2 c =
+    let t = c .before .before .before .before .before in
+    rw (← (t .before .decode .ensures))
+    (accepted ticked _ _ (t .tick .ensures) (c .before .before .enum-told .given .1) refl refl (c .encode .ensures))
+
+pub obikuteru-tick-spec : {M : Type 1} → statement M
+obikuteru-tick-spec =
+    tie.close
+    (tie.spec
+    decode-requires
+    tick-requires
+    enum-known-accepted
+    refused-requires
+    enum-told
+    encode-requires
+    returns
+    returns-2)

@@ -1,0 +1,70 @@
+-- The state record as twenty words, in the order of struct obikuteru_state.
+use mathlib.Core.Bool.{Bool, not, cond}
+use mathlib.Core.List.{List, [], _∷_}
+use Prim.Native.Nat.{ℕ}
+use lib.Dec.{eqb}
+use lib.ListN.{getD}
+use Rattle.units.specs.Kinds.{bytes, micros, prob}
+use Rattle.pie.specs.declared.Backlog.{Backlog}
+use Rattle.pie.specs.declared.Pie.{Pie}
+use Rattle.pie.specs.declared.Rate.{Rate}
+use Rattle.queue.specs.declared.State.{State}
+use Rattle.queue.specs.Fresh.{settingsOf}
+
+-- a word that is not 0 says yes
+abbrev pub isSet : (word : ℕ) → Bool
+isSet word = not (eqb word 0)
+
+abbrev pub rateOf : (words : List ℕ) → Rate
+rateOf w =
+    record {
+      average = micros (getD w 8 0);
+      measuring = isSet (getD w 9 0);
+      start = micros (getD w 10 0);
+      counted = bytes (getD w 11 0);
+    }
+
+abbrev pub pieOf : (words : List ℕ) → Pie
+pieOf w =
+    record { prob = prob (getD w 5 0); old = micros (getD w 6 0); allowance = micros (getD w 7 0); rate = rateOf w }
+
+abbrev pub backlogOf : (words : List ℕ) → Backlog
+backlogOf w = record { count = getD w 12 0; bytes = bytes (getD w 13 0) }
+
+-- the state that twenty words hold
+unfoldable pub stateOf : (words : List ℕ) → State
+stateOf w =
+    record {
+      settings = settingsOf (getD w 0 0) (getD w 1 0) (getD w 2 0);
+      clock = micros (getD w 3 0);
+      last = micros (getD w 4 0);
+      pie = pieOf w;
+      backlog = backlogOf w;
+      first = getD w 14 0;
+      verdicts = getD w 15 0 ∷ getD w 16 0 ∷ getD w 17 0 ∷ getD w 18 0 ∷ getD w 19 0 ∷ [];
+    }
+
+-- the twenty words of a state
+unfoldable pub wordsOf : State → List ℕ
+wordsOf s =
+    s .settings .target .0
+    ∷ s .settings .buffer .0
+    ∷ s .settings .slots
+    ∷ s .clock .0
+    ∷ s .last .0
+    ∷ s .pie .prob .0
+    ∷ s .pie .old .0
+    ∷ s .pie .allowance .0
+    ∷ s .pie .rate .average .0
+    ∷ cond (s .pie .rate .measuring) 1 0
+    ∷ s .pie .rate .start .0
+    ∷ s .pie .rate .counted .0
+    ∷ s .backlog .count
+    ∷ s .backlog .bytes .0
+    ∷ s .first
+    ∷ getD (s .verdicts) 0 0
+    ∷ getD (s .verdicts) 1 0
+    ∷ getD (s .verdicts) 2 0
+    ∷ getD (s .verdicts) 3 0
+    ∷ getD (s .verdicts) 4 0
+    ∷ []

@@ -1,0 +1,222 @@
+// The C interface (include/obikuteru.h): the queue's calls over a state that is lent as words.
+// Each entry decodes the words, makes the one call of the queue and encodes what it returned.
+use pie::Backlog;
+use pie::Pie;
+use pie::Rate;
+use pie::Verdict;
+use queue::Accepted;
+use queue::ArrivalAnswer;
+use queue::Refusal;
+use queue::Settings;
+use queue::State;
+use units::Bytes;
+use units::Micros;
+use units::Prob;
+ghost use mathlib.Core.Path.{_≡_};
+ghost use Prim.Native.Nat.{_+_, _≤_};
+ghost use Rattle.queue.specs.Answer.{numberOf, arrivalAnswer};
+ghost use Rattle.queue.specs.State.{wellFormed};
+ghost use Rattle.queue.specs.Fresh.{fresh, settingsOf};
+ghost use Rattle.queue.specs.Arrival.{arrival, stored};
+ghost use Rattle.queue.specs.Departure.{departure};
+ghost use Rattle.queue.specs.Tick.{tick};
+ghost use Rattle.capi.specs.Words.{stateOf, wordsOf};
+ghost use Rattle.capi.specs.Codes.{codeOf, packetOf, wordsAfter};
+
+// The state that the words hold.
+fn decode(w: &[u64; 20]) -> State
+    ensures { λ r. ⌜ r ≡ stateOf (now (w .entry)) ⌝ }
+{
+    let settings = Settings {
+        target: Micros(w[0]),
+        buffer: Bytes(w[1]),
+        slots: w[2],
+    };
+    let rate = Rate {
+        average: Micros(w[8]),
+        measuring: w[9] != 0,
+        start: Micros(w[10]),
+        counted: Bytes(w[11]),
+    };
+    let pie = Pie {
+        prob: Prob(w[5]),
+        old: Micros(w[6]),
+        allowance: Micros(w[7]),
+        rate,
+    };
+    let backlog = Backlog {
+        count: w[12],
+        bytes: Bytes(w[13]),
+    };
+    let verdicts = [w[15], w[16], w[17], w[18], w[19]];
+    State {
+        settings,
+        clock: Micros(w[3]),
+        last: Micros(w[4]),
+        pie,
+        backlog,
+        first: w[14],
+        verdicts,
+    }
+}
+
+// The words of a state.
+fn encode(w: &mut [u64; 20], s: State)
+    ensures { λ _. ⌜ now (w .exit) ≡ wordsOf s ⌝ }
+{
+    let v0 = s.verdicts[0];
+    let v1 = s.verdicts[1];
+    let v2 = s.verdicts[2];
+    let v3 = s.verdicts[3];
+    let v4 = s.verdicts[4];
+    let runs = s.pie.rate.measuring as u64;
+    *w = [
+        s.settings.target.0,
+        s.settings.buffer.0,
+        s.settings.slots,
+        s.clock.0,
+        s.last.0,
+        s.pie.prob.0,
+        s.pie.old.0,
+        s.pie.allowance.0,
+        s.pie.rate.average.0,
+        runs,
+        s.pie.rate.start.0,
+        s.pie.rate.counted.0,
+        s.backlog.count,
+        s.backlog.bytes.0,
+        s.first,
+        v0,
+        v1,
+        v2,
+        v3,
+        v4,
+    ];
+}
+
+// The number of a refusal, with 100.
+fn refused(r: Refusal) -> u32
+    ensures { λ n. ⌜ n ≡ 100 + numberOf r ⌝ }
+{
+    match r {
+        Refusal::Settings => 101,
+        Refusal::Malformed => 102,
+        Refusal::Tables => 103,
+        Refusal::Clock => 104,
+        Refusal::Early => 105,
+        Refusal::Empty => 106,
+        Refusal::Size => 107,
+        Refusal::Counts => 108,
+        Refusal::Head => 109,
+    }
+}
+
+#[no_mangle]
+pub extern "C" fn obikuteru_fresh(
+    words: &mut [u64; 20],
+    target: u64,
+    buffer: u64,
+    slots: u64,
+    clock: u64,
+) -> u32
+    ensures { λ r. ⌜ r ≡ codeOf (fresh (settingsOf target buffer slots) clock .answer) ⌝ }
+    ensures { λ _. ⌜ now (words .exit) ≡ wordsOf (fresh (settingsOf target buffer slots) clock .state) ⌝ }
+{
+    let r = State::fresh(Micros(target), Bytes(buffer), slots, Micros(clock));
+    let state = r.state;
+    encode(words, state);
+    let accepted = r.accepted;
+    match accepted {
+        Accepted::Yes => 0,
+        Accepted::No(refusal) => refused(refusal),
+    }
+}
+
+#[no_mangle]
+pub extern "C" fn obikuteru_arrival(
+    words: &mut [u64; 20],
+    handles: &mut [u32],
+    sizes: &mut [u32],
+    clock: u64,
+    handle: u32,
+    size: u32,
+    ecn: bool,
+    u: u32,
+) -> u32
+    ensures { λ r. ⌜ r ≡ codeOf (arrival (stateOf (now (words .entry))) (now (handles .entry)) (now (sizes .entry)) clock size ecn u .answer) ⌝ }
+    ensures { λ _. ⌜ now (words .exit) ≡ wordsAfter (arrival (stateOf (now (words .entry))) (now (handles .entry)) (now (sizes .entry)) clock size ecn u) (now (words .entry)) ⌝ }
+    ensures { λ _. ⌜ now (handles .exit) ≡ stored (stateOf (now (words .entry))) (arrival (stateOf (now (words .entry))) (now (handles .entry)) (now (sizes .entry)) clock size ecn u .answer) (now (handles .entry)) handle ⌝ }
+    ensures { λ _. ⌜ now (sizes .exit) ≡ stored (stateOf (now (words .entry))) (arrival (stateOf (now (words .entry))) (now (handles .entry)) (now (sizes .entry)) clock size ecn u .answer) (now (sizes .entry)) size ⌝ }
+{
+    let s = decode(words);
+    let r = s.arrival(
+        handles,
+        sizes,
+        Micros(clock),
+        handle,
+        Bytes(size as u64),
+        ecn,
+        u,
+    );
+    let state = r.state;
+    let answer = r.answer;
+    match answer {
+        ArrivalAnswer::Refused(refusal) => refused(refusal),
+        ArrivalAnswer::Decided(v) => {
+            encode(words, state);
+            v.place() as u32
+        }
+    }
+}
+
+#[no_mangle]
+pub extern "C" fn obikuteru_departure(
+    words: &mut [u64; 20],
+    handles: &[u32],
+    sizes: &[u32],
+    clock: u64,
+    packet: &mut [u32; 2],
+) -> u32
+    ensures { λ r. ⌜ r ≡ codeOf (departure (stateOf (now (words .entry))) (now (handles .entry)) (now (sizes .entry)) clock .answer) ⌝ }
+    ensures { λ _. ⌜ now (words .exit) ≡ wordsAfter (departure (stateOf (now (words .entry))) (now (handles .entry)) (now (sizes .entry)) clock) (now (words .entry)) ⌝ }
+    ensures { λ _. ⌜ now (packet .exit) ≡ packetOf (departure (stateOf (now (words .entry))) (now (handles .entry)) (now (sizes .entry)) clock .answer) ⌝ }
+{
+    let s = decode(words);
+    let r = s.departure(handles, sizes, Micros(clock));
+    *packet = [r.handle, r.size];
+    let state = r.state;
+    let accepted = r.accepted;
+    match accepted {
+        Accepted::No(refusal) => refused(refusal),
+        Accepted::Yes => {
+            encode(words, state);
+            0
+        }
+    }
+}
+
+#[no_mangle]
+pub extern "C" fn obikuteru_tick(words: &mut [u64; 20], clock: u64) -> u32
+    ensures { λ r. ⌜ r ≡ codeOf (tick (stateOf (now (words .entry))) clock .answer) ⌝ }
+    ensures { λ _. ⌜ now (words .exit) ≡ wordsAfter (tick (stateOf (now (words .entry))) clock) (now (words .entry)) ⌝ }
+{
+    let s = decode(words);
+    let r = s.tick(Micros(clock));
+    let state = r.state;
+    let accepted = r.accepted;
+    match accepted {
+        Accepted::No(refusal) => refused(refusal),
+        Accepted::Yes => {
+            encode(words, state);
+            0
+        }
+    }
+}
+
+#[no_mangle]
+pub extern "C" fn obikuteru_well_formed(words: &[u64; 20]) -> bool
+    ensures { λ r. ⌜ r ≡ wellFormed (stateOf (now (words .entry))) ⌝ }
+{
+    let s = decode(words);
+    s.well_formed()
+}

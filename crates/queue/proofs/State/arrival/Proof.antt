@@ -1,0 +1,85 @@
+-- `State::arrival`: refused as the check says, else the verdict, what it stores, and the state it leaves.
+use borrow.Author.Needs.{needs}
+use mathlib.Core.Path.{_≡_, ap, refl, sym, _∙_}
+use native.Mathlib.Omega.{arith}
+use lib.ListN.{length}
+use denote.Ref.{now}
+use Rattle.queue.specs.Answer.{refusalIn}
+use Rattle.queue.specs.Arrival.{arrival}
+use Rattle.queue.proofs.Replies.{refused-reply}
+use Rattle.queue.proofs.WhenAccepted.{ArrivalAccepted, arrival-accepted}
+use Rattle.queue.proofs.State.arrival.Statement.{statement}
+use Rattle.queue.proofs.State.arrival.Tie as tie
+
+check-arrival-requires : tie.Need-check-arrival-requires
+check-arrival-requires c κs = search needs
+
+enum-known-checked : tie.Need-enum-known-checked
+enum-known-checked c = search needs
+
+enum-told : tie.Need-enum-told
+enum-told c = search needs
+
+abbrev at-start : tie.After-enum-told → tie.Start
+at-start c = c .before .before .before .before .before
+
+-- what is known once the check has found nothing
+known : (c : tie.After-enum-told) →
+    ArrivalAccepted
+    (at-start c .args .self)
+    (length (now (at-start c .args .handles)))
+    (length (now (at-start c .args .sizes)))
+    (at-start c .args .clock .0)
+    (at-start c .args .size .0)
+known c = arrival-accepted _ _ _ _ _ (sym (c .before .before .check-arrival .ensures) ∙ ap refusalIn (c .enum-told .given .1))
+
+verdict-requires : tie.Need-verdict-requires
+verdict-requires c κs = let k = known c in (k .formed, k .size-high)
+
+cast-store : tie.Need-cast-store
+cast-store c = let k = known (c .before .before .before .before) in omega arith
+
+store-requires : tie.Need-store-requires
+store-requires c κs = let k = known (c .before .before .before .before) in (k .formed, (k .handles, k .sizes))
+
+arrived-requires : tie.Need-arrived-requires
+arrived-requires c κs =
+    let k = known (c .before .before .before .before .before .before .before .before .before) in (k .formed, (k .total-low, k .size-high))
+
+returns : tie.Need-returns
+unfolding arrival
+returns c =
+    let k = c .before .before .before in
+    simp (← (k .check-arrival .ensures), c .before .checked .given .1, refused-reply) (refl, (refl, refl))
+
+same-length : tie.Need-same-length
+same-length c = search needs
+
+same-length-2 : tie.Need-same-length-2
+same-length-2 c = search needs
+
+returns-2 : tie.Need-returns-2
+unfolding arrival
+returns-2 c =
+    let p = c .before .before .before .before .before in
+    let r = p .before .before .before .before in
+    let e = r .before in
+    let w = e .before .before in
+    simp (c .arrived .ensures, ← (w .check-arrival .ensures), e .enum-told .given .1, ← (r .verdict .ensures))
+    (refl, (p .store .ensures .0, p .store .ensures .1))
+
+pub arrival-spec : {M : Type 1} → statement M
+arrival-spec =
+    tie.close
+    (tie.spec
+    check-arrival-requires
+    enum-known-checked
+    enum-told
+    verdict-requires
+    cast-store
+    store-requires
+    arrived-requires
+    returns
+    same-length
+    same-length-2
+    returns-2)

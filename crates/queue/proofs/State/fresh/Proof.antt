@@ -1,0 +1,29 @@
+-- `State::fresh`: refusal 1, or the fresh state.
+use borrow.Author.Needs.{needs}
+use Rattle.queue.specs.Fresh.{fresh}
+use Rattle.queue.proofs.State.fresh.Statement.{statement}
+use Rattle.queue.proofs.State.fresh.Tie as tie
+
+in-range-requires : tie.Need-in-range-requires
+in-range-requires c κs = search needs
+
+empty-requires : tie.Need-empty-requires
+empty-requires c κs = search needs
+
+returns : tie.Need-returns
+unfolding fresh
+returns c =
+    let e = c .before in
+    simp (← (e .before .before .in-range .ensures), e .if1 .taken, c .empty .ensures)
+
+empty-requires-2 : tie.Need-empty-requires-2
+empty-requires-2 c κs = search needs
+
+returns-2 : tie.Need-returns-2
+unfolding fresh
+returns-2 c =
+    let e = c .before in
+    simp (← (e .before .before .in-range .ensures), e .if1 .left, c .empty2 .ensures)
+
+pub fresh-spec : {M : Type 1} → statement M
+fresh-spec = tie.close (tie.spec in-range-requires empty-requires returns empty-requires-2 returns-2)

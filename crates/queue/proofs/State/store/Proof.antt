@@ -1,0 +1,72 @@
+-- `State::store`: the tail's place is one of the tables'.
+use borrow.Author.Needs.{needs}
+use mathlib.Core.Path.{refl}
+use Prim.Native.Nat.{_+_, _<_}
+use native.Mathlib.Nat.{mod-lt}
+use native.Mathlib.Omega.{arith}
+use Rattle.queue.specs.Arrival.{tailPlace}
+use Rattle.queue.proofs.Facts.{facts}
+use Rattle.queue.proofs.State.store.Statement.{statement}
+use Rattle.queue.proofs.State.store.Tie as tie
+
+admits-requires : tie.Need-admits-requires
+admits-requires c κs = search needs
+
+add-at : tie.Need-add-at
+add-at c =
+    let a = c .before .before .before .before .before in
+    let f = facts (a .args .self) (a .pre .0) in omega arith
+
+rem-at : tie.Need-rem-at
+rem-at c =
+    let a = c .before .before .before .before .before .before in
+    facts (a .args .self) (a .pre .0) .slots-low
+
+tail-lt : (a : tie.Start) → tailPlace (a .args .self) < a .args .self .settings .slots
+tail-lt a =
+    let s = a .args .self in mod-lt (s .first + s .backlog .count) (facts s (a .pre .0) .slots-low)
+
+mul-handles : tie.Need-mul-handles
+mul-handles c =
+    let a = c .before .before .before .before .before .before in omega (arith, tail-lt a, facts (a .args .self) (a .pre .0) .slots-high)
+
+slice-write-handles : tie.Need-slice-write-handles
+slice-write-handles c =
+    let a = c .before .before .before .before .before .before in omega (arith, tail-lt a, a .pre)
+
+mul-sizes : tie.Need-mul-sizes
+mul-sizes c =
+    let a = c .before .before .before .before .before .before in omega (arith, tail-lt a, facts (a .args .self) (a .pre .0) .slots-high)
+
+slice-write-sizes : tie.Need-slice-write-sizes
+slice-write-sizes c =
+    let a = c .before .before .before .before .before .before in omega (arith, tail-lt a, a .pre)
+
+same-length : tie.Need-same-length
+same-length c = search needs
+
+same-length-2 : tie.Need-same-length-2
+same-length-2 c = search needs
+
+returns : tie.Need-returns
+returns c =
+    let e = c .before .before in simp (← (e .before .admits .ensures), e .if1 .taken) (refl, refl)
+
+returns-2 : tie.Need-returns-2
+returns-2 c = simp (← (c .before .admits .ensures), c .if1 .left) (refl, refl)
+
+pub store-spec : {M : Type 1} → statement M
+store-spec =
+    tie.close
+    (tie.spec
+    admits-requires
+    add-at
+    rem-at
+    mul-handles
+    slice-write-handles
+    mul-sizes
+    slice-write-sizes
+    same-length
+    same-length-2
+    returns
+    returns-2)

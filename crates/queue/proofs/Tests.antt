@@ -1,0 +1,68 @@
+-- What the tests of a list say one by one, and what both sides of a choice have.
+use mathlib.Core.Path.{_≡_, refl}
+use mathlib.Core.Bool.{Bool, true, false, cond, _&&_, _||_, false≢true, true≢false}
+use mathlib.Core.List.{List, [], _∷_, foldl}
+use Prim.Native.Nat.{ℕ, zero, suc, _<_}
+use native.Mathlib.Omega.{arith}
+use borrow.Author.Tests.{ltb-true}
+use lib.Dec.{ltb}
+use lib.ListN.{getD}
+use Rattle.queue.specs.State.{all}
+use Rattle.queue.specs.Refusals.{firstRefusal}
+
+pub and-left : (a b : Bool) → a && b ≡ true → a ≡ true
+and-left true b e = refl
+and-left false b e = e
+
+pub and-right : (a b : Bool) → a && b ≡ true → b ≡ true
+and-right true b e = e
+and-right false b e = absurd (false≢true e)
+
+pub or-neither : (a b : Bool) → a || b ≡ false → (a ≡ false) × (b ≡ false)
+or-neither true b e = absurd (true≢false e)
+or-neither false b e = (refl, e)
+
+-- a property of both arms of a choice, each where the test says so
+pub at-cond : {A : Type 0} (P : A → Type 0) (b : Bool) {x y : A} → (b ≡ true → P x) → (b ≡ false → P y) → P (cond b x y)
+at-cond P true f g = f refl
+at-cond P false f g = g refl
+
+-- ── lists of tests ──
+
+first-of : (a : Bool) (tests : List Bool) → foldl _&&_ a tests ≡ true → a ≡ true
+first-of a [] e = e
+first-of a (t ∷ tests) e = and-left a t (first-of (a && t) tests e)
+
+at-from : (a : Bool) (tests : List Bool) → foldl _&&_ a tests ≡ true → (i : ℕ) → getD tests i true ≡ true
+at-from a [] e i = refl
+at-from a (t ∷ tests) e zero = and-right a t (first-of (a && t) tests e)
+at-from a (t ∷ tests) e (suc i) = at-from (a && t) tests e i
+
+-- where all pass, each passes
+pub all-at : (tests : List Bool) → all tests ≡ true → (i : ℕ) → getD tests i true ≡ true
+all-at tests e i = at-from true tests e i
+
+-- where each passes, all pass
+pub at-all : (tests : List Bool) → ((i : ℕ) → getD tests i true ≡ true) → all tests ≡ true
+at-all [] e = refl
+at-all (t ∷ tests) e = rw (e 0) (at-all tests (λ i. e (suc i)))
+
+-- ── tables of refusals ──
+
+-- every number is above 0
+abbrev pub numbered : List (ℕ × Bool) → Bool
+numbered [] = true
+numbered ((number, test) ∷ rows) = ltb 0 number && numbered rows
+
+-- where no refusal is given, each test is false
+pub none-refuses : (rows : List (ℕ × Bool)) → numbered rows ≡ true → firstRefusal rows ≡ 0 → (i : ℕ) → getD rows i (0, false) .1 ≡ false
+none-refuses [] n e i = refl
+none-refuses ((number, true) ∷ rows) n e i =
+    let above : 0 < number = ltb-true 0 number (and-left (ltb 0 number) (numbered rows) n) in absurd (omega arith)
+none-refuses ((number, false) ∷ rows) n e zero = refl
+none-refuses ((number, false) ∷ rows) n e (suc i) = none-refuses rows (and-right (ltb 0 number) (numbered rows) n) e i
+
+-- a test that cannot be true is false
+pub false-of : (b : Bool) → (b ≡ true → ⊥) → false ≡ b
+false-of true h = absurd (h refl)
+false-of false h = refl

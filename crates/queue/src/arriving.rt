@@ -1,0 +1,157 @@
+// An arrival.
+use crate::Accepted;
+use crate::ArrivalAnswer;
+use crate::Arrived;
+use crate::Refusal;
+use crate::State;
+use crate::well_formed::LIMIT;
+use pie::Verdict;
+use pie::raise;
+use units::Bytes;
+use units::Micros;
+ghost use mathlib.Core.Path.{_≡_};
+ghost use mathlib.Core.Bool.{cond, true};
+ghost use Prim.Native.Nat.{_≤_, _<_};
+ghost use lib.ListN.{length, set};
+ghost use Rattle.pie.specs.Constants.{largest, limit};
+ghost use Rattle.pie.specs.Verdicts.{admitted, total};
+ghost use Rattle.queue.specs.State.{wellFormed};
+ghost use Rattle.queue.specs.Answer.{arrivalReply, refusalIn};
+ghost use Rattle.queue.specs.Arrival.{arrival, arrivalRefusal, arrivedState, stored, tailPlace, verdictOf};
+
+// The sum of the five counts.
+fn sum(counts: [u64; 5]) -> u64
+    requires { ⌜ total counts ≤ limit ⌝ }
+    ensures { λ r. ⌜ r ≡ total counts ⌝ }
+{
+    let a = counts[0];
+    let b = counts[1];
+    let c = counts[2];
+    let d = counts[3];
+    let e = counts[4];
+    a + b + c + d + e
+}
+
+impl State {
+    // Refusals 2, 3, 4, 7 and 8.
+    fn check_arrival(self, handles: u64, sizes: u64, clock: Micros, size: Bytes) -> Accepted
+        ensures { λ r. ⌜ refusalIn r ≡ arrivalRefusal self handles sizes (clock .0) (size .0) ⌝ }
+    {
+        let formed = self.well_formed();
+        if !formed {
+            return Accepted::No(Refusal::Malformed);
+        }
+        let slots = self.settings.slots;
+        let fit = (handles == slots) & (sizes == slots);
+        if !fit {
+            return Accepted::No(Refusal::Tables);
+        }
+        let wrong_clock = (clock.0 < self.clock.0) | (LIMIT < clock.0);
+        if wrong_clock {
+            return Accepted::No(Refusal::Clock);
+        }
+        let wrong_size = (size.0 == 0) | (65_535 < size.0);
+        if wrong_size {
+            return Accepted::No(Refusal::Size);
+        }
+        let counts = self.verdicts;
+        let full = sum(counts) == LIMIT;
+        if full {
+            return Accepted::No(Refusal::Counts);
+        }
+        Accepted::Yes
+    }
+
+    // Rules 1 to 7.
+    fn verdict(self, size: Bytes, ecn: bool, u: u32) -> Verdict
+        requires { ⌜ wellFormed self ≡ true ⌝ }
+        requires { ⌜ size .0 ≤ largest ⌝ }
+        ensures { λ r. ⌜ r ≡ verdictOf self (size .0) ecn u ⌝ }
+    {
+        let settings = self.settings;
+        let bytes_full = settings.buffer.0 < self.backlog.bytes.0 + size.0;
+        if bytes_full {
+            return Verdict::DroppedBytes;
+        }
+        let slots_full = self.backlog.count == settings.slots;
+        if slots_full {
+            return Verdict::DroppedSlots;
+        }
+        let pie = self.pie;
+        pie.decide(settings.target, self.backlog.bytes, ecn, u)
+    }
+
+    // The state after an arrival with this verdict.
+    fn arrived(self, clock: Micros, size: Bytes, v: Verdict) -> State
+        requires { ⌜ wellFormed self ≡ true ⌝ }
+        requires { ⌜ (total (self .verdicts) < limit) × (size .0 ≤ largest) ⌝ }
+        ensures { λ r. ⌜ r ≡ arrivedState self (clock .0) (size .0) v ⌝ }
+    {
+        let counts = self.verdicts;
+        let verdicts = raise(counts, v);
+        let admits = v.admits();
+        if admits {
+            let queued = self.backlog;
+            let backlog = queued.enter(size);
+            return State {
+                clock,
+                backlog,
+                verdicts,
+                ..self
+            };
+        }
+        State {
+            clock,
+            verdicts,
+            ..self
+        }
+    }
+
+    // An admitted packet is written at the tail of both tables.
+    fn store(self, handles: &mut [u32], sizes: &mut [u32], v: Verdict, handle: u32, size: u32)
+        requires { ⌜ wellFormed self ≡ true ⌝ }
+        requires { ⌜ (length (now handles) ≡ self .settings .slots) × (length (now sizes) ≡ self .settings .slots) ⌝ }
+        ensures { λ _. ⌜ now (handles .exit) ≡ cond (admitted v) (set (now (handles .entry)) (tailPlace self) handle) (now (handles .entry)) ⌝ }
+        ensures { λ _. ⌜ now (sizes .exit) ≡ cond (admitted v) (set (now (sizes .entry)) (tailPlace self) size) (now (sizes .entry)) ⌝ }
+    {
+        let admits = v.admits();
+        if admits {
+            let at = ((self.first + self.backlog.count) % self.settings.slots) as usize;
+            handles[at] = handle;
+            sizes[at] = size;
+        }
+    }
+
+    // A packet of `size` bytes arrives; `u` is its random number.
+    pub fn arrival(
+        self,
+        handles: &mut [u32],
+        sizes: &mut [u32],
+        clock: Micros,
+        handle: u32,
+        size: Bytes,
+        ecn: bool,
+        u: u32,
+    ) -> Arrived
+        ensures { λ r. ⌜ arrivalReply r ≡ arrival self (now (handles .entry)) (now (sizes .entry)) (clock .0) (size .0) ecn u ⌝ }
+        ensures { λ _. ⌜ now (handles .exit) ≡ stored self (arrival self (now (handles .entry)) (now (sizes .entry)) (clock .0) (size .0) ecn u .answer) (now (handles .entry)) handle ⌝ }
+        ensures { λ _. ⌜ now (sizes .exit) ≡ stored self (arrival self (now (handles .entry)) (now (sizes .entry)) (clock .0) (size .0) ecn u .answer) (now (sizes .entry)) (size .0) ⌝ }
+    {
+        let checked = self.check_arrival(handles.len() as u64, sizes.len() as u64, clock, size);
+        match checked {
+            Accepted::No(refusal) => Arrived {
+                answer: ArrivalAnswer::Refused(refusal),
+                state: self,
+            },
+            Accepted::Yes => {
+                let v = self.verdict(size, ecn, u);
+                self.store(handles, sizes, v, handle, size.0 as u32);
+                let state = self.arrived(clock, size, v);
+                Arrived {
+                    answer: ArrivalAnswer::Decided(v),
+                    state,
+                }
+            }
+        }
+    }
+}

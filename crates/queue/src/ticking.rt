@@ -1,0 +1,70 @@
+// A tick.
+use crate::Accepted;
+use crate::Refusal;
+use crate::Returned;
+use crate::State;
+use crate::well_formed::LIMIT;
+use units::Micros;
+ghost use mathlib.Core.Path.{_≡_};
+ghost use mathlib.Core.Bool.{true};
+ghost use Rattle.queue.specs.State.{wellFormed};
+ghost use Rattle.queue.specs.Answer.{refusalIn, tickReply};
+ghost use Rattle.queue.specs.Tick.{tick, tickRefusal, tickedState};
+
+impl State {
+    // Refusals 2, 4 and 5.
+    fn check_tick(self, clock: Micros) -> Accepted
+        ensures { λ r. ⌜ refusalIn r ≡ tickRefusal self (clock .0) ⌝ }
+    {
+        let formed = self.well_formed();
+        if !formed {
+            return Accepted::No(Refusal::Malformed);
+        }
+        let wrong_clock = (clock.0 < self.clock.0) | (LIMIT < clock.0);
+        if wrong_clock {
+            return Accepted::No(Refusal::Clock);
+        }
+        let early = clock.0 < self.last.0 + 15_000;
+        if early {
+            return Accepted::No(Refusal::Early);
+        }
+        Accepted::Yes
+    }
+
+    // The state after a tick.
+    fn ticked(self, clock: Micros) -> State
+        requires { ⌜ wellFormed self ≡ true ⌝ }
+        ensures { λ r. ⌜ r ≡ tickedState self (clock .0) ⌝ }
+    {
+        let settings = self.settings;
+        let before = self.pie;
+        let queued = self.backlog;
+        let pie = before.update(settings.target, queued.bytes);
+        State {
+            clock,
+            last: clock,
+            pie,
+            ..self
+        }
+    }
+
+    // The periodic update.
+    pub fn tick(self, clock: Micros) -> Returned
+        ensures { λ r. ⌜ tickReply r ≡ tick self (clock .0) ⌝ }
+    {
+        let accepted = self.check_tick(clock);
+        match accepted {
+            Accepted::No(refusal) => Returned {
+                accepted: Accepted::No(refusal),
+                state: self,
+            },
+            Accepted::Yes => {
+                let state = self.ticked(clock);
+                Returned {
+                    accepted: Accepted::Yes,
+                    state,
+                }
+            }
+        }
+    }
+}
