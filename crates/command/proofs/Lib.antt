@@ -2,3 +2,4 @@ pub mod Bytes
 pub mod Counts
 pub mod NoForm
 pub mod Reading
+pub mod LineEnds

@@ -4,3 +4,4 @@ pub mod Forms
 pub mod Line
 pub mod Reader
 pub mod Incremental
+pub mod Scan

@@ -1,6 +1,9 @@
 // A line of a script, read byte by byte.
 mod finish;
 mod push;
+mod scanning;
+
+pub use scanning::scan;
 
 pub enum Command {
     // No command has this form.
@@ -49,4 +52,10 @@ pub struct Reader {
     pub fourth: u64,
     // The field that is read.
     pub value: u64,
+}
+
+// A reader and the place in the input that it has come to.
+pub struct Scanned {
+    pub reader: Reader,
+    pub at: usize,
 }
