@@ -1,5 +1,5 @@
 -- The reader's own steps: what it is after one byte more, and what command it has read.
-use mathlib.Core.Bool.{Bool, cond}
+use mathlib.Core.Bool.{Bool, true, false, cond}
 use mathlib.Core.List.{List, [], _∷_}
 use Prim.Native.Nat.{ℕ, _+_, _-_}
 use lib.Dec.{leb, ltb, eqb}
@@ -73,6 +73,14 @@ inPhase Spoiled r byte = r
 
 unfoldable pub pushed : Reader → (byte : ℕ) → Reader
 pushed r byte = inPhase (r .phase) r byte
+
+-- whether no byte of the line is read
+abbrev pub isEmpty : Phase → Bool
+isEmpty Start = true
+isEmpty Letter = false
+isEmpty Gap = false
+isEmpty Digits = false
+isEmpty Spoiled = false
 
 -- the fields before the value, of which it keeps the last four, and the value
 abbrev pub numbersIn : Reader → List ℕ

@@ -4,7 +4,7 @@ use crate::Reader;
 ghost use mathlib.Core.Path.{_≡_};
 ghost use mathlib.Core.Bool.{true};
 ghost use Rattle.decimal.specs.Digits.{extended, isDigit};
-ghost use Rattle.command.specs.Reader.{afterDigits, afterGap, afterLetter, afterStart, begun, digitRead, fieldRead, pushed, spoiled};
+ghost use Rattle.command.specs.Reader.{afterDigits, afterGap, afterLetter, afterStart, begun, digitRead, fieldRead, isEmpty, pushed, spoiled};
 
 impl Reader {
     pub fn begin() -> Reader
@@ -139,6 +139,20 @@ impl Reader {
             Phase::Letter => self.letter(byte),
             Phase::Start => self.start(byte),
             Phase::Spoiled => self,
+        }
+    }
+
+    // Whether no byte of the line is read.
+    pub fn is_empty(self) -> bool
+        ensures { λ r. ⌜ r ≡ isEmpty (self .phase) ⌝ }
+    {
+        let phase = self.phase;
+        match phase {
+            Phase::Start => true,
+            Phase::Letter => false,
+            Phase::Gap => false,
+            Phase::Digits => false,
+            Phase::Spoiled => false,
         }
     }
 }

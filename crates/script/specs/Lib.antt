@@ -1,0 +1,8 @@
+-- What a script means: one definition from input bytes to output bytes (document 01, 'A script program').
+pub mod Lines
+pub mod Output
+pub mod Answering
+pub mod Script
+pub mod Feeding
+pub mod Pieces
+pub mod Example

@@ -1,0 +1,24 @@
+// A script of queue calls, fed in pieces of any length.
+use command::Reader;
+use queue::State;
+
+pub enum Stage {
+    // No line is answered.
+    First,
+    Running,
+    // A bad line has ended the run.
+    Ended,
+}
+
+pub struct Session {
+    pub stage: Stage,
+    // The number of the next line.
+    pub line: u64,
+    pub state: State,
+}
+
+pub struct Runner {
+    pub session: Session,
+    // What is read of the next line.
+    pub reader: Reader,
+}
