@@ -45,6 +45,7 @@ fn spell(n: u64) -> Spelling
 pub fn put_number(n: u64, out: &mut [u8], at: usize) -> usize
     requires { ⌜ at + 20 ≤ length (now out) ⌝ }
     ensures { λ r. ⌜ Wrote (now (out .entry)) (now (out .exit)) at r (digitsOf n) ⌝ }
+    ensures { λ r. ⌜ r ≤ at + 20 ⌝ }
 {
     let spelling = spell(n);
     let text = spelling.text;

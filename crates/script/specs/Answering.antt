@@ -10,7 +10,7 @@ use Rattle.queue.specs.Departure.{departure}
 use Rattle.queue.specs.Fresh.{fresh, settingsOf}
 use Rattle.queue.specs.Tick.{tick}
 use Rattle.queue.specs.declared.State.{State}
-use Rattle.script.specs.Output.{badText, replyText}
+use Rattle.answers.specs.Output.{badText, replyText}
 use Rattle.script.specs.declared.Session.{Session}
 use Rattle.script.specs.declared.Stage.{Stage}
 use Rattle.script.specs.declared.Stage.the-variants.{First, Running, Ended}

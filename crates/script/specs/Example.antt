@@ -1,6 +1,6 @@
 -- Document 01's whole case.
 use mathlib.Core.Path.{_≡_}
-use Rattle.script.specs.Output.{ascii}
+use Rattle.answers.specs.Output.{ascii}
 use Rattle.script.specs.Script.{script}
 
 abbrev pub WholeCase : Type 0

@@ -1,6 +1,5 @@
 -- What a script means: one definition from input bytes to output bytes (document 01, 'A script program').
 pub mod Lines
-pub mod Output
 pub mod Answering
 pub mod Script
 pub mod Feeding

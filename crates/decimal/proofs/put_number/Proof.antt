@@ -3,6 +3,7 @@ use Prim.Native.Nat.{_-_, _≤_}
 use native.Mathlib.Omega.{arith}
 use lib.ListN.{length, drop, length-drop}
 use lib.Seq.{take-all}
+use Rattle.decimal.proofs.Places.{digits-length}
 use Rattle.decimal.proofs.put_number.Statement.{statement}
 use Rattle.decimal.proofs.put_number.Tie as tie
 use Rattle.decimal.proofs.put_number.Reads as reads
@@ -42,7 +43,9 @@ returns c =
     let text = s .result .text in
     let from = s .result .from in
     let long : length (drop from text) ≤ 20 - from = simp length-drop (omega arith) in
-    rw (s .ensures .2) at (rw (take-all (20 - from) (drop from text) long) at w)
+    let text = rw (s .ensures .2) at (rw (take-all (20 - from) (drop from text) long) at w) in
+    let short = digits-length (c .before .before .before .before .before .before .before .before .before .args .n) in
+    (text, omega arith)
 
 pub put-number-spec : {M : Type 1} → statement M
 put-number-spec =

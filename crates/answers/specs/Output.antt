@@ -32,7 +32,7 @@ wordOf ticked = ascii "ticked"
 
 -- probability and bytes
 abbrev pub stateText : State → List ℕ
-stateText s = ascii " " ++ (digitsOf (s .pie .prob .0) ++ (ascii " " ++ (digitsOf (s .backlog .bytes .0) ++ ascii "\n")))
+stateText s = (ascii " " ++ digitsOf (s .pie .prob .0)) ++ ((ascii " " ++ digitsOf (s .backlog .bytes .0)) ++ ascii "\n")
 
 abbrev pub replyText : Reply → List ℕ
 replyText r = wordOf (r .answer) ++ stateText (r .state)
