@@ -1,1 +1,2 @@
 pub mod WholeCase
+pub mod Lent

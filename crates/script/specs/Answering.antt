@@ -27,11 +27,15 @@ pub record Outcome : Type 0 where
 abbrev pub nextLine : (line : ℕ) → ℕ
 nextLine line = min (line + 1) (2 ^ 64 - 1)
 
+-- a call has returned this state
+abbrev pub continued : Session → State → Session
+continued s state = record { stage = Running; line = nextLine (s .line); state = state }
+
 -- a call's reply
 abbrev pub replied : Session → Reply → (handles sizes : List ℕ) → Outcome
 replied s r handles sizes =
     record {
-      session = record { stage = Running; line = nextLine (s .line); state = r .state };
+      session = continued s (r .state);
       handles = handles;
       sizes = sizes;
       text = replyText r;

@@ -3,5 +3,6 @@ pub mod Lines
 pub mod Answering
 pub mod Script
 pub mod Feeding
+pub mod Done
 pub mod Pieces
 pub mod Example

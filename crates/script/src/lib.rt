@@ -2,6 +2,8 @@
 use command::Reader;
 use queue::State;
 
+mod answering;
+
 pub enum Stage {
     // No line is answered.
     First,
@@ -21,4 +23,10 @@ pub struct Runner {
     pub session: Session,
     // What is read of the next line.
     pub reader: Reader,
+}
+
+// The session after a line, and where its output ends.
+pub struct Answered {
+    pub session: Session,
+    pub end: usize,
 }
