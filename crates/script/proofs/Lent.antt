@@ -1,13 +1,16 @@
 -- A part that is no longer than the whole.
 use mathlib.Core.Path.{_≡_, refl, sym, _∙_}
 use mathlib.Core.Bool.{Bool, true, false}
-use mathlib.Core.List.{List}
+use mathlib.Core.List.{List, _++_}
 use Prim.Native.Nat.{ℕ, _≤_, min}
 use native.Mathlib.Omega.{arith}
 use borrow.Author.Tests.{leb-false, leb-true}
 use lib.Dec.{leb}
 use lib.ListN.{drop, drop-of-length-le, length, take}
 use lib.Seq.{length-take-le, take-all}
+
+pub joined-up : {a b c d : List ℕ} → a ≡ b → c ≡ d → a ++ c ≡ b ++ d
+joined-up p q = λ i. p i ++ q i
 
 module _ (n k : ℕ) (l : List ℕ) (e : n ≡ min k (length l)) where
   pub lent-count : n ≡ length (take n l)

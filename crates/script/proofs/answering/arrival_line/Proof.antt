@@ -1,3 +1,7 @@
+use native.Mathlib.Omega.{arith}
+use Rattle.answers.proofs.Joins.{then}
+use Rattle.script.specs.Answering.{laterLine}
+use Rattle.script.proofs.Lent.{joined-up, lent-count, lent-drop, lent-take}
 use borrow.Author.Needs.{needs}
 use Rattle.script.proofs.answering.arrival_line.Statement.{statement}
 use Rattle.script.proofs.answering.arrival_line.Tie as tie
@@ -23,7 +27,7 @@ slice-relend-prefix-arrival c = search needs
 
 -- src/answering.rt:140:9
 slice-aggregate-arrival : tie.Need-slice-aggregate-arrival
-slice-aggregate-arrival c = ?
+slice-aggregate-arrival c = lent-count _ _ _ (c .before .before .least .ensures)
 
 -- src/answering.rt:141:9
 slice-relend-prefix-arrival-2 : tie.Need-slice-relend-prefix-arrival-2
@@ -31,7 +35,7 @@ slice-relend-prefix-arrival-2 c = search needs
 
 -- src/answering.rt:141:9
 slice-aggregate-arrival-2 : tie.Need-slice-aggregate-arrival-2
-slice-aggregate-arrival-2 c = ?
+slice-aggregate-arrival-2 c = lent-count _ _ _ (c .before .before .least2 .ensures)
 
 -- src/answering.rt:139:9
 arrival-requires : tie.Need-arrival-requires
@@ -63,7 +67,26 @@ same-length-3 c = search needs
 
 -- src/answering.rt:120:1
 returns : tie.Need-returns
-returns c = ?
+unfolding laterLine
+returns c = 
+    let s = c .before .before .before .put-state in
+    let w = c .before .before .before .before .before .before .before .put-arrival in
+    let f = c .before .before .before .before .before .before .before .before .before .before .before .before .before .before .arrival in
+    let k = c .before .before .before .before .before .before .before .before .before .before .before .before .before .before .before .before .before in
+    let a = k .before .before .before .before .before .before .args in
+    let slots = a .session .state .settings .slots in
+    let th = lent-take (k .before .least .result) slots (a .handles .now) (k .before .least .ensures) in
+    let tz = lent-take (k .least2 .result) slots (a .sizes .now) (k .least2 .ensures) in
+    let dh = lent-drop (k .before .least .result) slots (a .handles .now) (k .before .least .ensures) in
+    let dz = lent-drop (k .least2 .result) slots (a .sizes .now) (k .least2 .ensures) in
+    let e = rw (th, tz) at (f .ensures .0) in
+    let eh = rw (th, tz) at (f .ensures .1 .0) in
+    let ez = rw (th, tz) at (f .ensures .1 .1) in
+    record {
+      said = rw (← e) (record { session = c .returned .ensures; text = then _ _ _ _ _ _ _ _ (w .ensures .0) (s .ensures .0); short = omega arith });
+      handles = joined-up eh dh;
+      sizes = joined-up ez dz;
+    }
 
 pub arrival-line-spec : {M : Type 1} → statement M
 arrival-line-spec =
