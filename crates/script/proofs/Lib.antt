@@ -1,2 +1,3 @@
 pub mod WholeCase
 pub mod Lent
+pub mod Stages

@@ -154,3 +154,65 @@ fn arrival_line(
         end,
     }
 }
+
+fn first_line(session: Session, command: Command, out: &mut [u8], at: usize) -> Answered
+    requires { ⌜ at + 128 ≤ length (now out) ⌝ }
+    ensures { λ r. ⌜ ((handles sizes : List ℕ) → Said (firstLine session handles sizes command) r (now (out .entry)) (now (out .exit)) at) ⌝ }
+{
+    match command {
+        Command::Bad => bad_line(session, out, at),
+        Command::Configure {
+            target,
+            buffer,
+            slots,
+        } => start_line(session, target, buffer, slots, out, at),
+        Command::Arrival { .. } => bad_line(session, out, at),
+        Command::Departure { .. } => bad_line(session, out, at),
+        Command::Tick { .. } => bad_line(session, out, at),
+    }
+}
+
+fn later_line(
+    session: Session,
+    command: Command,
+    handles: &mut [u32],
+    sizes: &mut [u32],
+    out: &mut [u8],
+    at: usize,
+) -> Answered
+    requires { ⌜ at + 128 ≤ length (now out) ⌝ }
+    ensures { λ r. ⌜ Did (laterLine session (now (handles .entry)) (now (sizes .entry)) command) r (now (handles .exit)) (now (sizes .exit)) (now (out .entry)) (now (out .exit)) at ⌝ }
+{
+    match command {
+        Command::Bad => bad_line(session, out, at),
+        Command::Configure { .. } => bad_line(session, out, at),
+        Command::Arrival {
+            clock,
+            handle,
+            size,
+            ecn,
+            u,
+        } => arrival_line(session, handles, sizes, clock, handle, size, ecn, u, out, at),
+        Command::Departure { clock } => departure_line(session, handles, sizes, clock, out, at),
+        Command::Tick { clock } => tick_line(session, clock, out, at),
+    }
+}
+
+pub fn answer(
+    session: Session,
+    command: Command,
+    handles: &mut [u32],
+    sizes: &mut [u32],
+    out: &mut [u8],
+    at: usize,
+) -> Answered
+    requires { ⌜ at + 128 ≤ length (now out) ⌝ }
+    ensures { λ r. ⌜ Did (outcome session (now (handles .entry)) (now (sizes .entry)) command) r (now (handles .exit)) (now (sizes .exit)) (now (out .entry)) (now (out .exit)) at ⌝ }
+{
+    let stage = session.stage;
+    match stage {
+        Stage::First => first_line(session, command, out, at),
+        Stage::Running => later_line(session, command, handles, sizes, out, at),
+        Stage::Ended => Answered { session, end: at },
+    }
+}
