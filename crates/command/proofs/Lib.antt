@@ -3,3 +3,4 @@ pub mod Counts
 pub mod NoForm
 pub mod Reading
 pub mod LineEnds
+pub mod Emptiness

@@ -1,3 +1,5 @@
 pub mod WholeCase
 pub mod Lent
 pub mod Stages
+pub mod Turns
+pub mod Cuts

@@ -1,11 +1,11 @@
 -- The runner's own steps, a byte at a time.
 use mathlib.Core.Bool.{Bool, true, false, cond, _||_}
 use mathlib.Core.List.{List, [], foldl}
-use Prim.Native.Nat.{ℕ, _+_}
+use Prim.Native.Nat.{ℕ, _-_}
 use lib.Dec.{eqb, ltb}
 use Rattle.command.specs.Reader.{begun, finished, isEmpty, pushed}
 use Rattle.command.specs.declared.Reader.{Reader}
-use Rattle.script.specs.Script.{Run, answerLine, noPackets, startSession}
+use Rattle.script.specs.Script.{Run, answerLine, startSession}
 use Rattle.script.specs.declared.Runner.{Runner}
 use Rattle.script.specs.declared.Session.{Session}
 use Rattle.script.specs.declared.Stage.{Stage}
@@ -52,4 +52,4 @@ hasEnded Ended = true
 -- all is taken, or the run has ended, or there is no room for another output line
 abbrev pub stops : (taken inputLength : ℕ) → Stage → (written outputLength : ℕ) → Bool
 stops taken inputLength stage written outputLength =
-    eqb taken inputLength || hasEnded stage || ltb outputLength (written + room)
+    eqb taken inputLength || hasEnded stage || ltb (outputLength - written) room

@@ -4,5 +4,6 @@ pub mod Answering
 pub mod Script
 pub mod Feeding
 pub mod Done
+pub mod Turn
 pub mod Pieces
 pub mod Example

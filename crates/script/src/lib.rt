@@ -4,6 +4,7 @@ use queue::State;
 
 mod answering;
 
+
 pub enum Stage {
     // No line is answered.
     First,
@@ -29,4 +30,11 @@ pub struct Runner {
 pub struct Answered {
     pub session: Session,
     pub end: usize,
+}
+
+// How many bytes of the input are taken, and how many of the output are written.
+pub struct Fed {
+    pub runner: Runner,
+    pub taken: usize,
+    pub written: usize,
 }
