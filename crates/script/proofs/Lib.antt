@@ -3,3 +3,4 @@ pub mod Lent
 pub mod Stages
 pub mod Turns
 pub mod Cuts
+pub mod Stops

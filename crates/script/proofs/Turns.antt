@@ -10,15 +10,18 @@ use borrow.Author.Tests.{eqb-true}
 use lib.Dec.{eqb}
 use lib.ListN.{drop, getD, length, length-drop, take}
 use lib.Seq.{getD-drop, take-add, take-suc}
-use Rattle.command.specs.Reader.{pushed}
+use Rattle.command.specs.Reader.{begun, finished, pushed}
 use Rattle.command.specs.Scan.{lineEnd, readOn}
 use Rattle.command.specs.declared.Command.{Command}
 use Rattle.command.specs.declared.Reader.{Reader}
+use Rattle.command.specs.declared.Scanned.{Scanned}
 use Rattle.script.specs.Answering.{outcome}
 use Rattle.script.specs.Done.{Did}
-use Rattle.script.specs.Feeding.{Machine, byteFed, fed, lineFed}
+use Rattle.script.specs.Feeding.{Machine, byteFed, fed, lineFed, machine}
 use Rattle.script.specs.Script.{Run, answerLine}
+use Rattle.script.specs.Turn.{Follows}
 use Rattle.script.specs.declared.Answered.{Answered}
+use Rattle.script.specs.declared.Fed.{Fed}
 use Rattle.script.specs.declared.Session.{Session}
 
 pub fed-append : (m : Machine) (a b : List ℕ) → fed m (a ++ b) ≡ fed (fed m a) b
@@ -85,3 +88,21 @@ pub answered-is : (s : Session) (handles sizes : List ℕ) (command : Command) (
 unfolding answerLine
 answered-is s handles sizes command r h z before after at d =
     λ i. record { session = sym (d .said .session) i; handles = sym (d .handles) i; sizes = sym (d .sizes) i; output = sym (d .said .text .bytes) i }
+
+-- ── a turn ──
+
+module _ (m : Machine) (input : List ℕ) (g : Fed) (handles sizes output : List ℕ) (within : g .taken < length input) (follows : Follows m input g handles sizes output) (s : Scanned) (at-is : s .at ≡ g .taken + lineEnd (drop (g .taken) input)) (reader-is : s .reader ≡ readOn (g .runner .reader) (drop (g .taken) input)) where
+  -- the input ends before a newline
+  pub turn-end : fed m (take (s .at) input) ≡ machine (record { session = g .runner .session; reader = s .reader }) handles sizes (take (g .written) output)
+  turn-end =
+      let n = machine (g .runner) handles sizes (take (g .written) output) in
+      rw (at-is, reader-is) (to-the-end m n input (g .taken) (omega arith) follows)
+
+  -- the line is answered
+  pub turn-line : s .at < length input → (command : Command) → command ≡ finished (s .reader) → (r : Answered) (h z o : List ℕ) → Did (outcome (g .runner .session) handles sizes command) r h z output o (g .written) → fed m (take (s .at + 1) input) ≡ machine (record { session = r .session; reader = begun }) h z (take (r .end) o)
+  turn-line k command c r h z o d =
+      let n = machine (g .runner) handles sizes (take (g .written) output) in
+      let k′ : g .taken + lineEnd (drop (g .taken) input) < length input = omega arith in
+      let line : fed m (take (s .at + 1) input) ≡ lineFed (reading n (s .reader)) = rw (at-is, reader-is) (past-the-newline m n input (g .taken) (omega arith) follows k′) in
+      let done : answerLine (n .run) (finished (s .reader)) ≡ record { session = r .session; handles = h; sizes = z; output = take (r .end) o } = rw (← c) (answered-is (g .runner .session) handles sizes command r h z output o (g .written) d) in
+      line ∙ ap (λ (run : Run). reading (record { run = run; reader = begun }) begun) done

@@ -67,11 +67,23 @@ fn bad_line(session: Session, out: &mut [u8], at: usize) -> Answered
     }
 }
 
-fn start_line(session: Session, target: u32, buffer: u32, slots: u32, out: &mut [u8], at: usize) -> Answered
+fn start_line(
+    session: Session,
+    target: u32,
+    buffer: u32,
+    slots: u32,
+    out: &mut [u8],
+    at: usize,
+) -> Answered
     requires { ⌜ at + 128 ≤ length (now out) ⌝ }
     ensures { λ r. ⌜ ((handles sizes : List ℕ) → Said (replied session (fresh (settingsOf target buffer slots) 0) handles sizes) r (now (out .entry)) (now (out .exit)) at) ⌝ }
 {
-    let made = State::fresh(Micros(target as u64), Bytes(buffer as u64), slots as u64, Micros(0));
+    let made = State::fresh(
+        Micros(target as u64),
+        Bytes(buffer as u64),
+        slots as u64,
+        Micros(0),
+    );
     let accepted = made.accepted;
     let state = made.state;
     let word = put_started(accepted, out, at);
@@ -98,7 +110,14 @@ fn tick_line(session: Session, clock: u64, out: &mut [u8], at: usize) -> Answere
     }
 }
 
-fn departure_line(session: Session, handles: &[u32], sizes: &[u32], clock: u64, out: &mut [u8], at: usize) -> Answered
+fn departure_line(
+    session: Session,
+    handles: &[u32],
+    sizes: &[u32],
+    clock: u64,
+    out: &mut [u8],
+    at: usize,
+) -> Answered
     requires { ⌜ at + 128 ≤ length (now out) ⌝ }
     ensures { λ r. ⌜ Said (replied session (departure (session .state) (take (session .state .settings .slots) (now (handles .entry))) (take (session .state .settings .slots) (now (sizes .entry))) clock) (now (handles .entry)) (now (sizes .entry))) r (now (out .entry)) (now (out .exit)) at ⌝ }
 {
@@ -192,7 +211,18 @@ fn later_line(
             size,
             ecn,
             u,
-        } => arrival_line(session, handles, sizes, clock, handle, size, ecn, u, out, at),
+        } => arrival_line(
+            session,
+            handles,
+            sizes,
+            clock,
+            handle,
+            size,
+            ecn,
+            u,
+            out,
+            at,
+        ),
         Command::Departure { clock } => departure_line(session, handles, sizes, clock, out, at),
         Command::Tick { clock } => tick_line(session, clock, out, at),
     }

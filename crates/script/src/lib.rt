@@ -3,7 +3,11 @@ use command::Reader;
 use queue::State;
 
 mod answering;
+mod feeding;
 
+pub use feeding::begin;
+pub use feeding::feed;
+pub use feeding::finish;
 
 pub enum Stage {
     // No line is answered.

@@ -35,7 +35,7 @@ same-length c = search needs
 
 -- src/answering.rt:201:1
 returns : tie.Need-returns
-returns c = 
+returns c =
     let a = c .before .before .before .before .before .before .before .before .before .args in
     rw (at-first (a .session) (a .handles .now) (a .sizes .now) (a .command) (c .before .before .before .before .enum-told .given .1))
     (record { said = c .before .before .first-line .ensures _ _; handles = first-handles _ _ _ _; sizes = first-sizes _ _ _ _ })
@@ -54,13 +54,13 @@ same-length-4 c = search needs
 
 -- src/answering.rt:201:1
 returns-2 : tie.Need-returns-2
-returns-2 c = 
+returns-2 c =
     let a = c .before .before .before .before .before .before .before .before .before .before .before .before .before .before .before .args in
     rw (at-running (a .session) (a .handles .now) (a .sizes .now) (a .command) (c .before .before .before .before .before .before .before .before .before .before .enum-told2 .given .1)) (c .before .before .before .before .before .before .later-line .ensures)
 
 -- src/answering.rt:201:1
 returns-3 : tie.Need-returns-3
-returns-3 c = 
+returns-3 c =
     let a = c .before .before .before .before .before .args in
     rw (at-ended (a .session) (a .handles .now) (a .sizes .now) (a .command) (c .enum-told3 .given .1))
     (record { said = record { session = refl; text = nothing-written _ _; short = omega arith }; handles = refl; sizes = refl })

@@ -68,7 +68,7 @@ same-length-3 c = search needs
 -- src/answering.rt:120:1
 returns : tie.Need-returns
 unfolding laterLine
-returns c = 
+returns c =
     let s = c .before .before .before .put-state in
     let w = c .before .before .before .before .before .before .before .put-arrival in
     let f = c .before .before .before .before .before .before .before .before .before .before .before .before .before .before .arrival in

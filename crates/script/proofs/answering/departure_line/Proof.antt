@@ -50,7 +50,7 @@ same-length c = search needs
 
 -- src/answering.rt:102:1
 returns : tie.Need-returns
-returns c = 
+returns c =
     let s = c .before .before .before .put-state in
     let w = c .before .before .before .before .before .before .before .put-departure in
     let f = c .before .before .before .before .before .before .before .before .before .before .departure in

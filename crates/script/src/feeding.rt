@@ -1,0 +1,188 @@
+// A script fed in pieces.
+use crate::Fed;
+use crate::Runner;
+use crate::Session;
+use crate::Stage;
+use crate::answering::answer;
+use command::Reader;
+use command::scan;
+use pie::Backlog;
+use pie::Pie;
+use pie::Rate;
+use queue::Settings;
+use queue::State;
+use units::Bytes;
+use units::Micros;
+use units::Prob;
+ghost use mathlib.Core.Path.{_≡_};
+ghost use mathlib.Core.Bool.{cond, not, true};
+ghost use mathlib.Core.List.{[]};
+ghost use Prim.Native.Nat.{_+_, _≤_, _<_};
+ghost use lib.Dec.{leb};
+ghost use lib.ListN.{length, take};
+ghost use Rattle.queue.specs.Fresh.{zeroState};
+ghost use Rattle.script.specs.Feeding.{endFed, hasEnded, machine, room, startRunner, stops};
+ghost use Rattle.script.specs.Turn.{Follows, Further};
+
+fn zero_state() -> State
+    ensures { λ r. ⌜ r ≡ zeroState ⌝ }
+{
+    let none = Micros(0);
+    let settings = Settings {
+        target: none,
+        buffer: Bytes(0),
+        slots: 0,
+    };
+    let rate = Rate {
+        average: none,
+        measuring: false,
+        start: none,
+        counted: Bytes(0),
+    };
+    let pie = Pie {
+        prob: Prob::NONE,
+        old: none,
+        allowance: none,
+        rate,
+    };
+    let backlog = Backlog {
+        count: 0,
+        bytes: Bytes(0),
+    };
+    State {
+        settings,
+        clock: none,
+        last: none,
+        pie,
+        backlog,
+        first: 0,
+        verdicts: [0, 0, 0, 0, 0],
+    }
+}
+
+// A runner at the start of a script.
+pub fn begin() -> Runner
+    ensures { λ r. ⌜ r ≡ startRunner ⌝ }
+{
+    let session = Session {
+        stage: Stage::First,
+        line: 1,
+        state: zero_state(),
+    };
+    Runner {
+        session,
+        reader: Reader::begin(),
+    }
+}
+
+fn has_ended(stage: Stage) -> bool
+    ensures { λ r. ⌜ r ≡ hasEnded stage ⌝ }
+{
+    match stage {
+        Stage::First => false,
+        Stage::Running => false,
+        Stage::Ended => true,
+    }
+}
+
+// Whether no more is to be taken.
+fn is_stopped(fed: Fed, input: usize, output: usize) -> bool
+    requires { ⌜ fed .written ≤ output ⌝ }
+    ensures { λ r. ⌜ r ≡ stops (fed .taken) input (fed .runner .session .stage) (fed .written) output ⌝ }
+{
+    let runner = fed.runner;
+    let session = runner.session;
+    let stage = session.stage;
+    let left = output - fed.written;
+    (fed.taken == input) | has_ended(stage) | (left < 128)
+}
+
+// Takes a line, or the rest of the input where that holds no newline.
+fn turn(fed: Fed, handles: &mut [u32], sizes: &mut [u32], input: &[u8], output: &mut [u8]) -> Fed
+    requires { ⌜ (fed .taken < length (now input)) × (fed .written + 128 ≤ length (now output)) ⌝ }
+    ensures { λ r. ⌜ Further (now (input .entry)) fed r (now (handles .entry)) (now (sizes .entry)) (now (output .entry)) (now (handles .exit)) (now (sizes .exit)) (now (output .exit)) ⌝ }
+{
+    let runner = fed.runner;
+    let session = runner.session;
+    let scanned = scan(runner.reader, input, fed.taken);
+    let reader = scanned.reader;
+    let at = scanned.at;
+    if at < input.len() {
+        let answered = answer(
+            session,
+            reader.finish(),
+            handles,
+            sizes,
+            output,
+            fed.written,
+        );
+        let session = answered.session;
+        return Fed {
+            runner: Runner {
+                session,
+                reader: Reader::begin(),
+            },
+            taken: at + 1,
+            written: answered.end,
+        };
+    }
+    Fed {
+        runner: Runner { session, reader },
+        taken: at,
+        written: fed.written,
+    }
+}
+
+// Takes input until it is used up, the run has ended or the output has no room for another line.
+pub fn feed(
+    runner: Runner,
+    handles: &mut [u32],
+    sizes: &mut [u32],
+    input: &[u8],
+    output: &mut [u8],
+) -> Fed
+    ensures { λ r. ⌜ Follows (machine runner (now (handles .entry)) (now (sizes .entry)) []) (now (input .entry)) r (now (handles .exit)) (now (sizes .exit)) (now (output .exit)) ⌝ }
+    ensures { λ r. ⌜ (r .taken ≤ length (now (input .entry))) × (r .written ≤ length (now (output .exit))) ⌝ }
+    ensures { λ r. ⌜ stops (r .taken) (length (now (input .entry))) (r .runner .session .stage) (r .written) (length (now (output .exit))) ≡ true ⌝ }
+{
+    let mut fed = Fed {
+        runner,
+        taken: 0,
+        written: 0,
+    };
+    while !is_stopped(fed, input.len(), output.len()) {
+        fed = turn(fed, handles, sizes, input, output);
+    }
+    fed
+}
+
+// The end of the input: a last line that lacks its newline is answered, given room for its output.
+pub fn finish(runner: Runner, handles: &mut [u32], sizes: &mut [u32], output: &mut [u8]) -> Fed
+    ensures { λ r. ⌜ machine (r .runner) (now (handles .exit)) (now (sizes .exit)) (take (r .written) (now (output .exit))) ≡ cond (leb room (length (now (output .entry)))) (endFed (machine runner (now (handles .entry)) (now (sizes .entry)) [])) (machine runner (now (handles .entry)) (now (sizes .entry)) []) ⌝ }
+    ensures { λ r. ⌜ (r .taken ≡ 0) × (r .written ≤ length (now (output .exit))) ⌝ }
+{
+    let none = Fed {
+        runner,
+        taken: 0,
+        written: 0,
+    };
+    if output.len() < 128 {
+        return none;
+    }
+    let reader = runner.reader;
+    let empty = reader.is_empty();
+    if empty {
+        return none;
+    }
+    let session = runner.session;
+    let answered = answer(session, reader.finish(), handles, sizes, output, 0);
+    let session = answered.session;
+    Fed {
+        runner: Runner {
+            session,
+            reader: Reader::begin(),
+        },
+        taken: 0,
+        written: answered.end,
+    }
+}
