@@ -85,6 +85,15 @@ fn has_ended(stage: Stage) -> bool
     }
 }
 
+// Whether a bad line has ended the run: what follows it need not be read.
+pub fn is_over(runner: Runner) -> bool
+    ensures { λ r. ⌜ r ≡ hasEnded (runner .session .stage) ⌝ }
+{
+    let session = runner.session;
+    let stage = session.stage;
+    has_ended(stage)
+}
+
 // Whether no more is to be taken.
 fn is_stopped(fed: Fed, input: usize, output: usize) -> bool
     requires { ⌜ fed .written ≤ output ⌝ }

@@ -8,6 +8,7 @@ mod feeding;
 pub use feeding::begin;
 pub use feeding::feed;
 pub use feeding::finish;
+pub use feeding::is_over;
 
 pub enum Stage {
     // No line is answered.
