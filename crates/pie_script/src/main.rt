@@ -13,7 +13,13 @@ struct Progress {
 }
 
 // Feeds input until the output has no room for more, and writes that.
-fn feed_some(begun: Runner, handles: &mut [u32], sizes: &mut [u32], input: &[u8], output: &mut [u8]) -> Progress
+fn feed_some(
+    begun: Runner,
+    handles: &mut [u32],
+    sizes: &mut [u32],
+    input: &[u8],
+    output: &mut [u8],
+) -> Progress
     ensures { λ r. ⌜ r .taken ≤ length (now (input .entry)) ⌝ }
 {
     let fed = script::feed(begun, handles, sizes, input, output);
@@ -29,7 +35,13 @@ fn feed_some(begun: Runner, handles: &mut [u32], sizes: &mut [u32], input: &[u8]
 }
 
 // Feeds a whole piece of input.
-fn feed_piece(begun: Runner, handles: &mut [u32], sizes: &mut [u32], input: &[u8], output: &mut [u8]) -> Progress {
+fn feed_piece(
+    begun: Runner,
+    handles: &mut [u32],
+    sizes: &mut [u32],
+    input: &[u8],
+    output: &mut [u8],
+) -> Progress {
     let mut runner = begun;
     let mut at = 0;
     while at < input.len() {
@@ -66,23 +78,38 @@ fn finish(runner: Runner, handles: &mut [u32], sizes: &mut [u32], output: &mut [
     io::write_all(STDOUT_FILENO, &output[..written]);
 }
 
+// Reads once, and feeds what came.
+fn read_piece(
+    runner: Runner,
+    handles: &mut [u32],
+    sizes: &mut [u32],
+    input: &mut [u8],
+    output: &mut [u8],
+) -> Progress {
+    let got = libc::read(STDIN_FILENO, input);
+    let n = io::count(got, input);
+    if n == 0 {
+        finish(runner, handles, sizes, output);
+        return Progress {
+            runner,
+            taken: 0,
+            goes_on: false,
+        };
+    }
+    feed_piece(runner, handles, sizes, &input[..n], output)
+}
+
 // A proved loop has to end, and nothing says that an input does. So the loop counts its turns
 // down, from a number that no run uses up.
 fn run(handles: &mut [u32], sizes: &mut [u32], input: &mut [u8], output: &mut [u8]) {
     let mut runner = script::begin();
     let mut turns = u64::MAX;
     while turns > 0 {
-        let got = libc::read(STDIN_FILENO, input);
-        let n = io::count(got, input);
-        if n == 0 {
-            finish(runner, handles, sizes, output);
+        let piece = read_piece(runner, handles, sizes, input, output);
+        if !piece.goes_on {
             return;
         }
-        let progress = feed_piece(runner, handles, sizes, &input[..n], output);
-        if !progress.goes_on {
-            return;
-        }
-        runner = progress.runner;
+        runner = piece.runner;
         turns -= 1;
     }
 }

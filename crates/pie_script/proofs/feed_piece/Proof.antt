@@ -54,7 +54,7 @@ returns c = search needs
 
 -- src/main.rt:46:9
 add-at : tie.Need-add-at Inv-loop μ-loop
-add-at c = 
+add-at c =
     let l = c .before .before .before .before .before .before .before .before .before .before .before .before .before .before .loop in
     let short = simp (length-take, length-drop) at (c .before .before .before .before .before .before .before .before .feed-some .ensures) in
     omega (arith, l, c .before .before .before .before .before .before .before .before .before .before .before .before .before .before .before .before .before .before .before)
@@ -77,14 +77,14 @@ returns-2 c = search needs
 
 -- src/main.rt:35:5
 loop-less : tie.Need-loop-less Inv-loop μ-loop
-loop-less c = 
+loop-less c =
     let l = c .before .before .before .before .before .before .before .before .before .before .before .before .before .before .before .before .loop in
     let short = simp (length-take, length-drop) at (c .before .before .before .before .before .before .before .before .before .before .feed-some .ensures) in
     omega (arith, l, c .before .before .before .if1 .left)
 
 -- src/main.rt:35:5
 loop-again : tie.Need-loop-again Inv-loop μ-loop
-loop-again c = 
+loop-again c =
     let l = c .before .before .before .before .before .before .before .before .before .before .before .before .before .before .before .before .loop in
     let short = simp (length-take, length-drop) at (c .before .before .before .before .before .before .before .before .before .before .feed-some .ensures) in
     (c .before .before .before .before .before .before .before .before .before .before .feed-some .kept .1 .0 ∙ c .before .before .before .before .before .before .before .before .before .before .before .before .before .before .before .before .loop .inv .0, c .before .before .before .before .before .before .before .before .before .before .feed-some .kept .1 .1 .0 ∙ c .before .before .before .before .before .before .before .before .before .before .before .before .before .before .before .before .loop .inv .1, c .before .before .before .before .before .before .before .before .before .before .feed-some .kept .1 .1 .1 .1 .0 ∙ c .before .before .before .before .before .before .before .before .before .before .before .before .before .before .before .before .loop .inv .2, omega (arith, l))
