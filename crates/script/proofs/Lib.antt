@@ -1,4 +1,4 @@
-pub mod WholeCase
+pub mod Computed
 pub mod Lent
 pub mod Stages
 pub mod Turns

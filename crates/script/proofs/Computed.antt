@@ -1,4 +1,4 @@
--- Document 01's whole case, computed.
+-- The cases, computed.
 use mathlib.Core.Path.{refl}
 use Rattle.decimal.specs.Digits.{digitsOf, spelled}
 use Rattle.command.specs.Forms.{commandOf}
@@ -15,10 +15,10 @@ use Rattle.queue.specs.Refusals.{headRefused}
 use Rattle.queue.specs.State.{wellFormed}
 use Rattle.queue.specs.Tick.{tick, tickRefusal, tickedState}
 use Rattle.script.specs.Answering.{firstLine, laterLine, outcome}
-use Rattle.script.specs.Example.{WholeCase}
+use Rattle.script.specs.Example.{CasesHold}
 use Rattle.script.specs.Lines.{linesOf}
 use Rattle.script.specs.Script.{answerLine, script}
 
-pub whole-case : WholeCase
+pub cases-hold : CasesHold
 unfolding digitsOf spelled commandOf readLine wordsOf averageOf rateAfter sampleOf dropDecision decayed delayOf divisorOf errorOf limited lookup nextAllowance nextProb stepOf updated raised arrival arrivalRefusal arrivedState verdictOf departedState departure departureRefusal fresh headRefused wellFormed tick tickRefusal tickedState firstLine laterLine outcome linesOf answerLine script
-whole-case = refl
+cases-hold = (refl, (refl, (refl, (refl, (refl, (refl, (refl, (refl, (refl, (refl, (refl, (refl, (refl, (refl, (refl, (refl, (refl, (refl, (refl, (refl, (refl, (refl, (refl, (refl, (refl, (refl, (refl, (refl, (refl, (refl, (refl, (refl, (refl, (refl, tt))))))))))))))))))))))))))))))))))
