@@ -5,7 +5,7 @@ use Prim.Native.Nat.{ℕ, _≤_}
 use native.Mathlib.Omega.{arith}
 use borrow.Author.Tests.{leb-true, ne-eqb}
 use lib.Dec.{eqb, leb}
-use Rattle.decimal.specs.Digits.{isDigit}
+use Rattle.command.specs.Numbers.{isDigit}
 use Rattle.command.specs.Forms.{word}
 use Rattle.command.specs.declared.Reader.{Reader}
 

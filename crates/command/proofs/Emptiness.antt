@@ -4,7 +4,7 @@ use mathlib.Core.Bool.{Bool, true, false, cond}
 use mathlib.Core.List.{List, [], _∷_, foldl}
 use Prim.Native.Nat.{ℕ, _+_}
 use lib.Dec.{eqb, leb, ltb}
-use Rattle.decimal.specs.Digits.{extended, isDigit}
+use Rattle.command.specs.Numbers.{extended, isDigit}
 use Rattle.command.specs.Forms.{doubleWord}
 use Rattle.command.specs.Reader.{afterDigits, afterGap, afterLetter, afterStart, begun, digitRead, fieldRead, inPhase, isEmpty, moved, pushed, reader, spoiled}
 use Rattle.command.specs.declared.Phase.{Phase}

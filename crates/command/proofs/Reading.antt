@@ -7,7 +7,7 @@ use native.Mathlib.Omega.{arith}
 use borrow.Author.Tests.{leb-false, leb-true, ltb-false, ltb-true}
 use lib.Dec.{eqb, leb, ltb}
 use lib.ListN.{drop, length, length-append, length-drop}
-use Rattle.decimal.specs.Digits.{areDigits, extended, isDigit, isNumber, valueOf}
+use Rattle.command.specs.Numbers.{areDigits, extended, isDigit, isNumber, valueOf}
 use Rattle.command.specs.Words.{Words, parted, wordsOf}
 use Rattle.command.specs.Forms.{commandOf, doubleWord}
 use Rattle.command.specs.Line.{areNumbers, fieldsRead, readLine, wordsRead}

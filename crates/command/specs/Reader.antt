@@ -4,7 +4,7 @@ use mathlib.Core.List.{List, [], _∷_}
 use Prim.Native.Nat.{ℕ, _+_, _-_}
 use lib.Dec.{leb, ltb, eqb}
 use lib.ListN.{drop}
-use Rattle.decimal.specs.Digits.{extended, isDigit}
+use Rattle.command.specs.Numbers.{extended, isDigit}
 use Rattle.command.specs.Forms.{commandOf, doubleWord}
 use Rattle.command.specs.declared.Command.{Command}
 use Rattle.command.specs.declared.Command.the-variants.{Bad}

@@ -3,7 +3,7 @@ use crate::Phase;
 use crate::Reader;
 ghost use mathlib.Core.Path.{_≡_};
 ghost use mathlib.Core.Bool.{true};
-ghost use Rattle.decimal.specs.Digits.{extended, isDigit};
+ghost use Rattle.command.specs.Numbers.{extended, isDigit};
 ghost use Rattle.command.specs.Reader.{afterDigits, afterGap, afterLetter, afterStart, begun, digitRead, fieldRead, isEmpty, pushed, spoiled};
 
 impl Reader {
@@ -53,8 +53,8 @@ impl Reader {
     fn letter(self, byte: u8) -> Reader
         ensures { λ r. ⌜ r ≡ afterLetter self byte ⌝ }
     {
-        let space = byte == 32;
-        if space {
+        let apart = byte == 32;
+        if apart {
             return Reader {
                 phase: Phase::Gap,
                 ..self
@@ -66,8 +66,8 @@ impl Reader {
     fn gap(self, byte: u8) -> Reader
         ensures { λ r. ⌜ r ≡ afterGap self byte ⌝ }
     {
-        let digit = (48 <= byte) & (byte <= 57);
-        if digit {
+        let first = (48 <= byte) & (byte <= 57);
+        if first {
             let value = byte as u64 - 48;
             return Reader {
                 phase: Phase::Digits,
@@ -122,8 +122,8 @@ impl Reader {
         if digit {
             return self.digit(byte);
         }
-        let space = byte == 32;
-        if space {
+        let ends = byte == 32;
+        if ends {
             return self.field();
         }
         self.spoil()

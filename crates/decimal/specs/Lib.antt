@@ -1,3 +1,3 @@
--- Decimal numbers as ASCII text, and what it means that text was written.
+-- The decimal digits of a number, and what it means that text was written.
 pub mod Digits
 pub mod Written
