@@ -133,6 +133,6 @@ pub fn put_bad(line: u64, out: &mut [u8], at: usize) -> usize
     ensures { λ r. ⌜ r ≤ at + 30 ⌝ }
 {
     let number = put(b"bad line ", out, at);
-    let end = put_number(line, out, number);
-    put(b"\n", out, end)
+    let past = put_number(line, out, number);
+    put(b"\n", out, past)
 }

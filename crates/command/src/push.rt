@@ -56,7 +56,7 @@ impl Reader {
         let apart = byte == 32;
         if apart {
             return Reader {
-                phase: Phase::Gap,
+                phase: Phase::Gap, // the first field follows
                 ..self
             };
         }
@@ -102,7 +102,7 @@ impl Reader {
         let another = self.count < 4;
         if another {
             return Reader {
-                phase: Phase::Gap,
+                phase: Phase::Gap, // another field follows
                 letter: self.letter,
                 count: self.count + 1,
                 first: self.second,
