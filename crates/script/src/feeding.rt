@@ -22,7 +22,7 @@ ghost use lib.Dec.{leb};
 ghost use lib.ListN.{length, take};
 ghost use Rattle.queue.specs.Fresh.{zeroState};
 ghost use Rattle.script.specs.Feeding.{endFed, hasEnded, machine, room, startRunner, stops};
-ghost use Rattle.script.specs.Turn.{Follows, Further};
+ghost use Rattle.script.specs.Turn.{Follows};
 
 fn zero_state() -> State
     ensures { λ r. ⌜ r ≡ zeroState ⌝ }
@@ -95,54 +95,17 @@ pub fn is_over(runner: Runner) -> bool
 }
 
 // Whether no more is to be taken.
-fn is_stopped(fed: Fed, input: usize, output: usize) -> bool
-    requires { ⌜ fed .written ≤ output ⌝ }
-    ensures { λ r. ⌜ r ≡ stops (fed .taken) input (fed .runner .session .stage) (fed .written) output ⌝ }
+fn is_stopped(session: Session, taken: usize, input: usize, written: usize, output: usize) -> bool
+    requires { ⌜ written ≤ output ⌝ }
+    ensures { λ r. ⌜ r ≡ stops taken input (session .stage) written output ⌝ }
 {
-    let runner = fed.runner;
-    let session = runner.session;
     let stage = session.stage;
-    let left = output - fed.written;
-    (fed.taken == input) | has_ended(stage) | (left < 128)
-}
-
-// Takes a line, or the rest of the input where that holds no newline.
-fn turn(fed: Fed, handles: &mut [u32], sizes: &mut [u32], input: &[u8], output: &mut [u8]) -> Fed
-    requires { ⌜ (fed .taken < length (now input)) × (fed .written + 128 ≤ length (now output)) ⌝ }
-    ensures { λ r. ⌜ Further (now (input .entry)) fed r (now (handles .entry)) (now (sizes .entry)) (now (output .entry)) (now (handles .exit)) (now (sizes .exit)) (now (output .exit)) ⌝ }
-{
-    let runner = fed.runner;
-    let session = runner.session;
-    let scanned = scan(runner.reader, input, fed.taken);
-    let reader = scanned.reader;
-    let at = scanned.at;
-    if at < input.len() {
-        let answered = answer(
-            session,
-            reader.finish(),
-            handles,
-            sizes,
-            output,
-            fed.written,
-        );
-        let session = answered.session;
-        return Fed {
-            runner: Runner {
-                session,
-                reader: Reader::begin(),
-            },
-            taken: at + 1,
-            written: answered.end,
-        };
-    }
-    Fed {
-        runner: Runner { session, reader },
-        taken: at,
-        written: fed.written,
-    }
+    let left = output - written;
+    (taken == input) | has_ended(stage) | (left < 128)
 }
 
 // Takes input until it is used up, the run has ended or the output has no room for another line.
+// A turn takes a line, or the rest of the input where that holds no newline.
 pub fn feed(
     runner: Runner,
     handles: &mut [u32],
@@ -154,15 +117,27 @@ pub fn feed(
     ensures { λ r. ⌜ (r .taken ≤ length (now (input .entry))) × (r .written ≤ length (now (output .exit))) ⌝ }
     ensures { λ r. ⌜ stops (r .taken) (length (now (input .entry))) (r .runner .session .stage) (r .written) (length (now (output .exit))) ≡ true ⌝ }
 {
-    let mut fed = Fed {
-        runner,
-        taken: 0,
-        written: 0,
-    };
-    while !is_stopped(fed, input.len(), output.len()) {
-        fed = turn(fed, handles, sizes, input, output);
+    let mut session = runner.session;
+    let mut reader = runner.reader;
+    let mut taken = 0;
+    let mut written = 0;
+    while !is_stopped(session, taken, input.len(), written, output.len()) {
+        let scanned = scan(reader, input, taken);
+        reader = scanned.reader;
+        taken = scanned.at;
+        if taken < input.len() {
+            let answered = answer(session, reader.finish(), handles, sizes, output, written);
+            session = answered.session;
+            reader = Reader::begin();
+            taken += 1;
+            written = answered.end;
+        }
     }
-    fed
+    Fed {
+        runner: Runner { session, reader },
+        taken,
+        written,
+    }
 }
 
 // The end of the input: a last line that lacks its newline is answered, given room for its output.
