@@ -1,9 +1,8 @@
 -- Text that was written behind text.
-use mathlib.Core.Path.{_≡_}
 use mathlib.Core.List.{List, _++_, append-assoc}
 use Prim.Native.Nat.{ℕ, _+_}
 use native.Mathlib.Omega.{arith}
-use lib.ListN.{length, length-append}
+use lib.ListN.{length-append}
 use Rattle.decimal.specs.Written.{Wrote}
 
 pub then : (b m a : List ℕ) (at mid end : ℕ) (s t : List ℕ) → Wrote b m at mid s → Wrote m a mid end t → Wrote b a at end (s ++ t)

@@ -1,12 +1,11 @@
 -- Where a line ends, from the byte at a place on.
 use mathlib.Core.Path.{_≡_, refl, ap, _∙_}
-use mathlib.Core.Bool.{Bool, true, false}
-use mathlib.Core.List.{List, [], _∷_}
+use mathlib.Core.Bool.{true}
+use mathlib.Core.List.{List}
 use Prim.Native.Nat.{ℕ, suc, _+_, _≤_, _<_}
 use native.Mathlib.Omega.{arith}
 use native.Mathlib.Numerals.{add-one}
-use borrow.Author.Tests.{eq-eqb, le-leb, leb-true, ne-eqb}
-use lib.Dec.{leb}
+use borrow.Author.Tests.{eq-eqb, le-leb, ne-eqb}
 use lib.ListN.{drop, drop-of-length-le, getD, length}
 use lib.Seq.{drop-cons}
 use Rattle.command.specs.Reader.{afterDigits, inPhase, moved, pushed}
@@ -17,7 +16,7 @@ use Rattle.command.specs.declared.Phase.{Phase}
 use Rattle.command.specs.declared.Phase.the-variants.{Digits}
 use Rattle.command.specs.declared.Reader.{Reader}
 use Rattle.command.specs.declared.Scanned.{Scanned}
-use Rattle.command.proofs.Bytes.{digit-low, digit-no-space}
+use Rattle.command.proofs.Bytes.{digit-low}
 
 module _ (bytes : List ℕ) (i : ℕ) (r : Reader) where
   pub end-at-newline : i < length bytes → getD bytes i 0 ≡ 10 → lineEnd (drop i bytes) ≡ 0

@@ -2,21 +2,20 @@
 use mathlib.Core.Path.{_≡_, refl, sym, ap, _∙_}
 use mathlib.Core.Bool.{Bool, true, false, cond, _&&_}
 use mathlib.Core.List.{List, [], _∷_, _++_, append-assoc, foldl, map}
-use Prim.Native.Nat.{ℕ, zero, suc, _+_, _-_, _*_, _≤_, _<_}
+use Prim.Native.Nat.{ℕ, zero, suc, _+_, _-_, _≤_, _<_}
 use native.Mathlib.Omega.{arith}
-use borrow.Author.Tests.{leb-false, leb-true, ltb-false, ltb-true}
+use borrow.Author.Tests.{leb-false, ltb-false, ltb-true}
 use lib.Dec.{eqb, leb, ltb}
 use lib.ListN.{drop, length, length-append, length-drop}
 use Rattle.command.specs.Numbers.{areDigits, extended, isDigit, isNumber, valueOf}
 use Rattle.command.specs.Words.{Words, parted, wordsOf}
 use Rattle.command.specs.Forms.{commandOf, doubleWord}
-use Rattle.command.specs.Line.{areNumbers, fieldsRead, readLine, wordsRead}
+use Rattle.command.specs.Line.{areNumbers, readLine, wordsRead}
 use Rattle.command.specs.Incremental.{ReadsLines}
 use Rattle.command.specs.Reader.{afterDigits, afterGap, afterLetter, afterStart, begun, finished, pushed, reader}
 use Rattle.command.specs.declared.Command.{Command}
 use Rattle.command.specs.declared.Command.the-variants.{Bad}
-use Rattle.command.specs.declared.Phase.the-variants.{Start, Letter, Gap, Digits, Spoiled}
-use Rattle.command.specs.declared.Reader.{Reader}
+use Rattle.command.specs.declared.Phase.the-variants.{Letter, Gap, Digits, Spoiled}
 use Rattle.command.proofs.NoForm.{both-bad, too-few, too-large, too-many}
 use Rattle.command.proofs.Bytes.{digit-no-space}
 

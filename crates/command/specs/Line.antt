@@ -3,7 +3,7 @@ use mathlib.Core.Bool.{Bool, true, cond, _&&_}
 use mathlib.Core.List.{List, [], _∷_, map}
 use Prim.Native.Nat.{ℕ}
 use Rattle.command.specs.Numbers.{isNumber, valueOf}
-use Rattle.command.specs.Words.{Words, wordsOf}
+use Rattle.command.specs.Words.{wordsOf}
 use Rattle.command.specs.Forms.{commandOf}
 use Rattle.command.specs.declared.Command.{Command}
 use Rattle.command.specs.declared.Command.the-variants.{Bad}

@@ -3,12 +3,10 @@ use mathlib.Core.Path.{_≡_, refl, sym, ap, _∙_}
 use mathlib.Core.Bool.{Bool, true, false, cond, false≢true}
 use mathlib.Core.List.{List, [], _∷_, _++_, append-assoc, append-nil, foldl, foldl-append, map}
 use Prim.Native.Nat.{ℕ}
-use borrow.Author.Tests.{eqb-true}
 use lib.Dec.{eqb}
 use Rattle.command.specs.Line.{readLine}
 use Rattle.command.specs.Reader.{begun, finished, isEmpty, pushed}
 use Rattle.command.specs.declared.Command.{Command}
-use Rattle.command.specs.declared.Reader.{Reader}
 use Rattle.command.proofs.Emptiness.{not-empty}
 use Rattle.command.proofs.Reading.{reads-lines}
 use Rattle.script.specs.Feeding.{Machine, byteFed, endFed, fed, hasEnded, lineFed}
@@ -18,7 +16,7 @@ use Rattle.script.specs.Script.{Run, answerLine, script, startRun}
 use Rattle.script.specs.declared.Stage.{Stage}
 use Rattle.script.specs.declared.Stage.the-variants.{First, Running, Ended}
 use Rattle.script.proofs.Stages.{at-ended}
-use Rattle.script.proofs.Turns.{byte-read, fed-append}
+use Rattle.script.proofs.Turns.{fed-append}
 
 -- ── bytes and lines ──
 

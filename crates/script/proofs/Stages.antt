@@ -6,7 +6,7 @@ use native.Mathlib.Omega.{arith}
 use Rattle.decimal.specs.Written.{Wrote}
 use Rattle.command.specs.declared.Command.{Command}
 use Rattle.command.specs.declared.Command.the-variants.{Bad, Configure, Arrival, Departure, Tick}
-use Rattle.script.specs.Answering.{Outcome, atStage, firstLine, laterLine, outcome}
+use Rattle.script.specs.Answering.{atStage, firstLine, laterLine, outcome}
 use Rattle.script.specs.declared.Session.{Session}
 use Rattle.script.specs.declared.Stage.{Stage}
 use Rattle.script.specs.declared.Stage.the-variants.{First, Running, Ended}

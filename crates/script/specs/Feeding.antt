@@ -1,13 +1,12 @@
 -- The runner's own steps, a byte at a time.
 use mathlib.Core.Bool.{Bool, true, false, cond, _||_}
-use mathlib.Core.List.{List, [], foldl}
+use mathlib.Core.List.{List, foldl}
 use Prim.Native.Nat.{ℕ, _-_}
 use lib.Dec.{eqb, ltb}
 use Rattle.command.specs.Reader.{begun, finished, isEmpty, pushed}
 use Rattle.command.specs.declared.Reader.{Reader}
 use Rattle.script.specs.Script.{Run, answerLine, startSession}
 use Rattle.script.specs.declared.Runner.{Runner}
-use Rattle.script.specs.declared.Session.{Session}
 use Rattle.script.specs.declared.Stage.{Stage}
 use Rattle.script.specs.declared.Stage.the-variants.{First, Running, Ended}
 

@@ -5,7 +5,6 @@ use mathlib.Core.List.{List, [], _∷_, _++_}
 use Prim.Native.Nat.{ℕ}
 use Rattle.script.specs.Script.{noPackets, script}
 use Rattle.script.specs.Feeding.{Machine, endFed, fed, hasEnded, machine, startRunner}
-use Rattle.script.specs.declared.Runner.{Runner}
 
 abbrev pub start : Machine
 start = machine startRunner noPackets noPackets []

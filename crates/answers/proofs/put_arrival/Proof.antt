@@ -1,40 +1,29 @@
+-- `put_arrival`: by the answer.
 use borrow.Author.Needs.{needs}
 use Rattle.answers.proofs.put_arrival.Statement.{statement}
 use Rattle.answers.proofs.put_arrival.Tie as tie
-use Rattle.answers.proofs.put_arrival.Reads as reads
-use Rattle.answers.proofs.put_arrival.Lts as lts
-use Rattle.answers.proofs.put_refused.Reads as put-refused-reads
-use Rattle.answers.proofs.put_verdict.Reads as put-verdict-reads
 
--- src/lib.rt:74:32
 enum-known-answer : tie.Need-enum-known-answer
 enum-known-answer c = search needs
 
--- src/lib.rt:74:38
 put-verdict-requires : tie.Need-put-verdict-requires
 put-verdict-requires c κs = search needs
 
--- src/lib.rt:75:32
 enum-known-answer-2 : tie.Need-enum-known-answer-2
 enum-known-answer-2 c = search needs
 
--- src/lib.rt:75:44
 put-refused-requires : tie.Need-put-refused-requires
 put-refused-requires c κs = search needs
 
--- src/lib.rt:68:1
 same-length : tie.Need-same-length
 same-length c = search needs
 
--- src/lib.rt:68:1
 returns : tie.Need-returns
 returns c = rw (c .before .before .before .before .before .answer .given .1) (c .before .before .put-verdict .ensures)
 
--- src/lib.rt:68:1
 same-length-2 : tie.Need-same-length-2
 same-length-2 c = search needs
 
--- src/lib.rt:68:1
 returns-2 : tie.Need-returns-2
 returns-2 c = rw (c .before .before .before .before .before .answer2 .given .1) (c .before .before .put-refused .ensures)
 

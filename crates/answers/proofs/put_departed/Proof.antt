@@ -1,30 +1,22 @@
+-- `put_departed`: the word and then the handle.
 use native.Mathlib.Omega.{arith}
 use Rattle.answers.proofs.Joins.{then}
 use borrow.Author.Needs.{needs}
 use Rattle.answers.proofs.put_departed.Statement.{statement}
 use Rattle.answers.proofs.put_departed.Tie as tie
-use Rattle.answers.proofs.put_departed.Reads as reads
-use Rattle.answers.proofs.put_departed.Lts as lts
-use Rattle.decimal.proofs.put.Reads as put-reads
-use Rattle.decimal.proofs.put_number.Reads as put-number-reads
 
--- src/lib.rt:84:19
 slice-aggregate-put : tie.Need-slice-aggregate-put
 slice-aggregate-put c = search needs
 
--- src/lib.rt:84:9
 put-requires : tie.Need-put-requires
 put-requires c κs = search needs
 
--- src/lib.rt:85:5
 put-number-requires : tie.Need-put-number-requires
 put-number-requires c κs = search needs
 
--- src/lib.rt:79:1
 same-length : tie.Need-same-length
 same-length c = search needs
 
--- src/lib.rt:79:1
 returns : tie.Need-returns
 returns c =
     let n = c .before .before .put-number in

@@ -1,40 +1,29 @@
+-- `put_departure`: by the answer.
 use borrow.Author.Needs.{needs}
 use Rattle.answers.proofs.put_departure.Statement.{statement}
 use Rattle.answers.proofs.put_departure.Tie as tie
-use Rattle.answers.proofs.put_departure.Reads as reads
-use Rattle.answers.proofs.put_departure.Lts as lts
-use Rattle.answers.proofs.put_departed.Reads as put-departed-reads
-use Rattle.answers.proofs.put_refused.Reads as put-refused-reads
 
--- src/lib.rt:94:47
 enum-told : tie.Need-enum-told
 enum-told c = search needs
 
--- src/lib.rt:94:26
 put-departed-requires : tie.Need-put-departed-requires
 put-departed-requires c κs = search needs
 
--- src/lib.rt:95:22
 enum-known-accepted : tie.Need-enum-known-accepted
 enum-known-accepted c = search needs
 
--- src/lib.rt:95:34
 put-refused-requires : tie.Need-put-refused-requires
 put-refused-requires c κs = search needs
 
--- src/lib.rt:88:1
 same-length : tie.Need-same-length
 same-length c = search needs
 
--- src/lib.rt:88:1
 returns : tie.Need-returns
 returns c = (λ size. rw (c .before .before .before .before .enum-told .given .1) (c .before .before .put-departed .ensures .0), c .before .before .put-departed .ensures .1)
 
--- src/lib.rt:88:1
 same-length-2 : tie.Need-same-length-2
 same-length-2 c = search needs
 
--- src/lib.rt:88:1
 returns-2 : tie.Need-returns-2
 returns-2 c = (λ size. rw (c .before .before .before .before .before .accepted .given .1) (c .before .before .put-refused .ensures .0), c .before .before .put-refused .ensures .1)
 

@@ -1,3 +1,4 @@
+-- `put`: what is written so far is what stood before and the text's first bytes.
 use mathlib.Core.Path.{_≡_, refl}
 use mathlib.Core.List.{_++_, append-nil}
 use Prim.Native.Nat.{_+_, _-_, _≤_}
@@ -8,8 +9,6 @@ use lib.Seq.{take-all}
 use Rattle.decimal.proofs.Lists.{put-one}
 use Rattle.decimal.proofs.put.Statement.{statement}
 use Rattle.decimal.proofs.put.Tie as tie
-use Rattle.decimal.proofs.put.Reads as reads
-use Rattle.decimal.proofs.put.Lts as lts
 
 abbrev Inv-loop : tie.InvT-loop
 Inv-loop text out₀ at i₀ out i =
@@ -18,31 +17,24 @@ Inv-loop text out₀ at i₀ out i =
 abbrev μ-loop : tie.MeasureT-loop
 μ-loop text out₀ at i₀ out i = length text - i
 
--- src/lib.rt:14:5
 loop-holds : tie.Need-loop-holds Inv-loop μ-loop
 loop-holds c = (omega arith, refl, rw (add-zero, append-nil))
 
--- src/lib.rt:15:23
 shared-slice-read-out : tie.Need-shared-slice-read-out Inv-loop μ-loop
 shared-slice-read-out c = omega arith
 
--- src/lib.rt:15:13
 add-out : tie.Need-add-out Inv-loop μ-loop
 add-out c = omega arith
 
--- src/lib.rt:15:9
 slice-write-out : tie.Need-slice-write-out Inv-loop μ-loop
 slice-write-out c = omega arith
 
--- src/lib.rt:16:9
 add-i : tie.Need-add-i Inv-loop μ-loop
 add-i c = omega arith
 
--- src/lib.rt:14:5
 loop-less : tie.Need-loop-less Inv-loop μ-loop
 loop-less c = omega arith
 
--- src/lib.rt:14:5
 loop-again : tie.Need-loop-again Inv-loop μ-loop
 loop-again c = (
   omega arith,
@@ -52,15 +44,12 @@ loop-again c = (
       put-one (l .out) (a .out .now) (a .text .now) (a .at) (l .i) (omega arith) (omega arith) (l .inv .2),
 )
 
--- src/lib.rt:18:5
 add-result : tie.Need-add-result Inv-loop μ-loop
 add-result c = omega arith
 
--- src/lib.rt:9:1
 same-length : tie.Need-same-length Inv-loop μ-loop
 same-length c = omega arith
 
--- src/lib.rt:9:1
 returns : tie.Need-returns Inv-loop μ-loop
 returns c = record { count = omega arith; bytes = rw (take-all (c .before .loop .i) (c .before .before .args .text .now) (c .loop-test .left)) at (c .before .loop .inv .2) }
 

@@ -1,3 +1,4 @@
+-- `put_number`: the whole tail of the spelling is put.
 use borrow.Author.Needs.{needs}
 use Prim.Native.Nat.{_-_, _≤_}
 use native.Mathlib.Omega.{arith}
@@ -6,36 +7,25 @@ use lib.Seq.{take-all}
 use Rattle.decimal.proofs.Places.{digits-length}
 use Rattle.decimal.proofs.put_number.Statement.{statement}
 use Rattle.decimal.proofs.put_number.Tie as tie
-use Rattle.decimal.proofs.put_number.Reads as reads
-use Rattle.decimal.proofs.put_number.Lts as lts
-use Rattle.decimal.proofs.put.Reads as put-reads
-use Rattle.decimal.proofs.spell.Reads as spell-reads
 
--- src/lib.rt:49:9
 spell-requires : tie.Need-spell-requires
 spell-requires c κs = search needs
 
--- src/lib.rt:52:9
 sub-put : tie.Need-sub-put
 sub-put c = search needs
 
--- src/lib.rt:52:9
 part-put-start : tie.Need-part-put-start
 part-put-start c = search needs
 
--- src/lib.rt:52:9
 part-put-end : tie.Need-part-put-end
 part-put-end c = omega arith
 
--- src/lib.rt:52:5
 put-requires : tie.Need-put-requires
 put-requires c κs = search needs
 
--- src/lib.rt:45:1
 same-length : tie.Need-same-length
 same-length c = search needs
 
--- src/lib.rt:45:1
 returns : tie.Need-returns
 returns c =
     let w = c .before .before .put .ensures in

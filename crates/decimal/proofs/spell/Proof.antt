@@ -1,3 +1,4 @@
+-- `spell`: the digits that stand, with those of the rest in front, are the number's.
 use mathlib.Core.Path.{_≡_, refl}
 use Prim.Native.Nat.{_≤_}
 use native.Mathlib.Omega.{arith}
@@ -6,8 +7,6 @@ use Rattle.decimal.specs.Digits.{digitsOf, spelled}
 use Rattle.decimal.proofs.Places.{spell-last, spell-next, spelled-all}
 use Rattle.decimal.proofs.spell.Statement.{statement}
 use Rattle.decimal.proofs.spell.Tie as tie
-use Rattle.decimal.proofs.spell.Reads as reads
-use Rattle.decimal.proofs.spell.Lts as lts
 
 abbrev Inv-loop : tie.InvT-loop
 Inv-loop n text₀ from₀ rest₀ text from rest =
@@ -16,44 +15,35 @@ Inv-loop n text₀ from₀ rest₀ text from rest =
 abbrev μ-loop : tie.MeasureT-loop
 μ-loop n text₀ from₀ rest₀ text from rest = from
 
--- src/lib.rt:33:5
 loop-holds : tie.Need-loop-holds Inv-loop μ-loop
 unfolding digitsOf
 loop-holds c = (omega arith, refl, refl)
 
--- src/lib.rt:34:9
 sub-from : tie.Need-sub-from Inv-loop μ-loop
 sub-from c = omega arith
 
--- src/lib.rt:35:27
 cast-text : tie.Need-cast-text Inv-loop μ-loop
 cast-text c = omega arith
 
--- src/lib.rt:35:22
 add-text : tie.Need-add-text Inv-loop μ-loop
 add-text c = omega arith
 
--- src/lib.rt:35:9
 array-write-text : tie.Need-array-write-text Inv-loop μ-loop
 array-write-text c = omega arith
 
--- src/lib.rt:37:13
 returns : tie.Need-returns Inv-loop μ-loop
 returns c =
     let l = c .before .before .loop in
     (omega arith, simp length-set (omega arith), spell-last (l .from) (l .rest) (l .text) _ (omega arith) (omega arith) (omega arith) (l .inv .2))
 
--- src/lib.rt:33:5
 loop-less : tie.Need-loop-less Inv-loop μ-loop
 loop-less c = omega arith
 
--- src/lib.rt:33:5
 loop-again : tie.Need-loop-again Inv-loop μ-loop
 loop-again c =
     let l = c .before .before .loop in
     (omega arith, simp length-set (omega arith), spell-next (l .from) (l .rest) (l .text) _ (omega arith) (omega arith) (omega arith) (l .inv .2))
 
--- src/lib.rt:27:1
 returns-2 : tie.Need-returns-2 Inv-loop μ-loop
 unfolding spelled
 returns-2 c =

@@ -1,3 +1,4 @@
+-- `feed_piece`: the place in the piece rises with each turn.
 use mathlib.Core.Path.{_≡_, refl, _∙_}
 use Prim.Native.Nat.{_-_, _≤_}
 use native.Mathlib.Omega.{arith}
@@ -5,9 +6,6 @@ use borrow.Author.Needs.{needs}
 use lib.ListN.{length, length-drop, length-take}
 use Rattle.pie_script.proofs.feed_piece.Statement.{statement}
 use Rattle.pie_script.proofs.feed_piece.Tie as tie
-use Rattle.pie_script.proofs.feed_piece.Reads as reads
-use Rattle.pie_script.proofs.feed_piece.Lts as lts
-use Rattle.pie_script.proofs.feed_some.Reads as feed-some-reads
 
 abbrev Inv-loop : tie.InvT-loop
 Inv-loop handles₀ sizes₀ input output₀ runner₀ at₀ handles sizes output runner at =
@@ -16,92 +14,72 @@ Inv-loop handles₀ sizes₀ input output₀ runner₀ at₀ handles sizes outpu
 abbrev μ-loop : tie.MeasureT-loop
 μ-loop handles₀ sizes₀ input output₀ runner₀ at₀ handles sizes output runner at = length input - at
 
--- src/main.rt:35:5
 loop-holds : tie.Need-loop-holds Inv-loop μ-loop
 loop-holds c = (refl, refl, refl, omega arith)
 
--- src/main.rt:36:54
 sub-feed-some : tie.Need-sub-feed-some Inv-loop μ-loop
 sub-feed-some c = omega arith
 
--- src/main.rt:36:54
 part-feed-some-start : tie.Need-part-feed-some-start Inv-loop μ-loop
 part-feed-some-start c = omega arith
 
--- src/main.rt:36:54
 part-feed-some-end : tie.Need-part-feed-some-end Inv-loop μ-loop
 part-feed-some-end c = omega arith
 
--- src/main.rt:36:13
 feed-some-requires : tie.Need-feed-some-requires Inv-loop μ-loop
 feed-some-requires c κs = search needs
 
--- src/main.rt:39:13
 same-length : tie.Need-same-length Inv-loop μ-loop
 same-length c = c .before .before .before .before .before .before .before .feed-some .kept .1 .0 ∙ c .before .before .before .before .before .before .before .before .before .before .before .before .before .loop .inv .0
 
--- src/main.rt:39:13
 same-length-2 : tie.Need-same-length-2 Inv-loop μ-loop
 same-length-2 c = c .before .before .before .before .before .before .before .feed-some .kept .1 .1 .0 ∙ c .before .before .before .before .before .before .before .before .before .before .before .before .before .loop .inv .1
 
--- src/main.rt:39:13
 same-length-3 : tie.Need-same-length-3 Inv-loop μ-loop
 same-length-3 c = c .before .before .before .before .before .before .before .feed-some .kept .1 .1 .1 .1 .0 ∙ c .before .before .before .before .before .before .before .before .before .before .before .before .before .loop .inv .2
 
--- src/main.rt:39:13
 returns : tie.Need-returns Inv-loop μ-loop
 returns c = search needs
 
--- src/main.rt:46:9
 add-at : tie.Need-add-at Inv-loop μ-loop
 add-at c =
     let l = c .before .before .before .before .before .before .before .before .before .before .before .before .before .before .loop in
     let short = simp (length-take, length-drop) at (c .before .before .before .before .before .before .before .before .feed-some .ensures) in
     omega (arith, l, c .before .before .before .before .before .before .before .before .before .before .before .before .before .before .before .before .before .before .before)
 
--- src/main.rt:48:13
 same-length-4 : tie.Need-same-length-4 Inv-loop μ-loop
 same-length-4 c = c .before .before .before .before .before .before .before .before .before .before .feed-some .kept .1 .0 ∙ c .before .before .before .before .before .before .before .before .before .before .before .before .before .before .before .before .loop .inv .0
 
--- src/main.rt:48:13
 same-length-5 : tie.Need-same-length-5 Inv-loop μ-loop
 same-length-5 c = c .before .before .before .before .before .before .before .before .before .before .feed-some .kept .1 .1 .0 ∙ c .before .before .before .before .before .before .before .before .before .before .before .before .before .before .before .before .loop .inv .1
 
--- src/main.rt:48:13
 same-length-6 : tie.Need-same-length-6 Inv-loop μ-loop
 same-length-6 c = c .before .before .before .before .before .before .before .before .before .before .feed-some .kept .1 .1 .1 .1 .0 ∙ c .before .before .before .before .before .before .before .before .before .before .before .before .before .before .before .before .loop .inv .2
 
--- src/main.rt:48:13
 returns-2 : tie.Need-returns-2 Inv-loop μ-loop
 returns-2 c = search needs
 
--- src/main.rt:35:5
 loop-less : tie.Need-loop-less Inv-loop μ-loop
 loop-less c =
     let l = c .before .before .before .before .before .before .before .before .before .before .before .before .before .before .before .before .loop in
     let short = simp (length-take, length-drop) at (c .before .before .before .before .before .before .before .before .before .before .feed-some .ensures) in
     omega (arith, l, c .before .before .before .if1 .left)
 
--- src/main.rt:35:5
 loop-again : tie.Need-loop-again Inv-loop μ-loop
 loop-again c =
     let l = c .before .before .before .before .before .before .before .before .before .before .before .before .before .before .before .before .loop in
     let short = simp (length-take, length-drop) at (c .before .before .before .before .before .before .before .before .before .before .feed-some .ensures) in
     (c .before .before .before .before .before .before .before .before .before .before .feed-some .kept .1 .0 ∙ c .before .before .before .before .before .before .before .before .before .before .before .before .before .before .before .before .loop .inv .0, c .before .before .before .before .before .before .before .before .before .before .feed-some .kept .1 .1 .0 ∙ c .before .before .before .before .before .before .before .before .before .before .before .before .before .before .before .before .loop .inv .1, c .before .before .before .before .before .before .before .before .before .before .feed-some .kept .1 .1 .1 .1 .0 ∙ c .before .before .before .before .before .before .before .before .before .before .before .before .before .before .before .before .loop .inv .2, omega (arith, l))
 
--- src/main.rt:32:1
 same-length-7 : tie.Need-same-length-7 Inv-loop μ-loop
 same-length-7 c = c .before .loop .inv .0
 
--- src/main.rt:32:1
 same-length-8 : tie.Need-same-length-8 Inv-loop μ-loop
 same-length-8 c = c .before .loop .inv .1
 
--- src/main.rt:32:1
 same-length-9 : tie.Need-same-length-9 Inv-loop μ-loop
 same-length-9 c = c .before .loop .inv .2
 
--- src/main.rt:32:1
 returns-3 : tie.Need-returns-3 Inv-loop μ-loop
 returns-3 c = search needs
 

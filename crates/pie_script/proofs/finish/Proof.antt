@@ -1,42 +1,31 @@
+-- `finish`: what was written is a part of the output.
 use mathlib.Core.Path.{sym}
 use lib.Seq.{length-take-le}
 use borrow.Author.Needs.{needs}
 use Rattle.pie_script.proofs.finish.Statement.{statement}
 use Rattle.pie_script.proofs.finish.Tie as tie
-use Rattle.pie_script.proofs.finish.Reads as reads
-use Rattle.pie_script.proofs.finish.Lts as lts
-use Rattle.io.proofs.write_all.Reads as write-all-reads
-use Rattle.script.proofs.finish.Reads as finish-reads
 
--- src/main.rt:64:9
 finish-requires : tie.Need-finish-requires
 finish-requires c κs = search needs
 
--- src/main.rt:66:34
 slice-reshare-prefix-write-all : tie.Need-slice-reshare-prefix-write-all
 slice-reshare-prefix-write-all c = search needs
 
--- src/main.rt:66:34
 slice-aggregate-write-all : tie.Need-slice-aggregate-write-all
 slice-aggregate-write-all c = sym (length-take-le _ _ (c .before .before .before .before .before .before .before .finish .ensures .1 .1))
 
--- src/main.rt:66:5
 write-all-requires : tie.Need-write-all-requires
 write-all-requires c κs = search needs
 
--- src/main.rt:63:1
 same-length : tie.Need-same-length
 same-length c = search needs
 
--- src/main.rt:63:1
 same-length-2 : tie.Need-same-length-2
 same-length-2 c = search needs
 
--- src/main.rt:63:1
 same-length-3 : tie.Need-same-length-3
 same-length-3 c = search needs
 
--- src/main.rt:63:1
 returns : tie.Need-returns
 returns c = search needs
 

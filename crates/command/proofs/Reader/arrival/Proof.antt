@@ -1,3 +1,4 @@
+-- `Reader::arrival`: with four fields before the value there are five numbers.
 use mathlib.Core.Path.{_≡_}
 use Prim.Native.Nat.{_-_}
 use native.Mathlib.Omega.{arith}
@@ -7,34 +8,26 @@ use Rattle.command.proofs.Bytes.{arrival-fits}
 use Rattle.command.proofs.Counts.{count-below}
 use Rattle.command.proofs.Reader.arrival.Statement.{statement}
 use Rattle.command.proofs.Reader.arrival.Tie as tie
-use Rattle.command.proofs.Reader.arrival.Reads as reads
-use Rattle.command.proofs.Reader.arrival.Lts as lts
 
--- src/finish.rt:33:13
 returns : tie.Need-returns
 unfolding commandOf
 returns c = rw (count-below (c .before .before .args .self) (c .if1 .taken))
 
--- src/finish.rt:39:25
 cast-t9 : tie.Need-cast-t9
 cast-t9 c = let k = c .before in omega (arith, arrival-fits (k .before .before .before .before .before .before .before .args .self) (k .if2 .taken) .0)
 
--- src/finish.rt:40:23
 cast-t10 : tie.Need-cast-t10
 cast-t10 c = let k = c .before .before in omega (arith, arrival-fits (k .before .before .before .before .before .before .before .args .self) (k .if2 .taken) .1)
 
--- src/finish.rt:42:20
 cast-t12 : tie.Need-cast-t12
 cast-t12 c = let k = c .before .before .before .before in omega (arith, arrival-fits (k .before .before .before .before .before .before .before .args .self) (k .if2 .taken) .2)
 
--- src/finish.rt:37:13
 returns-2 : tie.Need-returns-2
 unfolding commandOf
 returns-2 c =
     let z : 4 - c .before .before .before .before .before .before .before .before .before .before .before .args .self .count ≡ 0 = omega arith in
     rw (z, le-leb (c .before .before .before .before .before .before .before .before .before .before .before .args .self .first) 18446744073709551615 (omega arith), c .before .before .before .before .if2 .taken)
 
--- src/finish.rt:29:5
 returns-3 : tie.Need-returns-3
 unfolding commandOf
 returns-3 c =

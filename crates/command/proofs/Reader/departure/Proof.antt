@@ -1,18 +1,15 @@
+-- `Reader::departure`: with no field before the value there is one number.
 use native.Mathlib.Omega.{arith}
 use borrow.Author.Tests.{le-leb}
 use Rattle.command.specs.Forms.{commandOf}
 use Rattle.command.proofs.Counts.{count-not}
 use Rattle.command.proofs.Reader.departure.Statement.{statement}
 use Rattle.command.proofs.Reader.departure.Tie as tie
-use Rattle.command.proofs.Reader.departure.Reads as reads
-use Rattle.command.proofs.Reader.departure.Lts as lts
 
--- src/finish.rt:52:13
 returns : tie.Need-returns
 unfolding commandOf
 returns c = rw (count-not (c .before .before .args .self) 0 (omega arith) (c .if1 .taken))
 
--- src/finish.rt:48:5
 returns-2 : tie.Need-returns-2
 unfolding commandOf
 returns-2 c = rw (c .if1 .left, le-leb (c .before .before .args .self .value) 18446744073709551615 (omega arith))

@@ -1,3 +1,4 @@
+-- `Reader::gap`: a field's first digit.
 use Rattle.command.specs.declared.Phase.the-variants.{Digits}
 use mathlib.Core.Path.{ap}
 use native.Mathlib.Omega.{arith}
@@ -6,24 +7,17 @@ use Rattle.command.proofs.Bytes.{digit-low}
 use borrow.Author.Needs.{needs}
 use Rattle.command.proofs.Reader.gap.Statement.{statement}
 use Rattle.command.proofs.Reader.gap.Tie as tie
-use Rattle.command.proofs.Reader.gap.Reads as reads
-use Rattle.command.proofs.Reader.gap.Lts as lts
-use Rattle.command.proofs.Reader.spoil.Reads as spoil-reads
 
--- src/push.rt:65:25
 sub-value : tie.Need-sub-value
 sub-value c = let h = digit-low (c .before .args .byte) (c .if1 .taken) in omega arith
 
--- src/push.rt:66:13
 returns : tie.Need-returns
 unfolding afterGap
 returns c = rw (c .if1 .taken) (ap (moved (c .before .args .self) Digits) (omega arith))
 
--- src/push.rt:72:9
 spoil-requires : tie.Need-spoil-requires
 spoil-requires c κs = search needs
 
--- src/push.rt:60:5
 returns-2 : tie.Need-returns-2
 unfolding afterGap
 returns-2 c = rw (c .before .if1 .left) (c .spoil .ensures)

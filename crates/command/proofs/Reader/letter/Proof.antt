@@ -1,21 +1,16 @@
+-- `Reader::letter`: a space behind the letter.
 use Rattle.command.specs.Reader.{afterLetter}
 use borrow.Author.Needs.{needs}
 use Rattle.command.proofs.Reader.letter.Statement.{statement}
 use Rattle.command.proofs.Reader.letter.Tie as tie
-use Rattle.command.proofs.Reader.letter.Reads as reads
-use Rattle.command.proofs.Reader.letter.Lts as lts
-use Rattle.command.proofs.Reader.spoil.Reads as spoil-reads
 
--- src/push.rt:55:13
 returns : tie.Need-returns
 unfolding afterLetter
 returns c = simp (c .if1 .taken)
 
--- src/push.rt:57:9
 spoil-requires : tie.Need-spoil-requires
 spoil-requires c κs = search needs
 
--- src/push.rt:50:5
 returns-2 : tie.Need-returns-2
 unfolding afterLetter
 returns-2 c = rw (c .before .if1 .left) (c .spoil .ensures)

@@ -1,3 +1,4 @@
+-- `Reader::push`: the step of the reader's phase.
 use Rattle.command.specs.Reader.{inPhase, pushed}
 use borrow.Author.Needs.{needs}
 use mathlib.Core.Path.{_≡_, ap, sym, _∙_}
@@ -6,73 +7,53 @@ use Rattle.command.specs.declared.Phase.{Phase}
 use Rattle.command.specs.declared.Reader.{Reader}
 use Rattle.command.proofs.Reader.push.Statement.{statement}
 use Rattle.command.proofs.Reader.push.Tie as tie
-use Rattle.command.proofs.Reader.push.Reads as reads
-use Rattle.command.proofs.Reader.push.Lts as lts
-use Rattle.command.proofs.Reader.digits.Reads as digits-reads
-use Rattle.command.proofs.Reader.gap.Reads as gap-reads
-use Rattle.command.proofs.Reader.letter.Reads as letter-reads
-use Rattle.command.proofs.Reader.start.Reads as start-reads
 
 in-phase : (r : Reader) (byte : ℕ) (p : Phase) → r .phase ≡ p → inPhase p r byte ≡ inPhase (r .phase) r byte
 in-phase r byte p e = ap (λ (q : Phase). inPhase q r byte) (sym e)
 
--- src/push.rt:127:30
 enum-told : tie.Need-enum-told
 enum-told c = search needs
 
--- src/push.rt:127:30
 digits-requires : tie.Need-digits-requires
 digits-requires c κs = search needs
 
--- src/push.rt:128:27
 enum-told-2 : tie.Need-enum-told-2
 enum-told-2 c = search needs
 
--- src/push.rt:128:27
 gap-requires : tie.Need-gap-requires
 gap-requires c κs = search needs
 
--- src/push.rt:129:30
 enum-told-3 : tie.Need-enum-told-3
 enum-told-3 c = search needs
 
--- src/push.rt:129:30
 letter-requires : tie.Need-letter-requires
 letter-requires c κs = search needs
 
--- src/push.rt:130:29
 enum-told-4 : tie.Need-enum-told-4
 enum-told-4 c = search needs
 
--- src/push.rt:130:29
 start-requires : tie.Need-start-requires
 start-requires c κs = search needs
 
--- src/push.rt:131:31
 enum-told-5 : tie.Need-enum-told-5
 enum-told-5 c = search needs
 
--- src/push.rt:122:5
 returns : tie.Need-returns
 unfolding pushed
 returns c = let a = c .before .before .before .args in c .digits .ensures ∙ in-phase (a .self) (a .byte) _ (c .before .enum-told .given .1)
 
--- src/push.rt:122:5
 returns-2 : tie.Need-returns-2
 unfolding pushed
 returns-2 c = let a = c .before .before .before .args in c .gap .ensures ∙ in-phase (a .self) (a .byte) _ (c .before .enum-told2 .given .1)
 
--- src/push.rt:122:5
 returns-3 : tie.Need-returns-3
 unfolding pushed
 returns-3 c = let a = c .before .before .before .args in c .letter .ensures ∙ in-phase (a .self) (a .byte) _ (c .before .enum-told3 .given .1)
 
--- src/push.rt:122:5
 returns-4 : tie.Need-returns-4
 unfolding pushed
 returns-4 c = let a = c .before .before .before .args in c .start .ensures ∙ in-phase (a .self) (a .byte) _ (c .before .enum-told4 .given .1)
 
--- src/push.rt:122:5
 returns-5 : tie.Need-returns-5
 unfolding pushed
 returns-5 c = let a = c .before .before .args in in-phase (a .self) (a .byte) _ (c .enum-told5 .given .1)

@@ -1,21 +1,16 @@
+-- `Reader::start`: the letter, unless it is a space.
 use Rattle.command.specs.Reader.{afterStart}
 use borrow.Author.Needs.{needs}
 use Rattle.command.proofs.Reader.start.Statement.{statement}
 use Rattle.command.proofs.Reader.start.Tie as tie
-use Rattle.command.proofs.Reader.start.Reads as reads
-use Rattle.command.proofs.Reader.start.Lts as lts
-use Rattle.command.proofs.Reader.spoil.Reads as spoil-reads
 
--- src/push.rt:36:13
 spoil-requires : tie.Need-spoil-requires
 spoil-requires c κs = search needs
 
--- src/push.rt:36:13
 returns : tie.Need-returns
 unfolding afterStart
 returns c = rw (c .before .if1 .taken) (c .spoil .ensures)
 
--- src/push.rt:31:5
 returns-2 : tie.Need-returns-2
 unfolding afterStart
 returns-2 c = simp (c .if1 .left)

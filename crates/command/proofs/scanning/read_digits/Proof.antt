@@ -1,3 +1,4 @@
+-- `read_digits`: each turn is the reader's own step.
 use mathlib.Core.Path.{_≡_, refl}
 use Prim.Native.Nat.{_-_, _<_}
 use native.Mathlib.Omega.{arith}
@@ -9,8 +10,6 @@ use Rattle.command.proofs.Bytes.{clear-digit}
 use Rattle.command.proofs.LineEnds.{along-byte, along-here, along-then, digit-pushed}
 use Rattle.command.proofs.scanning.read_digits.Statement.{statement}
 use Rattle.command.proofs.scanning.read_digits.Tie as tie
-use Rattle.command.proofs.scanning.read_digits.Reads as reads
-use Rattle.command.proofs.scanning.read_digits.Lts as lts
 
 abbrev Inv-loop : tie.InvT-loop
 Inv-loop input from reader₀ at₀ reader at = (reader .phase ≡ Digits) × Along input reader₀ from (record { reader = reader; at = at })
@@ -18,19 +17,15 @@ Inv-loop input from reader₀ at₀ reader at = (reader .phase ≡ Digits) × Al
 abbrev μ-loop : tie.MeasureT-loop
 μ-loop input from reader₀ at₀ reader at = length input - at
 
--- src/scanning.rt:17:5
 loop-holds : tie.Need-loop-holds Inv-loop μ-loop
 loop-holds c = (c .pre .1, along-here (c .args .input .now) (c .args .begun) (c .args .from) (c .pre .0))
 
--- src/scanning.rt:18:20
 shared-slice-read-byte : tie.Need-shared-slice-read-byte Inv-loop μ-loop
 shared-slice-read-byte c = omega arith
 
--- src/scanning.rt:21:13
 returns : tie.Need-returns Inv-loop μ-loop
 returns c = c .before .before .before .before .loop .inv .1
 
--- src/scanning.rt:23:21
 mul-value : tie.Need-mul-value Inv-loop μ-loop
 mul-value c =
     let l = c .before .before .before .before .before .loop in
@@ -40,7 +35,6 @@ mul-value c =
     let f = clear-digit byte (l .reader .value) t in
     omega (arith, f .small)
 
--- src/scanning.rt:23:42
 cast-value : tie.Need-cast-value Inv-loop μ-loop
 cast-value c =
     let l = c .before .before .before .before .before .loop in
@@ -50,7 +44,6 @@ cast-value c =
     let f = clear-digit byte (l .reader .value) t in
     omega (arith, f .low, f .high)
 
--- src/scanning.rt:23:42
 sub-value : tie.Need-sub-value Inv-loop μ-loop
 sub-value c =
     let l = c .before .before .before .before .before .loop in
@@ -60,7 +53,6 @@ sub-value c =
     let f = clear-digit byte (l .reader .value) t in
     omega (arith, f .low)
 
--- src/scanning.rt:23:21
 add-value : tie.Need-add-value Inv-loop μ-loop
 add-value c =
     let l = c .before .before .before .before .before .loop in
@@ -70,15 +62,12 @@ add-value c =
     let f = clear-digit byte (l .reader .value) t in
     omega (arith, f .small, f .high)
 
--- src/scanning.rt:29:9
 add-at : tie.Need-add-at Inv-loop μ-loop
 add-at c = omega arith
 
--- src/scanning.rt:17:5
 loop-less : tie.Need-loop-less Inv-loop μ-loop
 loop-less c = omega arith
 
--- src/scanning.rt:17:5
 loop-again : tie.Need-loop-again Inv-loop μ-loop
 loop-again c =
     let l = c .before .before .before .before .before .loop in
@@ -90,7 +79,6 @@ loop-again c =
     let byte-read = rw (digit-pushed (l .reader) byte (l .inv .0) (f .digit) (f .high) (f .small)) at (along-byte input (l .reader) (l .at) below (λ e. omega (arith, f .low, e))) in
     (refl, along-then input (c .before .before .before .before .before .before .args .begun) (c .before .before .before .before .before .before .args .from) _ _ (l .inv .1) byte-read)
 
--- src/scanning.rt:11:1
 returns-2 : tie.Need-returns-2 Inv-loop μ-loop
 returns-2 c = c .before .loop .inv .1
 

@@ -1,64 +1,49 @@
+-- `answer`: by the session's stage.
 use mathlib.Core.Path.{refl}
 use native.Mathlib.Omega.{arith}
 use Rattle.script.proofs.Stages.{at-ended, at-first, at-running, first-handles, first-sizes, nothing-written}
 use borrow.Author.Needs.{needs}
 use Rattle.script.proofs.answering.answer.Statement.{statement}
 use Rattle.script.proofs.answering.answer.Tie as tie
-use Rattle.script.proofs.answering.answer.Reads as reads
-use Rattle.script.proofs.answering.answer.Lts as lts
-use Rattle.script.proofs.answering.first_line.Reads as first-line-reads
-use Rattle.script.proofs.answering.later_line.Reads as later-line-reads
 
--- src/answering.rt:214:54
 enum-told : tie.Need-enum-told
 enum-told c = search needs
 
--- src/answering.rt:214:25
 first-line-requires : tie.Need-first-line-requires
 first-line-requires c κs = search needs
 
--- src/answering.rt:215:56
 enum-told-2 : tie.Need-enum-told-2
 enum-told-2 c = search needs
 
--- src/answering.rt:215:27
 later-line-requires : tie.Need-later-line-requires
 later-line-requires c κs = search needs
 
--- src/answering.rt:216:25
 enum-told-3 : tie.Need-enum-told-3
 enum-told-3 c = search needs
 
--- src/answering.rt:201:1
 same-length : tie.Need-same-length
 same-length c = search needs
 
--- src/answering.rt:201:1
 returns : tie.Need-returns
 returns c =
     let a = c .before .before .before .before .before .before .before .before .before .args in
     rw (at-first (a .session) (a .handles .now) (a .sizes .now) (a .command) (c .before .before .before .before .enum-told .given .1))
     (record { said = c .before .before .first-line .ensures _ _; handles = first-handles _ _ _ _; sizes = first-sizes _ _ _ _ })
 
--- src/answering.rt:201:1
 same-length-2 : tie.Need-same-length-2
 same-length-2 c = search needs
 
--- src/answering.rt:201:1
 same-length-3 : tie.Need-same-length-3
 same-length-3 c = search needs
 
--- src/answering.rt:201:1
 same-length-4 : tie.Need-same-length-4
 same-length-4 c = search needs
 
--- src/answering.rt:201:1
 returns-2 : tie.Need-returns-2
 returns-2 c =
     let a = c .before .before .before .before .before .before .before .before .before .before .before .before .before .before .before .args in
     rw (at-running (a .session) (a .handles .now) (a .sizes .now) (a .command) (c .before .before .before .before .before .before .before .before .before .before .enum-told2 .given .1)) (c .before .before .before .before .before .before .later-line .ensures)
 
--- src/answering.rt:201:1
 returns-3 : tie.Need-returns-3
 returns-3 c =
     let a = c .before .before .before .before .before .args in

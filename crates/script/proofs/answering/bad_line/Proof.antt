@@ -1,21 +1,16 @@
+-- `bad_line`: the text and the ended session.
 use mathlib.Core.Path.{refl}
 use native.Mathlib.Omega.{arith}
 use borrow.Author.Needs.{needs}
 use Rattle.script.proofs.answering.bad_line.Statement.{statement}
 use Rattle.script.proofs.answering.bad_line.Tie as tie
-use Rattle.script.proofs.answering.bad_line.Reads as reads
-use Rattle.script.proofs.answering.bad_line.Lts as lts
-use Rattle.answers.proofs.put_bad.Reads as put-bad-reads
 
--- src/answering.rt:60:9
 put-bad-requires : tie.Need-put-bad-requires
 put-bad-requires c κs = search needs
 
--- src/answering.rt:56:1
 same-length : tie.Need-same-length
 same-length c = search needs
 
--- src/answering.rt:56:1
 returns : tie.Need-returns
 returns c = λ handles sizes. let p = c .before .before .before .put-bad in record { session = refl; text = p .ensures .0; short = omega arith }
 

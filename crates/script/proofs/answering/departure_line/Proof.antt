@@ -1,54 +1,38 @@
+-- `departure_line`: the queue is lent the first `slots` of each table.
 use native.Mathlib.Omega.{arith}
 use Rattle.answers.proofs.Joins.{then}
 use Rattle.script.proofs.Lent.{lent-count, lent-take}
 use borrow.Author.Needs.{needs}
 use Rattle.script.proofs.answering.departure_line.Statement.{statement}
 use Rattle.script.proofs.answering.departure_line.Tie as tie
-use Rattle.script.proofs.answering.departure_line.Reads as reads
-use Rattle.script.proofs.answering.departure_line.Lts as lts
-use Rattle.answers.proofs.put_departure.Reads as put-departure-reads
-use Rattle.answers.proofs.put_state.Reads as put-state-reads
-use Rattle.queue.proofs.State.departure.Reads as departure-reads
-use Rattle.script.proofs.answering.least.Reads as least-reads
-use Rattle.script.proofs.answering.returned.Reads as returned-reads
 
--- src/answering.rt:108:9
 least-requires : tie.Need-least-requires
 least-requires c κs = search needs
 
--- src/answering.rt:109:9
 least-requires-2 : tie.Need-least-requires-2
 least-requires-2 c κs = search needs
 
--- src/answering.rt:110:37
 slice-aggregate-departure : tie.Need-slice-aggregate-departure
 slice-aggregate-departure c = lent-count _ _ _ (c .before .before .least .ensures)
 
--- src/answering.rt:110:52
 slice-aggregate-departure-2 : tie.Need-slice-aggregate-departure-2
 slice-aggregate-departure-2 c = lent-count _ _ _ (c .before .before .least2 .ensures)
 
--- src/answering.rt:110:9
 departure-requires : tie.Need-departure-requires
 departure-requires c κs = search needs
 
--- src/answering.rt:113:9
 put-departure-requires : tie.Need-put-departure-requires
 put-departure-requires c κs = search needs
 
--- src/answering.rt:114:9
 put-state-requires : tie.Need-put-state-requires
 put-state-requires c κs = search needs
 
--- src/answering.rt:116:18
 returned-requires : tie.Need-returned-requires
 returned-requires c κs = search needs
 
--- src/answering.rt:102:1
 same-length : tie.Need-same-length
 same-length c = search needs
 
--- src/answering.rt:102:1
 returns : tie.Need-returns
 returns c =
     let s = c .before .before .before .put-state in

@@ -1,93 +1,70 @@
+-- `first_line`: by the command.
 use Rattle.script.specs.Answering.{firstLine}
 use borrow.Author.Needs.{needs}
 use Rattle.script.proofs.answering.first_line.Statement.{statement}
 use Rattle.script.proofs.answering.first_line.Tie as tie
-use Rattle.script.proofs.answering.first_line.Reads as reads
-use Rattle.script.proofs.answering.first_line.Lts as lts
-use Rattle.script.proofs.answering.bad_line.Reads as bad-line-reads
-use Rattle.script.proofs.answering.start_line.Reads as start-line-reads
 
--- src/answering.rt:163:43
 enum-told : tie.Need-enum-told
 enum-told c = search needs
 
--- src/answering.rt:163:25
 bad-line-requires : tie.Need-bad-line-requires
 bad-line-requires c κs = search needs
 
--- src/answering.rt:165:13
 enum-known-command : tie.Need-enum-known-command
 enum-known-command c = search needs
 
--- src/answering.rt:168:14
 start-line-requires : tie.Need-start-line-requires
 start-line-requires c κs = search needs
 
--- src/answering.rt:169:54
 enum-told-2 : tie.Need-enum-told-2
 enum-told-2 c = search needs
 
--- src/answering.rt:169:36
 bad-line-requires-2 : tie.Need-bad-line-requires-2
 bad-line-requires-2 c κs = search needs
 
--- src/answering.rt:170:56
 enum-told-3 : tie.Need-enum-told-3
 enum-told-3 c = search needs
 
--- src/answering.rt:170:38
 bad-line-requires-3 : tie.Need-bad-line-requires-3
 bad-line-requires-3 c κs = search needs
 
--- src/answering.rt:171:51
 enum-told-4 : tie.Need-enum-told-4
 enum-told-4 c = search needs
 
--- src/answering.rt:171:33
 bad-line-requires-4 : tie.Need-bad-line-requires-4
 bad-line-requires-4 c κs = search needs
 
--- src/answering.rt:158:1
 same-length : tie.Need-same-length
 same-length c = search needs
 
--- src/answering.rt:158:1
 returns : tie.Need-returns
 unfolding firstLine
 returns c = λ handles sizes. rw (c .before .before .before .before .enum-told .given .1) (c .before .before .bad-line .ensures handles sizes)
 
--- src/answering.rt:158:1
 same-length-2 : tie.Need-same-length-2
 same-length-2 c = search needs
 
--- src/answering.rt:158:1
 returns-2 : tie.Need-returns-2
 unfolding firstLine
 returns-2 c = λ handles sizes. rw (c .before .before .before .before .before .command .given .1) (c .before .before .start-line .ensures handles sizes)
 
--- src/answering.rt:158:1
 same-length-3 : tie.Need-same-length-3
 same-length-3 c = search needs
 
--- src/answering.rt:158:1
 returns-3 : tie.Need-returns-3
 unfolding firstLine
 returns-3 c = λ handles sizes. rw (c .before .before .before .before .enum-told2 .given .1) (c .before .before .bad-line2 .ensures handles sizes)
 
--- src/answering.rt:158:1
 same-length-4 : tie.Need-same-length-4
 same-length-4 c = search needs
 
--- src/answering.rt:158:1
 returns-4 : tie.Need-returns-4
 unfolding firstLine
 returns-4 c = λ handles sizes. rw (c .before .before .before .before .enum-told3 .given .1) (c .before .before .bad-line3 .ensures handles sizes)
 
--- src/answering.rt:158:1
 same-length-5 : tie.Need-same-length-5
 same-length-5 c = search needs
 
--- src/answering.rt:158:1
 returns-5 : tie.Need-returns-5
 unfolding firstLine
 returns-5 c = λ handles sizes. rw (c .before .before .before .before .enum-told4 .given .1) (c .before .before .bad-line4 .ensures handles sizes)

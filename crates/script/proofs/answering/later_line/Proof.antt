@@ -1,111 +1,82 @@
+-- `later_line`: by the command.
 use mathlib.Core.Path.{refl}
 use Rattle.script.specs.Answering.{laterLine}
 use borrow.Author.Needs.{needs}
 use Rattle.script.proofs.answering.later_line.Statement.{statement}
 use Rattle.script.proofs.answering.later_line.Tie as tie
-use Rattle.script.proofs.answering.later_line.Reads as reads
-use Rattle.script.proofs.answering.later_line.Lts as lts
-use Rattle.script.proofs.answering.arrival_line.Reads as arrival-line-reads
-use Rattle.script.proofs.answering.bad_line.Reads as bad-line-reads
-use Rattle.script.proofs.answering.departure_line.Reads as departure-line-reads
-use Rattle.script.proofs.answering.tick_line.Reads as tick-line-reads
 
--- src/answering.rt:187:43
 enum-told : tie.Need-enum-told
 enum-told c = search needs
 
--- src/answering.rt:187:25
 bad-line-requires : tie.Need-bad-line-requires
 bad-line-requires c κs = search needs
 
--- src/answering.rt:188:56
 enum-told-2 : tie.Need-enum-told-2
 enum-told-2 c = search needs
 
--- src/answering.rt:188:38
 bad-line-requires-2 : tie.Need-bad-line-requires-2
 bad-line-requires-2 c κs = search needs
 
--- src/answering.rt:190:13
 enum-known-command : tie.Need-enum-known-command
 enum-known-command c = search needs
 
--- src/answering.rt:195:14
 arrival-line-requires : tie.Need-arrival-line-requires
 arrival-line-requires c κs = search needs
 
--- src/answering.rt:196:30
 enum-known-command-2 : tie.Need-enum-known-command-2
 enum-known-command-2 c = search needs
 
--- src/answering.rt:196:41
 departure-line-requires : tie.Need-departure-line-requires
 departure-line-requires c κs = search needs
 
--- src/answering.rt:197:25
 enum-known-command-3 : tie.Need-enum-known-command-3
 enum-known-command-3 c = search needs
 
--- src/answering.rt:197:36
 tick-line-requires : tie.Need-tick-line-requires
 tick-line-requires c κs = search needs
 
--- src/answering.rt:175:1
 same-length : tie.Need-same-length
 same-length c = search needs
 
--- src/answering.rt:175:1
 returns : tie.Need-returns
 unfolding laterLine
 returns c = rw (c .before .before .before .before .enum-told .given .1) (record { said = c .before .before .bad-line .ensures _ _; handles = refl; sizes = refl })
 
--- src/answering.rt:175:1
 same-length-2 : tie.Need-same-length-2
 same-length-2 c = search needs
 
--- src/answering.rt:175:1
 returns-2 : tie.Need-returns-2
 unfolding laterLine
 returns-2 c = rw (c .before .before .before .before .enum-told2 .given .1) (record { said = c .before .before .bad-line2 .ensures _ _; handles = refl; sizes = refl })
 
--- src/answering.rt:175:1
 same-length-3 : tie.Need-same-length-3
 same-length-3 c = search needs
 
--- src/answering.rt:175:1
 same-length-4 : tie.Need-same-length-4
 same-length-4 c = search needs
 
--- src/answering.rt:175:1
 same-length-5 : tie.Need-same-length-5
 same-length-5 c = search needs
 
--- src/answering.rt:175:1
 returns-3 : tie.Need-returns-3
 returns-3 c = rw (c .before .before .before .before .before .before .before .before .before .before .before .command .given .1) (c .before .before .before .before .before .before .arrival-line .ensures)
 
--- src/answering.rt:175:1
 same-length-6 : tie.Need-same-length-6
 same-length-6 c = search needs
 
--- src/answering.rt:175:1
 same-length-7 : tie.Need-same-length-7
 same-length-7 c = search needs
 
--- src/answering.rt:175:1
 same-length-8 : tie.Need-same-length-8
 same-length-8 c = search needs
 
--- src/answering.rt:175:1
 returns-4 : tie.Need-returns-4
 unfolding laterLine
 returns-4 c = rw (c .before .before .before .before .before .before .before .command2 .given .1) (record { said = c .before .before .departure-line .ensures; handles = refl; sizes = refl })
 
--- src/answering.rt:175:1
 same-length-9 : tie.Need-same-length-9
 same-length-9 c = search needs
 
--- src/answering.rt:175:1
 returns-5 : tie.Need-returns-5
 unfolding laterLine
 returns-5 c = rw (c .before .before .before .before .before .command3 .given .1) (record { said = c .before .before .tick-line .ensures _ _; handles = refl; sizes = refl })

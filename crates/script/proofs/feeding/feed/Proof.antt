@@ -1,3 +1,4 @@
+-- `feed`: before each turn the bytes taken lead to the runner, the tables and the bytes written.
 use mathlib.Core.Path.{_≡_, refl, sym, _∙_}
 use mathlib.Core.List.{[]}
 use Prim.Native.Nat.{_+_, _-_, _<_, _≤_}
@@ -11,13 +12,6 @@ use Rattle.script.proofs.Stops.{input-left, room-left}
 use Rattle.script.proofs.Turns.{line-within, turn-end, turn-line}
 use Rattle.script.proofs.feeding.feed.Statement.{statement}
 use Rattle.script.proofs.feeding.feed.Tie as tie
-use Rattle.script.proofs.feeding.feed.Reads as reads
-use Rattle.script.proofs.feeding.feed.Lts as lts
-use Rattle.command.proofs.Reader.begin.Reads as begin-reads
-use Rattle.command.proofs.Reader.finish.Reads as finish-reads
-use Rattle.command.proofs.scan.Reads as scan-reads
-use Rattle.script.proofs.answering.answer.Reads as answer-reads
-use Rattle.script.proofs.feeding.is_stopped.Reads as is-stopped-reads
 
 abbrev Inv-loop : tie.InvT-loop
 Inv-loop handles₀ sizes₀ input output₀ session₀ reader₀ taken₀ written₀ handles sizes output session reader taken written =
@@ -47,40 +41,31 @@ goes k =
     let going = sym (t .ensures) ∙ not-true (t .result) (k .if1 .taken) in
     record { more = input-left (l .taken) n stage (l .written) o going (l .inv .3); roomy = room-left (l .taken) n stage (l .written) o going (l .inv .4) }
 
--- src/feeding.rt:118:5
 loop-holds : tie.Need-loop-holds Inv-loop μ-loop
 unfolding fed
 loop-holds c = (refl, refl, refl, omega arith, omega arith, refl)
 
--- src/feeding.rt:118:12
 is-stopped-requires : tie.Need-is-stopped-requires Inv-loop μ-loop
 is-stopped-requires c κs = c .loop .inv .4
 
--- src/feeding.rt:119:13
 scan-requires : tie.Need-scan-requires Inv-loop μ-loop
 scan-requires c κs = c .before .before .loop .inv .3
 
--- src/feeding.rt:123:44
 finish-requires : tie.Need-finish-requires Inv-loop μ-loop
 finish-requires c κs = tt
 
--- src/feeding.rt:123:17
 answer-requires : tie.Need-answer-requires Inv-loop μ-loop
 answer-requires c κs = goes (c .before .before .before .before .before .before .before) .roomy
 
--- src/feeding.rt:125:13
 begin-requires : tie.Need-begin-requires Inv-loop μ-loop
 begin-requires c κs = tt
 
--- src/feeding.rt:126:13
 add-taken : tie.Need-add-taken Inv-loop μ-loop
 add-taken c = omega (arith, c .before .before .before .before .before .before .before .before .before .before .before .before .before .if2 .taken, c .before .before .before .before .before .before .before .before .before .before .before .before .before .before .before .before .before .before .before .before .before .before .before .before .before)
 
--- src/feeding.rt:118:5
 loop-less : tie.Need-loop-less Inv-loop μ-loop
 loop-less c = let g = goes (c .before .before .before .before .before .before .before .before .before .before .before .before .before .before .before .before) in omega (arith, c .before .before .before .before .before .before .before .before .before .before .before .before .before .before .before .scan .ensures .0, c .before .before .before .before .before .before .before .before .before .before .before .before .before .if2 .taken, g .more)
 
--- src/feeding.rt:118:5
 loop-again : tie.Need-loop-again Inv-loop μ-loop
 loop-again c =
     let l = c .before .before .before .before .before .before .before .before .before .before .before .before .before .before .before .before .before .before .loop in
@@ -101,11 +86,9 @@ loop-again c =
       rw (c .begin .ensures) line,
     )
 
--- src/feeding.rt:118:5
 loop-less-2 : tie.Need-loop-less-2 Inv-loop μ-loop
 loop-less-2 c = let g = goes (c .before .before .before) in omega (arith, c .if2 .left, g .more)
 
--- src/feeding.rt:118:5
 loop-again-2 : tie.Need-loop-again-2 Inv-loop μ-loop
 loop-again-2 c =
     let l = c .before .before .before .before .before .loop in
@@ -119,19 +102,15 @@ loop-again-2 c =
     let rest = turn-end start (a .input .now) before (l .handles) (l .sizes) (l .output) (g .more) (l .inv .5) (s .result) (s .ensures .0) (s .ensures .1) in
     (l .inv .0, l .inv .1, l .inv .2, omega (arith, s .ensures .0, g .more, w, d), l .inv .4, rest)
 
--- src/feeding.rt:109:1
 same-length : tie.Need-same-length Inv-loop μ-loop
 same-length c = c .before .before .loop .inv .0
 
--- src/feeding.rt:109:1
 same-length-2 : tie.Need-same-length-2 Inv-loop μ-loop
 same-length-2 c = c .before .before .loop .inv .1
 
--- src/feeding.rt:109:1
 same-length-3 : tie.Need-same-length-3 Inv-loop μ-loop
 same-length-3 c = c .before .before .loop .inv .2
 
--- src/feeding.rt:109:1
 returns : tie.Need-returns Inv-loop μ-loop
 returns c =
     let l = c .before .before .loop in

@@ -1,3 +1,4 @@
+-- `finish`: nothing without room, nothing for an empty line, else the line's answer.
 use mathlib.Core.Path.{refl, sym, ap}
 use native.Mathlib.Omega.{arith}
 use borrow.Author.Tests.{le-leb, lt-leb}
@@ -9,24 +10,15 @@ use Rattle.script.proofs.Turns.{answered-is}
 use borrow.Author.Needs.{needs}
 use Rattle.script.proofs.feeding.finish.Statement.{statement}
 use Rattle.script.proofs.feeding.finish.Tie as tie
-use Rattle.script.proofs.feeding.finish.Reads as reads
-use Rattle.script.proofs.feeding.finish.Lts as lts
-use Rattle.command.proofs.Reader.begin.Reads as begin-reads
-use Rattle.command.proofs.Reader.finish.Reads as finish-reads
-use Rattle.command.proofs.Reader.is_empty.Reads as is-empty-reads
-use Rattle.script.proofs.answering.answer.Reads as answer-reads
 
--- src/feeding.rt:157:9
 returns : tie.Need-returns
 returns c =
     let n = length (c .before .before .before .before .args .output .now) in
     (rw (lt-leb 128 n (c .if1 .taken)), (refl, omega arith))
 
--- src/feeding.rt:160:9
 is-empty-requires : tie.Need-is-empty-requires
 is-empty-requires c κs = search needs
 
--- src/feeding.rt:162:9
 returns-2 : tie.Need-returns-2
 unfolding endFed
 returns-2 c =
@@ -34,31 +26,24 @@ returns-2 c =
     let e = c .before .is-empty .ensures in
     (rw (le-leb 128 n (c .before .before .before .if1 .left), ← e, c .if2 .taken), (refl, omega arith))
 
--- src/feeding.rt:165:36
 finish-requires : tie.Need-finish-requires
 finish-requires c κs = search needs
 
--- src/feeding.rt:165:9
 answer-requires : tie.Need-answer-requires
 answer-requires c κs = search needs
 
--- src/feeding.rt:170:21
 begin-requires : tie.Need-begin-requires
 begin-requires c κs = search needs
 
--- src/feeding.rt:147:1
 same-length : tie.Need-same-length
 same-length c = search needs
 
--- src/feeding.rt:147:1
 same-length-2 : tie.Need-same-length-2
 same-length-2 c = search needs
 
--- src/feeding.rt:147:1
 same-length-3 : tie.Need-same-length-3
 same-length-3 c = search needs
 
--- src/feeding.rt:147:1
 returns-3 : tie.Need-returns-3
 unfolding endFed
 returns-3 c =
