@@ -2,72 +2,60 @@
 use libc::STDIN_FILENO;
 use libc::STDOUT_FILENO;
 use script::Runner;
+ghost use mathlib.Core.Path.{_≡_};
+ghost use mathlib.Core.Bool.{true};
 ghost use Prim.Native.Nat.{_≤_};
 ghost use lib.ListN.{length};
+ghost use Rattle.pie_script.specs.Feeds.{Feeds};
 
 // What input leaves: how much of it is taken, and whether more is to be fed.
 struct Progress {
     runner: Runner,
     taken: usize,
-    goes_on: bool,
+    more: bool,
 }
 
 // Feeds input until the output has no room for more, and writes that.
-fn feed_some(
-    begun: Runner,
-    handles: &mut [u32],
-    sizes: &mut [u32],
-    input: &[u8],
-    output: &mut [u8],
-) -> Progress
+fn feed_some(begun: Runner, handles: &mut [u32], sizes: &mut [u32], input: &[u8], output: &mut [u8]) -> Progress
     ensures { λ r. ⌜ r .taken ≤ length (now (input .entry)) ⌝ }
+    ensures { λ r. ⌜ Feeds begun (now (handles .entry)) (now (sizes .entry)) (now (input .entry)) (r .taken) (r .runner) (now (handles .exit)) (now (sizes .exit)) ⌝ }
 {
     let fed = script::feed(begun, handles, sizes, input, output);
     let runner = fed.runner;
     let written = fed.written;
     let is_written = io::write_all(STDOUT_FILENO, &output[..written]);
-    let goes_on = is_written & !script::is_over(runner);
+    let more = is_written & !script::is_over(runner);
     Progress {
         runner,
         taken: fed.taken,
-        goes_on,
+        more,
     }
 }
 
-// Feeds a whole piece of input.
-fn feed_piece(
-    begun: Runner,
-    handles: &mut [u32],
-    sizes: &mut [u32],
-    input: &[u8],
-    output: &mut [u8],
-) -> Progress {
+// Feeds a piece of input: all of it, where more is to be fed.
+fn feed_piece(begun: Runner, handles: &mut [u32], sizes: &mut [u32], input: &[u8], output: &mut [u8]) -> Progress
+    ensures { λ r. ⌜ Feeds begun (now (handles .entry)) (now (sizes .entry)) (now (input .entry)) (r .taken) (r .runner) (now (handles .exit)) (now (sizes .exit)) ⌝ }
+    ensures { λ r. ⌜ (r .more ≡ true → length (now (input .entry)) ≤ r .taken) ⌝ }
+{
     let mut runner = begun;
     let mut at = 0;
     while at < input.len() {
         let some = feed_some(runner, handles, sizes, &input[at..], output);
         let taken = some.taken;
-        if taken == 0 {
-            return Progress {
-                runner,
-                taken: at,
-                goes_on: false,
-            };
-        }
         runner = some.runner;
         at += taken;
-        if !some.goes_on {
+        if (taken == 0) | !some.more {
             return Progress {
                 runner,
                 taken: at,
-                goes_on: false,
+                more: false,
             };
         }
     }
     Progress {
         runner,
         taken: at,
-        goes_on: true,
+        more: true,
     }
 }
 
@@ -93,7 +81,7 @@ fn read_piece(
         return Progress {
             runner,
             taken: 0,
-            goes_on: false,
+            more: false,
         };
     }
     feed_piece(runner, handles, sizes, &input[..n], output)
@@ -106,7 +94,7 @@ fn run(handles: &mut [u32], sizes: &mut [u32], input: &mut [u8], output: &mut [u
     let mut turns = u64::MAX;
     while turns > 0 {
         let piece = read_piece(runner, handles, sizes, input, output);
-        if !piece.goes_on {
+        if !piece.more {
             return;
         }
         runner = piece.runner;

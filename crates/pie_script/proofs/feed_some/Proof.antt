@@ -1,6 +1,7 @@
--- `feed_some`: what was written is a part of the output.
-use mathlib.Core.Path.{sym}
+-- `feed_some`: what was written is a part of the output, and the rest is `feed`'s promise.
+use mathlib.Core.Path.{ap, sym}
 use lib.Seq.{length-take-le}
+use Rattle.script.specs.Pieces.{emptied}
 use borrow.Author.Needs.{needs}
 use Rattle.pie_script.proofs.feed_some.Statement.{statement}
 use Rattle.pie_script.proofs.feed_some.Tie as tie
@@ -30,7 +31,7 @@ same-length-3 : tie.Need-same-length-3
 same-length-3 c = search needs
 
 returns : tie.Need-returns
-returns c = search needs
+returns c = let f = c .before .before .before .before .before .before .before .before .before .before .feed in (f .ensures .1 .0 .0, ap emptied (f .ensures .0))
 
 pub feed-some-spec : {M : Type 1} → statement M
 feed-some-spec =
