@@ -1,0 +1,2 @@
+-- The output lines of a script.
+pub mod Output

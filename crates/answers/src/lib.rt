@@ -1,0 +1,138 @@
+// The answers of the queue, written out.
+use decimal::put;
+use decimal::put_number;
+use pie::Verdict;
+use queue::Accepted;
+use queue::ArrivalAnswer;
+use queue::Refusal;
+use queue::State;
+ghost use mathlib.Core.Path.{_≡_};
+ghost use Prim.Native.Nat.{ℕ, _+_, _≤_};
+ghost use mathlib.Core.List.{_++_};
+ghost use lib.ListN.{length};
+ghost use Rattle.decimal.specs.Digits.{digitsOf};
+ghost use Rattle.decimal.specs.Written.{Wrote};
+ghost use Rattle.queue.specs.Answer.{answerOf, arrivalAnswer, departed, made, numberOf, refused, ticked};
+ghost use Rattle.answers.specs.Output.{ascii, badText, stateText, verdictWord, wordOf};
+
+fn number(refusal: Refusal) -> u64
+    ensures { λ r. ⌜ r ≡ numberOf refusal ⌝ }
+{
+    match refusal {
+        Refusal::Settings => 1,
+        Refusal::Malformed => 2,
+        Refusal::Tables => 3,
+        Refusal::Clock => 4,
+        Refusal::Early => 5,
+        Refusal::Empty => 6,
+        Refusal::Size => 7,
+        Refusal::Counts => 8,
+        Refusal::Head => 9,
+    }
+}
+
+fn put_refused(refusal: Refusal, out: &mut [u8], at: usize) -> usize
+    requires { ⌜ at + 40 ≤ length (now out) ⌝ }
+    ensures { λ r. ⌜ Wrote (now (out .entry)) (now (out .exit)) at r (wordOf (refused (numberOf refusal))) ⌝ }
+    ensures { λ r. ⌜ r ≤ at + 40 ⌝ }
+{
+    let end = put(b"refused ", out, at);
+    put_number(number(refusal), out, end)
+}
+
+fn put_verdict(v: Verdict, out: &mut [u8], at: usize) -> usize
+    requires { ⌜ at + 40 ≤ length (now out) ⌝ }
+    ensures { λ r. ⌜ Wrote (now (out .entry)) (now (out .exit)) at r (verdictWord v) ⌝ }
+    ensures { λ r. ⌜ r ≤ at + 40 ⌝ }
+{
+    match v {
+        Verdict::Enqueued => put(b"enqueued", out, at),
+        Verdict::Marked => put(b"marked", out, at),
+        Verdict::DroppedBytes => put(b"dropped-bytes", out, at),
+        Verdict::DroppedSlots => put(b"dropped-slots", out, at),
+        Verdict::DroppedEarly => put(b"dropped-early", out, at),
+    }
+}
+
+pub fn put_started(accepted: Accepted, out: &mut [u8], at: usize) -> usize
+    requires { ⌜ at + 40 ≤ length (now out) ⌝ }
+    ensures { λ r. ⌜ Wrote (now (out .entry)) (now (out .exit)) at r (wordOf (answerOf accepted made)) ⌝ }
+    ensures { λ r. ⌜ r ≤ at + 40 ⌝ }
+{
+    match accepted {
+        Accepted::Yes => put(b"ok", out, at),
+        Accepted::No(refusal) => put_refused(refusal, out, at),
+    }
+}
+
+pub fn put_arrival(answer: ArrivalAnswer, out: &mut [u8], at: usize) -> usize
+    requires { ⌜ at + 40 ≤ length (now out) ⌝ }
+    ensures { λ r. ⌜ Wrote (now (out .entry)) (now (out .exit)) at r (wordOf (arrivalAnswer answer)) ⌝ }
+    ensures { λ r. ⌜ r ≤ at + 40 ⌝ }
+{
+    match answer {
+        ArrivalAnswer::Decided(v) => put_verdict(v, out, at),
+        ArrivalAnswer::Refused(refusal) => put_refused(refusal, out, at),
+    }
+}
+
+fn put_departed(handle: u32, out: &mut [u8], at: usize) -> usize
+    requires { ⌜ at + 40 ≤ length (now out) ⌝ }
+    ensures { λ r. ⌜ Wrote (now (out .entry)) (now (out .exit)) at r (wordOf (departed handle 0)) ⌝ }
+    ensures { λ r. ⌜ r ≤ at + 40 ⌝ }
+{
+    let end = put(b"departed ", out, at);
+    put_number(handle as u64, out, end)
+}
+
+pub fn put_departure(accepted: Accepted, handle: u32, out: &mut [u8], at: usize) -> usize
+    requires { ⌜ at + 40 ≤ length (now out) ⌝ }
+    ensures { λ r. ⌜ ((size : ℕ) → Wrote (now (out .entry)) (now (out .exit)) at r (wordOf (answerOf accepted (departed handle size)))) ⌝ }
+    ensures { λ r. ⌜ r ≤ at + 40 ⌝ }
+{
+    match accepted {
+        Accepted::Yes => put_departed(handle, out, at),
+        Accepted::No(refusal) => put_refused(refusal, out, at),
+    }
+}
+
+pub fn put_tick(accepted: Accepted, out: &mut [u8], at: usize) -> usize
+    requires { ⌜ at + 40 ≤ length (now out) ⌝ }
+    ensures { λ r. ⌜ Wrote (now (out .entry)) (now (out .exit)) at r (wordOf (answerOf accepted ticked)) ⌝ }
+    ensures { λ r. ⌜ r ≤ at + 40 ⌝ }
+{
+    match accepted {
+        Accepted::Yes => put(b"ticked", out, at),
+        Accepted::No(refusal) => put_refused(refusal, out, at),
+    }
+}
+
+fn put_field(n: u64, out: &mut [u8], at: usize) -> usize
+    requires { ⌜ at + 21 ≤ length (now out) ⌝ }
+    ensures { λ r. ⌜ Wrote (now (out .entry)) (now (out .exit)) at r (ascii " " ++ digitsOf n) ⌝ }
+    ensures { λ r. ⌜ r ≤ at + 21 ⌝ }
+{
+    let end = put(b" ", out, at);
+    put_number(n, out, end)
+}
+
+// The probability and the bytes, and the line's end.
+pub fn put_state(state: State, out: &mut [u8], at: usize) -> usize
+    requires { ⌜ at + 43 ≤ length (now out) ⌝ }
+    ensures { λ r. ⌜ Wrote (now (out .entry)) (now (out .exit)) at r (stateText state) ⌝ }
+    ensures { λ r. ⌜ r ≤ at + 43 ⌝ }
+{
+    let gap = put_field(state.pie.prob.0, out, at);
+    let end = put_field(state.backlog.bytes.0, out, gap);
+    put(b"\n", out, end)
+}
+
+pub fn put_bad(line: u64, out: &mut [u8], at: usize) -> usize
+    requires { ⌜ at + 30 ≤ length (now out) ⌝ }
+    ensures { λ r. ⌜ Wrote (now (out .entry)) (now (out .exit)) at r (badText line) ⌝ }
+    ensures { λ r. ⌜ r ≤ at + 30 ⌝ }
+{
+    let number = put(b"bad line ", out, at);
+    let past = put_number(line, out, number);
+    put(b"\n", out, past)
+}

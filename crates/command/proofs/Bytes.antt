@@ -1,0 +1,65 @@
+-- What a byte's tests say of it.
+use mathlib.Core.Path.{_≡_, refl}
+use mathlib.Core.Bool.{Bool, true, false, _&&_}
+use Prim.Native.Nat.{ℕ, _<_, _≤_}
+use native.Mathlib.Omega.{arith}
+use borrow.Author.Tests.{leb-true, ltb-true, ne-eqb}
+use lib.Dec.{eqb, leb, ltb}
+use Rattle.command.specs.Numbers.{isDigit}
+use Rattle.command.specs.Forms.{word}
+use Rattle.command.specs.declared.Reader.{Reader}
+
+pub and-left : (a b : Bool) → a && b ≡ true → a ≡ true
+and-left true b e = refl
+and-left false b e = e
+
+pub and-right : (a b : Bool) → a && b ≡ true → b ≡ true
+and-right true b e = e
+and-right false true e = refl
+and-right false false e = e
+
+pub digit-low : (byte : ℕ) → isDigit byte ≡ true → 48 ≤ byte
+digit-low byte e = leb-true 48 byte (and-left (leb 48 byte) (leb byte 57) e)
+
+pub digit-no-space : (byte : ℕ) → isDigit byte ≡ true → eqb byte 32 ≡ false
+digit-no-space byte e = let h = digit-low byte e in ne-eqb byte 32 (omega arith)
+
+-- a digit on a number that is clear of 64 bits
+pub record ClearDigit (byte value : ℕ) : Type 0 where
+  pub digit : isDigit byte ≡ true
+  pub low : 48 ≤ byte
+  pub high : byte ≤ 57
+  pub small : value < 1844674407370955161
+
+pub clear-digit : (byte value : ℕ) → isDigit byte && ltb value 1844674407370955161 ≡ true → ClearDigit byte value
+clear-digit byte value e =
+    let d = and-left (isDigit byte) (ltb value 1844674407370955161) e in
+    record {
+      digit = d;
+      low = digit-low byte d;
+      high = leb-true byte 57 (and-right (leb 48 byte) (leb byte 57) d);
+      small = ltb-true value 1844674407370955161 (and-right (isDigit byte) (ltb value 1844674407370955161) e);
+    }
+
+-- the fields that passed their tests
+abbrev pub configureTests : Reader → Bool
+configureTests r = leb (r .third) word && leb (r .fourth) word && leb (r .value) 4096
+
+pub configure-fits : (r : Reader) → configureTests r ≡ true → (r .third ≤ word) × (r .fourth ≤ word) × (r .value ≤ 4096)
+configure-fits r e =
+    let one = leb (r .third) word in
+    let two = leb (r .fourth) word in
+    let both = and-left (one && two) (leb (r .value) 4096) e in
+    (leb-true _ _ (and-left one two both), leb-true _ _ (and-right one two both), leb-true _ _ (and-right (one && two) (leb (r .value) 4096) e))
+
+abbrev pub arrivalTests : Reader → Bool
+arrivalTests r = leb (r .second) word && leb (r .third) word && leb (r .fourth) 1 && leb (r .value) word
+
+pub arrival-fits : (r : Reader) → arrivalTests r ≡ true → (r .second ≤ word) × (r .third ≤ word) × (r .value ≤ word)
+arrival-fits r e =
+    let one = leb (r .second) word in
+    let two = leb (r .third) word in
+    let ecn = leb (r .fourth) 1 in
+    let three = and-left (one && two && ecn) (leb (r .value) word) e in
+    let both = and-left (one && two) ecn three in
+    (leb-true _ _ (and-left one two both), leb-true _ _ (and-right one two both), leb-true _ _ (and-right (one && two && ecn) (leb (r .value) word) e))

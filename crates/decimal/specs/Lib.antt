@@ -1,0 +1,3 @@
+-- The decimal digits of a number, and what it means that text was written.
+pub mod Digits
+pub mod Written

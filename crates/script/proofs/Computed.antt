@@ -1,0 +1,24 @@
+-- The cases, computed.
+use mathlib.Core.Path.{refl}
+use Rattle.decimal.specs.Digits.{digitsOf, spelled}
+use Rattle.command.specs.Forms.{commandOf}
+use Rattle.command.specs.Line.{readLine}
+use Rattle.command.specs.Words.{wordsOf}
+use Rattle.pie.specs.DepartureRate.{averageOf, rateAfter, sampleOf}
+use Rattle.pie.specs.DropDecision.{dropDecision}
+use Rattle.pie.specs.Update.{decayed, delayOf, divisorOf, errorOf, limited, lookup, nextAllowance, nextProb, stepOf, updated}
+use Rattle.pie.specs.Verdicts.{raised}
+use Rattle.queue.specs.Arrival.{arrival, arrivalRefusal, arrivedState, verdictOf}
+use Rattle.queue.specs.Departure.{departedState, departure, departureRefusal}
+use Rattle.queue.specs.Fresh.{fresh}
+use Rattle.queue.specs.Refusals.{headRefused}
+use Rattle.queue.specs.State.{wellFormed}
+use Rattle.queue.specs.Tick.{tick, tickRefusal, tickedState}
+use Rattle.script.specs.Answering.{firstLine, laterLine, outcome}
+use Rattle.script.specs.Example.{CasesHold}
+use Rattle.script.specs.Lines.{linesOf}
+use Rattle.script.specs.Script.{answerLine, script}
+
+pub cases-hold : CasesHold
+unfolding digitsOf spelled commandOf readLine wordsOf averageOf rateAfter sampleOf dropDecision decayed delayOf divisorOf errorOf limited lookup nextAllowance nextProb stepOf updated raised arrival arrivalRefusal arrivedState verdictOf departedState departure departureRefusal fresh headRefused wellFormed tick tickRefusal tickedState firstLine laterLine outcome linesOf answerLine script
+cases-hold = (refl, (refl, (refl, (refl, (refl, (refl, (refl, (refl, (refl, (refl, (refl, (refl, (refl, (refl, (refl, (refl, (refl, (refl, (refl, (refl, (refl, (refl, (refl, (refl, (refl, (refl, (refl, (refl, (refl, (refl, (refl, (refl, (refl, (refl, tt))))))))))))))))))))))))))))))))))

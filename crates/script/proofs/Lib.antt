@@ -1,0 +1,6 @@
+pub mod Computed
+pub mod Lent
+pub mod Stages
+pub mod Turns
+pub mod Cuts
+pub mod Stops

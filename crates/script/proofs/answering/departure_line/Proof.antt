@@ -1,0 +1,61 @@
+-- `departure_line`: the queue is lent the first `slots` of each table.
+use native.Mathlib.Omega.{arith}
+use Rattle.answers.proofs.Joins.{then}
+use Rattle.script.proofs.Lent.{lent-count, lent-take}
+use borrow.Author.Needs.{needs}
+use Rattle.script.proofs.answering.departure_line.Statement.{statement}
+use Rattle.script.proofs.answering.departure_line.Tie as tie
+
+least-requires : tie.Need-least-requires
+least-requires c κs = search needs
+
+least-requires-2 : tie.Need-least-requires-2
+least-requires-2 c κs = search needs
+
+slice-aggregate-departure : tie.Need-slice-aggregate-departure
+slice-aggregate-departure c = lent-count _ _ _ (c .before .before .least .ensures)
+
+slice-aggregate-departure-2 : tie.Need-slice-aggregate-departure-2
+slice-aggregate-departure-2 c = lent-count _ _ _ (c .before .before .least2 .ensures)
+
+departure-requires : tie.Need-departure-requires
+departure-requires c κs = search needs
+
+put-departure-requires : tie.Need-put-departure-requires
+put-departure-requires c κs = search needs
+
+put-state-requires : tie.Need-put-state-requires
+put-state-requires c κs = search needs
+
+returned-requires : tie.Need-returned-requires
+returned-requires c κs = search needs
+
+same-length : tie.Need-same-length
+same-length c = search needs
+
+returns : tie.Need-returns
+returns c =
+    let s = c .before .before .before .put-state in
+    let w = c .before .before .before .before .before .before .before .put-departure in
+    let f = c .before .before .before .before .before .before .before .before .before .before .departure in
+    let k = c .before .before .before .before .before .before .before .before .before .before .before .before .before in
+    let a = k .before .before .before .before .before .before .args in
+    let h = lent-take (k .before .least .result) (a .session .state .settings .slots) (a .handles .now) (k .before .least .ensures) in
+    let z = lent-take (k .least2 .result) (a .session .state .settings .slots) (a .sizes .now) (k .least2 .ensures) in
+    let e = rw (h, z) at (f .ensures .0) in
+    rw (← e) (record { session = c .returned .ensures; text = then _ _ _ _ _ _ _ _ (w .ensures .0 (f .result .size)) (s .ensures .0); short = omega arith })
+
+pub departure-line-spec : {M : Type 1} → statement M
+departure-line-spec =
+    tie.close
+    (tie.spec
+    least-requires
+    least-requires-2
+    slice-aggregate-departure
+    slice-aggregate-departure-2
+    departure-requires
+    put-departure-requires
+    put-state-requires
+    returned-requires
+    same-length
+    returns)
