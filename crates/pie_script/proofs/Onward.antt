@@ -19,6 +19,7 @@ byte-emptied m b = go (eqb b 10)
   where
     line : emptied (lineFed m) ≡ emptied (lineFed (emptied m))
     line = unfold answerLine in refl
+
     go : (t : Bool) → emptied (cond t (lineFed m) (record { run = m .run; reader = pushed (m .reader) b })) ≡ emptied (cond t (lineFed (emptied m)) (record { run = emptied m .run; reader = pushed (m .reader) b }))
     go true = line
     go false = refl

@@ -16,7 +16,13 @@ struct Progress {
 }
 
 // Feeds input until the output has no room for more, and writes that.
-fn feed_some(begun: Runner, handles: &mut [u32], sizes: &mut [u32], input: &[u8], output: &mut [u8]) -> Progress
+fn feed_some(
+    begun: Runner,
+    handles: &mut [u32],
+    sizes: &mut [u32],
+    input: &[u8],
+    output: &mut [u8],
+) -> Progress
     ensures { λ r. ⌜ r .taken ≤ length (now (input .entry)) ⌝ }
     ensures { λ r. ⌜ Feeds begun (now (handles .entry)) (now (sizes .entry)) (now (input .entry)) (r .taken) (r .runner) (now (handles .exit)) (now (sizes .exit)) ⌝ }
 {
@@ -33,7 +39,13 @@ fn feed_some(begun: Runner, handles: &mut [u32], sizes: &mut [u32], input: &[u8]
 }
 
 // Feeds a piece of input: all of it, where more is to be fed.
-fn feed_piece(begun: Runner, handles: &mut [u32], sizes: &mut [u32], input: &[u8], output: &mut [u8]) -> Progress
+fn feed_piece(
+    begun: Runner,
+    handles: &mut [u32],
+    sizes: &mut [u32],
+    input: &[u8],
+    output: &mut [u8],
+) -> Progress
     ensures { λ r. ⌜ Feeds begun (now (handles .entry)) (now (sizes .entry)) (now (input .entry)) (r .taken) (r .runner) (now (handles .exit)) (now (sizes .exit)) ⌝ }
     ensures { λ r. ⌜ (r .more ≡ true → length (now (input .entry)) ≤ r .taken) ⌝ }
 {

@@ -38,7 +38,7 @@ feed-some-requires : tie.Need-feed-some-requires Inv-loop μ-loop
 feed-some-requires c κs = tt
 
 add-at : tie.Need-add-at Inv-loop μ-loop
-add-at c = 
+add-at c =
     let l = c .before .before .before .before .before .before .before .before .before .before .before .before .before .loop in
     let short = simp (length-take, length-drop) at (c .before .before .before .before .before .before .before .feed-some .ensures .0) in
     omega (arith, l, c .before .before .before .before .before .before .before .before .before .before .before .before .before .before .before .before .before .before)
@@ -53,7 +53,7 @@ same-length-3 : tie.Need-same-length-3 Inv-loop μ-loop
 same-length-3 c = c .before .before .before .before .before .before .before .before .before .feed-some .kept .1 .1 .1 .1 .0 ∙ c .before .before .before .before .before .before .before .before .before .before .before .before .before .before .before .loop .inv .2
 
 returns : tie.Need-returns Inv-loop μ-loop
-returns c = 
+returns c =
     let l = c .before .before .before .before .before .before .before .before .before .before .before .before .before .before .before .loop in
     let f = c .before .before .before .before .before .before .before .before .before .feed-some in
     let a = c .before .before .before .before .before .before .before .before .before .before .before .before .before .before .before .before .before .before .before .before .args in
@@ -64,14 +64,14 @@ returns c =
     (all, λ e. absurd (false≢true e))
 
 loop-less : tie.Need-loop-less Inv-loop μ-loop
-loop-less c = 
+loop-less c =
     let l = c .before .before .before .before .before .before .before .before .before .before .before .before .before .before .before .loop in
     let short = simp (length-take, length-drop) at (c .before .before .before .before .before .before .before .before .before .feed-some .ensures .0) in
     let some = eqb-false (c .before .before .before .before .before .before .before .before .before .feed-some .result .taken) 0 (or-left _ _ (c .if1 .left)) in
     omega (arith, l, some)
 
 loop-again : tie.Need-loop-again Inv-loop μ-loop
-loop-again c = 
+loop-again c =
     let l = c .before .before .before .before .before .before .before .before .before .before .before .before .before .before .before .loop in
     let f = c .before .before .before .before .before .before .before .before .before .feed-some in
     let a = c .before .before .before .before .before .before .before .before .before .before .before .before .before .before .before .before .before .before .before .before .args in
