@@ -1,3 +1,4 @@
+-- What the proofs share.
 pub mod Bytes
 pub mod Counts
 pub mod NoForm

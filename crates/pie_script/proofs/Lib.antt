@@ -1,1 +1,2 @@
+-- What the proofs share.
 pub mod Onward

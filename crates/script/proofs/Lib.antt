@@ -1,3 +1,4 @@
+-- What the proofs share.
 pub mod Computed
 pub mod Lent
 pub mod Stages

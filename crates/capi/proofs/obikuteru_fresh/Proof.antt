@@ -1,3 +1,4 @@
+-- `obikuteru_fresh`: the reply's number, and the words of its state also where it refuses.
 use mathlib.Core.Path.{refl}
 use mathlib.Core.List.{[]}
 use Rattle.queue.specs.Answer.{made}

@@ -1,3 +1,4 @@
+-- `obikuteru_tick`: the reply's number and words.
 use mathlib.Core.Path.{refl}
 use Rattle.queue.specs.Answer.{ticked}
 use Rattle.capi.proofs.Codes.{accepted, refused}

@@ -1,3 +1,4 @@
+-- `obikuteru_well_formed`: the test of the state that the words hold.
 use borrow.Author.Needs.{needs}
 use Rattle.capi.proofs.obikuteru_well_formed.Statement.{statement}
 use Rattle.capi.proofs.obikuteru_well_formed.Tie as tie

@@ -1,3 +1,4 @@
+-- `refused`: each case has its number.
 use borrow.Author.Needs.{needs}
 use Rattle.capi.proofs.refused.Statement.{statement}
 use Rattle.capi.proofs.refused.Tie as tie
