@@ -15,29 +15,13 @@ ghost use Rattle.decimal.specs.Written.{Wrote};
 ghost use Rattle.queue.specs.Answer.{answerOf, arrivalAnswer, departed, made, numberOf, refused, ticked};
 ghost use Rattle.answers.specs.Output.{ascii, badText, stateText, verdictWord, wordOf};
 
-fn number(refusal: Refusal) -> u64
-    ensures { λ r. ⌜ r ≡ numberOf refusal ⌝ }
-{
-    match refusal {
-        Refusal::Settings => 1,
-        Refusal::Malformed => 2,
-        Refusal::Tables => 3,
-        Refusal::Clock => 4,
-        Refusal::Early => 5,
-        Refusal::Empty => 6,
-        Refusal::Size => 7,
-        Refusal::Counts => 8,
-        Refusal::Head => 9,
-    }
-}
-
 fn put_refused(refusal: Refusal, out: &mut [u8], at: usize) -> usize
     requires { ⌜ at + 40 ≤ length (now out) ⌝ }
     ensures { λ r. ⌜ Wrote (now (out .entry)) (now (out .exit)) at r (wordOf (refused (numberOf refusal))) ⌝ }
     ensures { λ r. ⌜ r ≤ at + 40 ⌝ }
 {
     let end = put(b"refused ", out, at);
-    put_number(number(refusal), out, end)
+    put_number(refusal.number() as u64, out, end)
 }
 
 fn put_verdict(v: Verdict, out: &mut [u8], at: usize) -> usize

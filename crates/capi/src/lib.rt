@@ -130,17 +130,7 @@ fn write_arrival(w: &mut [u64; 20], s: State, v: Verdict) -> u32
 fn refused(r: Refusal) -> u32
     ensures { λ n. ⌜ n ≡ 100 + numberOf r ⌝ }
 {
-    match r {
-        Refusal::Settings => 101,
-        Refusal::Malformed => 102,
-        Refusal::Tables => 103,
-        Refusal::Clock => 104,
-        Refusal::Early => 105,
-        Refusal::Empty => 106,
-        Refusal::Size => 107,
-        Refusal::Counts => 108,
-        Refusal::Head => 109,
-    }
+    100 + r.number()
 }
 
 #[no_mangle]

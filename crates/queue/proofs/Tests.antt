@@ -29,11 +29,12 @@ at-cond P false f g = g refl
 
 -- ── lists of tests ──
 
-first-of : (a : Bool) (tests : List Bool) → foldl _&&_ a tests ≡ true → a ≡ true
+-- where a test and those of a list pass, it passes and each of them does
+pub first-of : (a : Bool) (tests : List Bool) → foldl _&&_ a tests ≡ true → a ≡ true
 first-of a [] e = e
 first-of a (t ∷ tests) e = and-left a t (first-of (a && t) tests e)
 
-at-from : (a : Bool) (tests : List Bool) → foldl _&&_ a tests ≡ true → (i : ℕ) → getD tests i true ≡ true
+pub at-from : (a : Bool) (tests : List Bool) → foldl _&&_ a tests ≡ true → (i : ℕ) → getD tests i true ≡ true
 at-from a [] e i = refl
 at-from a (t ∷ tests) e zero = and-right a t (first-of (a && t) tests e)
 at-from a (t ∷ tests) e (suc i) = at-from (a && t) tests e i

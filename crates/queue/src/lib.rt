@@ -8,6 +8,7 @@ use units::Micros;
 mod arriving;
 mod departing;
 mod fresh;
+mod refusing;
 mod ticking;
 mod well_formed;
 

@@ -6,68 +6,29 @@ use crate::Stage;
 use crate::answering::answer;
 use command::Reader;
 use command::scan;
-use pie::Backlog;
-use pie::Pie;
-use pie::Rate;
-use queue::Settings;
 use queue::State;
 use units::Bytes;
 use units::Micros;
-use units::Prob;
 ghost use mathlib.Core.Path.{_≡_};
 ghost use mathlib.Core.Bool.{cond, not, true};
 ghost use mathlib.Core.List.{[]};
 ghost use Prim.Native.Nat.{_+_, _≤_, _<_};
 ghost use lib.Dec.{leb};
 ghost use lib.ListN.{length, take};
-ghost use Rattle.queue.specs.Fresh.{zeroState};
 ghost use Rattle.script.specs.Feeding.{endFed, hasEnded, machine, room, startRunner, stops};
 ghost use Rattle.script.specs.Turn.{Follows};
-
-fn zero_state() -> State
-    ensures { λ r. ⌜ r ≡ zeroState ⌝ }
-{
-    let none = Micros(0);
-    let settings = Settings {
-        target: none,
-        buffer: Bytes(0),
-        slots: 0,
-    };
-    let rate = Rate {
-        average: none,
-        measuring: false,
-        start: none,
-        counted: Bytes(0),
-    };
-    let pie = Pie {
-        prob: Prob::NONE,
-        old: none,
-        allowance: none,
-        rate,
-    };
-    let backlog = Backlog {
-        count: 0,
-        bytes: Bytes(0),
-    };
-    State {
-        settings,
-        clock: none,
-        last: none,
-        pie,
-        backlog,
-        first: 0,
-        verdicts: [0, 0, 0, 0, 0],
-    }
-}
 
 // A runner at the start of a script.
 pub fn begin() -> Runner
     ensures { λ r. ⌜ r ≡ startRunner ⌝ }
 {
+    // Refused, so that the state is the all-zero record.
+    let none = State::fresh(Micros(0), Bytes(0), 0, Micros(0));
+    let state = none.state;
     let session = Session {
         stage: Stage::First,
         line: 1,
-        state: zero_state(),
+        state,
     };
     Runner {
         session,

@@ -4,13 +4,11 @@ use pie::Pie;
 use pie::Rate;
 use queue::Accepted;
 use queue::ArrivalAnswer;
-use queue::Refusal;
 use queue::Settings;
 use queue::State;
 use units::Bytes;
 use units::Micros;
 use units::Prob;
-ghost use Prim.Native.Nat.{_≤_};
 
 pub struct Situation {
     pub target: u64,
@@ -19,22 +17,6 @@ pub struct Situation {
     pub old: u64,
     pub allowance: u64,
     pub average: u64,
-}
-
-fn number(r: Refusal) -> u64
-    ensures { λ n. ⌜ n ≤ 9 ⌝ }
-{
-    match r {
-        Refusal::Settings => 1,
-        Refusal::Malformed => 2,
-        Refusal::Tables => 3,
-        Refusal::Clock => 4,
-        Refusal::Early => 5,
-        Refusal::Empty => 6,
-        Refusal::Size => 7,
-        Refusal::Counts => 8,
-        Refusal::Head => 9,
-    }
 }
 
 impl Situation {
@@ -146,7 +128,7 @@ impl Situation {
         let answer = r.answer;
         match answer {
             ArrivalAnswer::Decided(v) => v.place() as u64,
-            ArrivalAnswer::Refused(refusal) => 100 + number(refusal),
+            ArrivalAnswer::Refused(refusal) => 100 + refusal.number() as u64,
         }
     }
 }
@@ -163,6 +145,6 @@ pub fn tick_refusal(s: State, clock: u64) -> u64 {
     let accepted = r.accepted;
     match accepted {
         Accepted::Yes => 0,
-        Accepted::No(refusal) => number(refusal),
+        Accepted::No(refusal) => refusal.number() as u64,
     }
 }

@@ -14,6 +14,9 @@ put-requires c κs = search needs
 number-requires : tie.Need-number-requires
 number-requires c κs = search needs
 
+cast-put-number : tie.Need-cast-put-number
+cast-put-number c = search needs
+
 put-number-requires : tie.Need-put-number-requires
 put-number-requires c κs = search needs
 
@@ -25,7 +28,7 @@ returns c =
     let n = c .before .before .put-number in
     let m = c .before .before .before .before .number in
     let p = c .before .before .before .before .before .before .before .put in
-    (then _ _ _ _ _ _ _ _ (p .ensures) (rw (m .ensures) at (n .ensures .0)), omega arith)
+    (then _ _ _ _ _ _ _ _ (p .ensures) (rw (m .ensures .0) at (n .ensures .0)), omega arith)
 
 pub put-refused-spec : {M : Type 1} → statement M
 put-refused-spec =
@@ -34,6 +37,7 @@ put-refused-spec =
     slice-aggregate-put
     put-requires
     number-requires
+    cast-put-number
     put-number-requires
     same-length
     returns)
