@@ -47,7 +47,7 @@ returns-2 c =
     let five = total-five counts (search needs) in sym (lt-leb (total counts) limit (omega arith))
 
 sub-if3 : tie.Need-sub-if3
-sub-if3 c = omega arith
+sub-if3 c = search needs
 
 returns-3 : tie.Need-returns-3
 returns-3 c =
@@ -55,10 +55,10 @@ returns-3 c =
     let five = total-five counts (search needs) in sym (lt-leb (total counts) limit (omega arith))
 
 sub-if4 : tie.Need-sub-if4
-sub-if4 c = omega arith
+sub-if4 c = search needs
 
 sub-if4-2 : tie.Need-sub-if4-2
-sub-if4-2 c = omega arith
+sub-if4-2 c = search needs
 
 returns-4 : tie.Need-returns-4
 returns-4 c =
@@ -66,13 +66,13 @@ returns-4 c =
     let five = total-five counts (search needs) in sym (lt-leb (total counts) limit (omega arith))
 
 sub-result : tie.Need-sub-result
-sub-result c = omega arith
+sub-result c = search needs
 
 sub-result-2 : tie.Need-sub-result-2
-sub-result-2 c = omega arith
+sub-result-2 c = search needs
 
 sub-result-3 : tie.Need-sub-result-3
-sub-result-3 c = omega arith
+sub-result-3 c = search needs
 
 returns-5 : tie.Need-returns-5
 returns-5 c =
