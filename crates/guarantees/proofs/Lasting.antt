@@ -9,11 +9,11 @@ use Rattle.pie.specs.Constants.{fullAllowance, period}
 use Rattle.pie.specs.DropDecision.{dropDecision}
 use Rattle.pie.specs.Update.{delayOf, nextAllowance, nextProb, refills, updated}
 use Rattle.pie.specs.declared.Pie.{Pie}
+use Rattle.pie.proofs.Choice.{at-cond}
 use Rattle.queue.specs.Arrival.{arrivedState, verdictOf}
 use Rattle.queue.specs.Departure.{departedState}
 use Rattle.queue.specs.Tick.{tickedState}
 use Rattle.queue.specs.declared.State.{State}
-use Rattle.queue.proofs.Tests.{at-cond}
 use Rattle.queue.proofs.WhenAccepted.{TickAccepted}
 use Rattle.guarantees.specs.Calls.{ByLimitsBefore, Call, Entry, entry, limitsVerdict, reply, trace}
 use Rattle.guarantees.proofs.Replies.{at-reply}

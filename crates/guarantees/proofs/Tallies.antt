@@ -11,6 +11,7 @@ use Rattle.pie.specs.Update.{updated}
 use Rattle.pie.specs.Verdicts.{admitted}
 use Rattle.pie.specs.declared.Verdict.{Verdict}
 use Rattle.pie.specs.declared.Verdict.the-variants.{Enqueued, Marked, DroppedBytes, DroppedSlots, DroppedEarly}
+use Rattle.pie.proofs.Choice.{at-cond}
 use Rattle.queue.specs.Answer.{departed, ticked, verdict}
 use Rattle.queue.specs.Arrival.{arrivedState, verdictOf}
 use Rattle.queue.specs.Departure.{departedState, headOf}
@@ -18,7 +19,6 @@ use Rattle.queue.specs.State.{wellFormed}
 use Rattle.queue.specs.Tick.{tickedState}
 use Rattle.queue.specs.declared.State.{State}
 use Rattle.queue.proofs.Facts.{Facts, facts}
-use Rattle.queue.proofs.Tests.{at-cond}
 use Rattle.queue.proofs.WhenAccepted.{ArrivalAccepted, DepartureAccepted, TickAccepted}
 use Rattle.guarantees.specs.Calls.{Call, reply}
 use Rattle.guarantees.specs.Recovery.{Tally, noted, nothingYet, queuedBy}

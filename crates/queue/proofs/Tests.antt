@@ -1,6 +1,6 @@
--- What the tests of a list say one by one, and what both sides of a choice have.
+-- What the tests of a list say one by one.
 use mathlib.Core.Path.{_≡_, refl}
-use mathlib.Core.Bool.{Bool, true, false, cond, _&&_, _||_, false≢true, true≢false}
+use mathlib.Core.Bool.{Bool, true, false, _&&_, _||_, false≢true, true≢false}
 use mathlib.Core.List.{List, [], _∷_, foldl}
 use Prim.Native.Nat.{ℕ, zero, suc, _<_}
 use native.Mathlib.Omega.{arith}
@@ -21,11 +21,6 @@ and-right false b e = absurd (false≢true e)
 pub or-neither : (a b : Bool) → a || b ≡ false → (a ≡ false) × (b ≡ false)
 or-neither true b e = absurd (true≢false e)
 or-neither false b e = (refl, e)
-
--- a property of both arms of a choice, each where the test says so
-pub at-cond : {A : Type 0} (P : A → Type 0) (b : Bool) {x y : A} → (b ≡ true → P x) → (b ≡ false → P y) → P (cond b x y)
-at-cond P true f g = f refl
-at-cond P false f g = g refl
 
 -- ── lists of tests ──
 
