@@ -1,22 +1,14 @@
 -- What a byte's tests say of it.
-use mathlib.Core.Path.{_≡_, refl}
+use mathlib.Core.Path.{_≡_}
 use mathlib.Core.Bool.{Bool, true, false, _&&_}
 use Prim.Native.Nat.{ℕ, _<_, _≤_}
 use native.Mathlib.Omega.{arith}
 use borrow.Author.Tests.{leb-true, ltb-true, ne-eqb}
 use lib.Dec.{eqb, leb, ltb}
+use Rattle.laws.proofs.Tests.{and-left, and-right}
 use Rattle.command.specs.Numbers.{isDigit}
 use Rattle.command.specs.Forms.{word}
 use Rattle.command.specs.declared.Reader.{Reader}
-
-pub and-left : (a b : Bool) → a && b ≡ true → a ≡ true
-and-left true b e = refl
-and-left false b e = e
-
-pub and-right : (a b : Bool) → a && b ≡ true → b ≡ true
-and-right true b e = e
-and-right false true e = refl
-and-right false false e = e
 
 pub digit-low : (byte : ℕ) → isDigit byte ≡ true → 48 ≤ byte
 digit-low byte e = leb-true 48 byte (and-left (leb 48 byte) (leb byte 57) e)

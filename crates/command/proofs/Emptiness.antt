@@ -4,6 +4,7 @@ use mathlib.Core.Bool.{Bool, true, false, cond}
 use mathlib.Core.List.{List, [], _∷_, foldl}
 use Prim.Native.Nat.{ℕ, _+_}
 use lib.Dec.{eqb, leb, ltb}
+use Rattle.laws.proofs.Choice.{either}
 use Rattle.command.specs.Numbers.{extended, isDigit}
 use Rattle.command.specs.Forms.{doubleWord}
 use Rattle.command.specs.Reader.{afterDigits, afterGap, afterLetter, afterStart, begun, digitRead, fieldRead, inPhase, isEmpty, moved, pushed, reader, spoiled}
@@ -14,21 +15,17 @@ use Rattle.command.specs.declared.Reader.{Reader}
 abbrev Touched : Reader → Type 0
 Touched r = isEmpty (r .phase) ≡ false
 
-either : (t : Bool) (x y : Reader) → Touched x → Touched y → Touched (cond t x y)
-either true x y p q = p
-either false x y p q = q
-
 in-phase : (p : Phase) (r : Reader) (byte : ℕ) → r .phase ≡ p → Touched (inPhase p r byte)
 unfolding afterDigits afterGap afterLetter afterStart
-in-phase Start r byte e = either (eqb byte 32) (spoiled r) (reader Letter byte 0 0 0 0 0 0) refl refl
-in-phase Letter r byte e = either (eqb byte 32) (moved r Gap (r .value)) (spoiled r) refl refl
-in-phase Gap r byte e = either (isDigit byte) (moved r Digits (extended 0 byte)) (spoiled r) refl refl
+in-phase Start r byte e = either Touched (eqb byte 32) (spoiled r) (reader Letter byte 0 0 0 0 0 0) refl refl
+in-phase Letter r byte e = either Touched (eqb byte 32) (moved r Gap (r .value)) (spoiled r) refl refl
+in-phase Gap r byte e = either Touched (isDigit byte) (moved r Digits (extended 0 byte)) (spoiled r) refl refl
 in-phase Digits r byte e =
     let number = extended (r .value) byte in
     let next = reader Gap (r .letter) (r .count + 1) 0 (r .second) (r .third) (r .fourth) (r .value) in
-    either (isDigit byte) (digitRead r number) (cond (eqb byte 32) (fieldRead r) (spoiled r))
-    (either (leb number doubleWord) (moved r Digits number) (spoiled r) refl refl)
-    (either (eqb byte 32) (fieldRead r) (spoiled r) (either (ltb (r .count) 4) next (spoiled r) refl refl) refl)
+    either Touched (isDigit byte) (digitRead r number) (cond (eqb byte 32) (fieldRead r) (spoiled r))
+    (either Touched (leb number doubleWord) (moved r Digits number) (spoiled r) refl refl)
+    (either Touched (eqb byte 32) (fieldRead r) (spoiled r) (either Touched (ltb (r .count) 4) next (spoiled r) refl refl) refl)
 in-phase Spoiled r byte e = ap isEmpty e
 
 touches : (r : Reader) (byte : ℕ) → Touched (pushed r byte)

@@ -1,19 +1,19 @@
 -- Numbers that no form takes: too many of them, or one that is past 64 bits.
 use mathlib.Core.Path.{_≡_, refl}
-use mathlib.Core.Bool.{Bool, true, false, cond, _&&_}
+use mathlib.Core.Bool.{Bool, true, false, cond, _&&_, and-false}
 use mathlib.Core.List.{List, [], _∷_, _++_, foldl}
 use Prim.Native.Nat.{ℕ, _+_, _≤_, _<_}
 use native.Mathlib.Omega.{arith}
 use borrow.Author.Tests.{eqb-true, lt-leb, ne-eqb}
 use lib.Dec.{eqb, leb}
 use lib.ListN.{length}
+use Rattle.laws.proofs.Choice.{either}
 use Rattle.command.specs.Forms.{Form, commandOf, doubleWord, fits, formed, forms, smallEnough, word}
 use Rattle.command.specs.declared.Command.{Command}
 use Rattle.command.specs.declared.Command.the-variants.{Bad}
 
 pub both-bad : (t : Bool) (x y : Command) → x ≡ Bad → y ≡ Bad → cond t x y ≡ Bad
-both-bad true x y p q = p
-both-bad false x y p q = q
+both-bad t x y p q = either (λ c. c ≡ Bad) t x y p q
 
 -- no form of the list takes the numbers
 abbrev None : List Form → List ℕ → Type 0
@@ -40,10 +40,6 @@ too-many letter numbers h =
 all-false : (tests : List Bool) → foldl _&&_ false tests ≡ false
 all-false [] = refl
 all-false (t ∷ tests) = all-false tests
-
-and-false : (t : Bool) → t && false ≡ false
-and-false true = refl
-and-false false = refl
 
 abbrev Bounded : List ℕ → Type 0
 Bounded [] = Unit {0}

@@ -1,12 +1,12 @@
 -- One turn of `spell`: the digit in front of those that stand.
 use mathlib.Core.Path.{_≡_}
-use mathlib.Core.Bool.{Bool, true, false, cond}
 use mathlib.Core.List.{List, [], _∷_}
 use Prim.Native.Nat.{ℕ, zero, suc, _+_, _-_, _/_, _%_, _<_, _≤_}
 use native.Mathlib.Omega.{arith}
 use borrow.Author.Tests.{lt-ltb, le-ltb}
 use lib.Dec.{ltb}
 use lib.ListN.{length, drop, set}
+use Rattle.laws.proofs.Choice.{either}
 use Rattle.decimal.specs.Digits.{digitsOf, spelled}
 use Rattle.decimal.proofs.Lists.{drop-set}
 
@@ -29,17 +29,14 @@ unfolding spelled
 spelled-all zero n text all z e = e
 spelled-all (suc m) n text all z e = absurd (omega arith)
 
-either : (t : Bool) (a b : List ℕ) {k : ℕ} → length a ≤ k → length b ≤ k → length (cond t a b) ≤ k
-either true a b h k = h
-either false a b h k = k
-
 -- no more digits than places
 pub spelled-length : (places n : ℕ) (after : List ℕ) → length (spelled places n after) ≤ places + length after
 unfolding spelled
 spelled-length zero n after = omega arith
 spelled-length (suc m) n after =
-    let h = spelled-length m (n / 10) ((48 + n % 10) ∷ after) in
-    either (ltb n 10) _ _ (omega arith) (omega arith)
+    let digit = 48 + n % 10 in
+    let h = spelled-length m (n / 10) (digit ∷ after) in
+    either (λ l. length l ≤ suc m + length after) (ltb n 10) (digit ∷ after) (spelled m (n / 10) (digit ∷ after)) (omega arith) (omega arith)
 
 pub digits-length : (n : ℕ) → length (digitsOf n) ≤ 20
 unfolding digitsOf

@@ -10,7 +10,7 @@ use borrow.Author.Tests.{le-leb, lt-leb}
 use lib.Dec.{leb}
 use Rattle.units.specs.Kinds.{whole}
 use Rattle.pie.specs.Update.{divisorOf, lookup, nextProb, table}
-use Rattle.pie.proofs.Choice.{either}
+use Rattle.laws.proofs.Choice.{either}
 use Rattle.guarantees.proofs.Fall.{fall, kept, le-or-lt, next-empty}
 
 -- the end of the row above b's in the table: no p up to it need have b's k

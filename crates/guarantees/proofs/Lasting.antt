@@ -9,7 +9,7 @@ use Rattle.pie.specs.Constants.{fullAllowance, period}
 use Rattle.pie.specs.DropDecision.{dropDecision}
 use Rattle.pie.specs.Update.{delayOf, nextAllowance, nextProb, refills, updated}
 use Rattle.pie.specs.declared.Pie.{Pie}
-use Rattle.pie.proofs.Choice.{at-cond}
+use Rattle.laws.proofs.Choice.{at-cond}
 use Rattle.queue.specs.Arrival.{arrivedState, verdictOf}
 use Rattle.queue.specs.Departure.{departedState}
 use Rattle.queue.specs.Tick.{tickedState}

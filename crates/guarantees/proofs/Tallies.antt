@@ -11,7 +11,7 @@ use Rattle.pie.specs.Update.{updated}
 use Rattle.pie.specs.Verdicts.{admitted}
 use Rattle.pie.specs.declared.Verdict.{Verdict}
 use Rattle.pie.specs.declared.Verdict.the-variants.{Enqueued, Marked, DroppedBytes, DroppedSlots, DroppedEarly}
-use Rattle.pie.proofs.Choice.{at-cond}
+use Rattle.laws.proofs.Choice.{at-cond}
 use Rattle.queue.specs.Answer.{departed, ticked, verdict}
 use Rattle.queue.specs.Arrival.{arrivedState, verdictOf}
 use Rattle.queue.specs.Departure.{departedState, headOf}

@@ -1,6 +1,6 @@
 -- Input fed behind input that was fed.
 use mathlib.Core.Path.{_≡_, refl, sym, ap, _∙_}
-use mathlib.Core.Bool.{Bool, true, false, cond, _||_}
+use mathlib.Core.Bool.{Bool, true, false, cond}
 use mathlib.Core.List.{List, [], _∷_, _++_, foldl, foldl-append}
 use Prim.Native.Nat.{ℕ, _+_, _≤_}
 use lib.Dec.{eqb}
@@ -47,7 +47,3 @@ feeds-then r s t handles sizes h z h′ z′ input at taken p q =
   where
     whole : (m : Machine) (a b : List ℕ) → fed m (a ++ b) ≡ fed (fed m a) b
     whole m a b = unfold fed in foldl-append byteFed m a b
-
-pub or-left : (a b : Bool) → a || b ≡ false → a ≡ false
-or-left true b e = e
-or-left false b e = refl

@@ -7,6 +7,8 @@ use native.Mathlib.Omega.{arith}
 use lib.Dec.{eqb, leb}
 use lib.ListN.{getD}
 use borrow.Author.Tests.{leb-false, leb-true, not-false}
+use Rattle.laws.proofs.Choice.{at-cond}
+use Rattle.laws.proofs.Tests.{and-left, and-right}
 use Rattle.units.specs.Kinds.{whole}
 use Rattle.pie.specs.Constants.{fullAllowance, largest, limit, longest, threshold}
 use Rattle.pie.specs.DepartureRate.{counting, rateAfter, resting, running, sampleOf, starting}
@@ -15,7 +17,6 @@ use Rattle.pie.specs.Verdicts.{admitted, total}
 use Rattle.pie.specs.declared.Backlog.{Backlog}
 use Rattle.pie.specs.declared.Pie.{Pie}
 use Rattle.pie.specs.declared.Rate.{Rate}
-use Rattle.pie.proofs.Choice.{at-cond}
 use Rattle.pie.proofs.Counts.{total-raised}
 use Rattle.pie.proofs.Ranges.{average-le, delay-le, next-allowance-le, next-prob-le, sample-le}
 use Rattle.queue.specs.Answer.{Reply, made}
@@ -29,7 +30,7 @@ use Rattle.queue.specs.declared.Settings.{Settings}
 use Rattle.queue.specs.declared.State.{State}
 use Rattle.queue.proofs.Admitted.{admitted-room}
 use Rattle.queue.proofs.Facts.{Facts, well-formed}
-use Rattle.queue.proofs.Tests.{all-at, and-left, and-right}
+use Rattle.queue.proofs.Tests.{all-at}
 use Rattle.queue.proofs.WhenAccepted.{ArrivalAccepted, DepartureAccepted, TickAccepted}
 
 -- ── the facts of a state, part by part ──

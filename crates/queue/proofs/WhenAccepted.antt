@@ -6,6 +6,7 @@ use Prim.Native.Nat.{ℕ, _+_, _-_, _*_, _≤_, _<_}
 use native.Mathlib.Omega.{arith}
 use lib.Dec.{eqb, ltb}
 use borrow.Author.Tests.{eqb-false, eqb-true, ltb-false, not-false}
+use Rattle.laws.proofs.Tests.{and-left, and-right, or-neither}
 use Rattle.pie.specs.Constants.{largest, limit, period}
 use Rattle.pie.specs.Verdicts.{total}
 use Rattle.pie.specs.declared.Backlog.{Backlog}
@@ -16,7 +17,7 @@ use Rattle.queue.specs.State.{wellFormed}
 use Rattle.queue.specs.Tick.{tickRefusal, tickRefusals}
 use Rattle.queue.specs.declared.State.{State}
 use Rattle.queue.proofs.Facts.{Facts, facts}
-use Rattle.queue.proofs.Tests.{and-left, and-right, none-refuses, or-neither}
+use Rattle.queue.proofs.Tests.{none-refuses}
 
 pub record ArrivalAccepted (s : State) (handlesLength sizesLength clock size : ℕ) : Type 0 where
   pub formed : wellFormed s ≡ true

@@ -7,7 +7,8 @@ use borrow.Author.Tests.{eqb-false}
 use lib.ListN.{drop, length, length-drop, length-take}
 use lib.Seq.{take-all}
 use Rattle.pie_script.specs.Feeds.{Feeds}
-use Rattle.pie_script.proofs.Onward.{feeds-none, feeds-then, or-left}
+use Rattle.laws.proofs.Tests.{or-neither}
+use Rattle.pie_script.proofs.Onward.{feeds-none, feeds-then}
 use Rattle.pie_script.proofs.feed_piece.Statement.{statement}
 use Rattle.pie_script.proofs.feed_piece.Tie as tie
 
@@ -67,7 +68,7 @@ loop-less : tie.Need-loop-less Inv-loop μ-loop
 loop-less c =
     let l = c .before .before .before .before .before .before .before .before .before .before .before .before .before .before .before .loop in
     let short = simp (length-take, length-drop) at (c .before .before .before .before .before .before .before .before .before .feed-some .ensures .0) in
-    let some = eqb-false (c .before .before .before .before .before .before .before .before .before .feed-some .result .taken) 0 (or-left _ _ (c .if1 .left)) in
+    let some = eqb-false (c .before .before .before .before .before .before .before .before .before .feed-some .result .taken) 0 (or-neither _ _ (c .if1 .left) .0) in
     omega (arith, l, some)
 
 loop-again : tie.Need-loop-again Inv-loop μ-loop

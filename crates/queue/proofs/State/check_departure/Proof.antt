@@ -9,7 +9,7 @@ use lib.ListN.{length}
 use denote.Ref.{now}
 use Rattle.queue.specs.Departure.{departureRefusal}
 use Rattle.queue.proofs.Facts.{Facts, facts}
-use Rattle.queue.proofs.Tests.{and-right}
+use Rattle.laws.proofs.Tests.{and-right}
 use Rattle.queue.proofs.State.check_departure.Statement.{statement}
 use Rattle.queue.proofs.State.check_departure.Tie as tie
 
