@@ -12,7 +12,7 @@ ghost use mathlib.Core.List.{_++_};
 ghost use lib.ListN.{length};
 ghost use Rattle.decimal.specs.Digits.{digitsOf};
 ghost use Rattle.decimal.specs.Written.{Wrote};
-ghost use Rattle.queue.specs.Answer.{answerOf, arrivalAnswer, departed, made, numberOf, refused, ticked};
+ghost use Rattle.queue.specs.Answer.{acceptedAnswer, arrivalAnswer, departed, made, numberOf, refused, ticked};
 ghost use Rattle.answers.specs.Output.{ascii, badText, stateText, verdictWord, wordOf};
 
 fn put_refused(refusal: Refusal, out: &mut [u8], at: usize) -> usize
@@ -40,7 +40,7 @@ fn put_verdict(v: Verdict, out: &mut [u8], at: usize) -> usize
 
 pub fn put_started(accepted: Accepted, out: &mut [u8], at: usize) -> usize
     requires { ⌜ at + 40 ≤ length (now out) ⌝ }
-    ensures { λ r. ⌜ Wrote (now (out .entry)) (now (out .exit)) at r (wordOf (answerOf accepted made)) ⌝ }
+    ensures { λ r. ⌜ Wrote (now (out .entry)) (now (out .exit)) at r (wordOf (acceptedAnswer accepted made)) ⌝ }
     ensures { λ r. ⌜ r ≤ at + 40 ⌝ }
 {
     match accepted {
@@ -71,7 +71,7 @@ fn put_departed(handle: u32, out: &mut [u8], at: usize) -> usize
 
 pub fn put_departure(accepted: Accepted, handle: u32, out: &mut [u8], at: usize) -> usize
     requires { ⌜ at + 40 ≤ length (now out) ⌝ }
-    ensures { λ r. ⌜ ((size : ℕ) → Wrote (now (out .entry)) (now (out .exit)) at r (wordOf (answerOf accepted (departed handle size)))) ⌝ }
+    ensures { λ r. ⌜ ((size : ℕ) → Wrote (now (out .entry)) (now (out .exit)) at r (wordOf (acceptedAnswer accepted (departed handle size)))) ⌝ }
     ensures { λ r. ⌜ r ≤ at + 40 ⌝ }
 {
     match accepted {
@@ -82,7 +82,7 @@ pub fn put_departure(accepted: Accepted, handle: u32, out: &mut [u8], at: usize)
 
 pub fn put_tick(accepted: Accepted, out: &mut [u8], at: usize) -> usize
     requires { ⌜ at + 40 ≤ length (now out) ⌝ }
-    ensures { λ r. ⌜ Wrote (now (out .entry)) (now (out .exit)) at r (wordOf (answerOf accepted ticked)) ⌝ }
+    ensures { λ r. ⌜ Wrote (now (out .entry)) (now (out .exit)) at r (wordOf (acceptedAnswer accepted ticked)) ⌝ }
     ensures { λ r. ⌜ r ≤ at + 40 ⌝ }
 {
     match accepted {

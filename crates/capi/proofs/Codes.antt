@@ -10,19 +10,19 @@ use Rattle.queue.specs.declared.ArrivalAnswer.{ArrivalAnswer}
 use Rattle.queue.specs.declared.ArrivalAnswer.the-variants.{Decided, Refused}
 use Rattle.queue.specs.declared.Refusal.{Refusal}
 use Rattle.queue.specs.declared.State.{State}
-use Rattle.queue.specs.Answer.{Answer, Reply, answerOf, arrivalAnswer, numberOf}
+use Rattle.queue.specs.Answer.{Answer, Reply, acceptedAnswer, arrivalAnswer, numberOf}
 use Rattle.capi.specs.Codes.{codeOf, wordsAfter, wordsFor}
-use Rattle.capi.specs.Words.{wordsOf}
+use Rattle.capi.specs.Words.{stateWords}
 
 abbrev Given : Reply → (code : ℕ) (before after : List ℕ) → Type 0
 Given q n before after = (n ≡ codeOf (q .answer)) × (after ≡ wordsAfter q before)
 
 pub refused : {r : Accepted} {s : State} {q : Reply} {x : Refusal} {n : ℕ} (a : Answer) (w : List ℕ) →
-    record { answer = answerOf r a; state = s } ≡ q → r ≡ No x → n ≡ 100 + numberOf x → Given q n w w
+    record { answer = acceptedAnswer r a; state = s } ≡ q → r ≡ No x → n ≡ 100 + numberOf x → Given q n w w
 refused a w e f h = rw (← e, f) (h, refl)
 
 pub accepted : {r : Accepted} {s : State} {q : Reply} (a : Answer) (w after : List ℕ) →
-    record { answer = answerOf r a; state = s } ≡ q → r ≡ Yes → codeOf a ≡ 0 → wordsFor a w (wordsOf w s) ≡ wordsOf w s → after ≡ wordsOf w s → Given q 0 w after
+    record { answer = acceptedAnswer r a; state = s } ≡ q → r ≡ Yes → codeOf a ≡ 0 → wordsFor a w (stateWords w s) ≡ stateWords w s → after ≡ stateWords w s → Given q 0 w after
 accepted a w after e f c k h = rw (← e, f, c, k) (refl, h)
 
 pub arrival-refused : {r : ArrivalAnswer} {s : State} {q : Reply} {x : Refusal} {n : ℕ} (w : List ℕ) →
@@ -30,5 +30,5 @@ pub arrival-refused : {r : ArrivalAnswer} {s : State} {q : Reply} {x : Refusal} 
 arrival-refused w e f h = rw (← e, f) (h, refl)
 
 pub arrival-decided : {r : ArrivalAnswer} {s : State} {q : Reply} {v : Verdict} {n : ℕ} (w after : List ℕ) →
-    record { answer = arrivalAnswer r; state = s } ≡ q → r ≡ Decided v → n ≡ placeOf v → after ≡ wordsOf w s → Given q n w after
+    record { answer = arrivalAnswer r; state = s } ≡ q → r ≡ Decided v → n ≡ placeOf v → after ≡ stateWords w s → Given q n w after
 arrival-decided w after e f h k = rw (← e, f) (h, k)

@@ -8,7 +8,7 @@ use lib.ListN.{getD, length, set}
 use lib.Seq.{getD-set-other}
 use lib.Dec.{eqb}
 use borrow.Author.Tests.{eqb-true}
-use Rattle.pie.specs.Constants.{limit}
+use Rattle.pie.specs.Constants.{mostVerdicts}
 use Rattle.pie.specs.Verdicts.{placeOf, raised}
 use Rattle.pie.proofs.Counts.{count-le-total}
 use Rattle.pie.specs.declared.Verdict.{Verdict}
@@ -18,7 +18,7 @@ use Rattle.queue.specs.Arrival.{arrival, arrivedState}
 use Rattle.queue.specs.declared.State.{State}
 use Rattle.queue.proofs.Replies.{decided}
 use Rattle.queue.proofs.WhenAccepted.{arrival-accepted}
-use Rattle.capi.specs.Words.{arrivalWords, flagWord, isSet, stateOf, wordsOf}
+use Rattle.capi.specs.Words.{arrivalWords, flagWord, isSet, stateOf, stateWords}
 
 -- f 0, f 1, ..: n of them
 abbrev listed : ℕ → (ℕ → ℕ) → List ℕ
@@ -49,8 +49,8 @@ flag-kept word = go (eqb word 0) refl
     go false e = refl
 
 changed : (w : List ℕ) (clock size : ℕ) (v : Verdict) →
-    arrivalWords (listed 20 (λ i. getD w i 0)) (arrivedState (stateOf w) clock size v) v ≡ wordsOf w (arrivedState (stateOf w) clock size v)
-unfolding stateOf wordsOf arrivedState raised
+    arrivalWords (listed 20 (λ i. getD w i 0)) (arrivedState (stateOf w) clock size v) v ≡ stateWords w (arrivedState (stateOf w) clock size v)
+unfolding stateOf stateWords arrivedState raised
 changed w clock size Enqueued = rw (flag-kept (getD w 9 0))
 changed w clock size Marked = rw (flag-kept (getD w 9 0))
 changed w clock size DroppedBytes = rw (flag-kept (getD w 9 0))
@@ -59,7 +59,7 @@ changed w clock size DroppedEarly = rw (flag-kept (getD w 9 0))
 
 -- the words that an arrival changes are all in which the new state's differ
 pub arrival-words : (w : List ℕ) → length w ≡ 20 → (clock size : ℕ) (v : Verdict) →
-    arrivalWords w (arrivedState (stateOf w) clock size v) v ≡ wordsOf w (arrivedState (stateOf w) clock size v)
+    arrivalWords w (arrivedState (stateOf w) clock size v) v ≡ stateWords w (arrivedState (stateOf w) clock size v)
 arrival-words w h clock size v =
     let s = arrivedState (stateOf w) clock size v in
     ap (λ (l : List ℕ). arrivalWords l s v) (written-out 20 w h) ∙ changed w clock size v
@@ -71,14 +71,14 @@ module _ (w handles sizes : List ℕ) (clock size : ℕ) (ecn : Bool) (u : ℕ) 
   reply = arrival (stateOf w) handles sizes clock size ecn u
 
   -- its count can rise
-  pub count-lt : reply .answer ≡ verdict v → getD w (15 + placeOf v) 0 < limit
+  pub count-lt : reply .answer ≡ verdict v → getD w (15 + placeOf v) 0 < mostVerdicts
   count-lt e =
       let d = decided (stateOf w) handles sizes clock size ecn u v e in
       let k = arrival-accepted (stateOf w) (length handles) (length sizes) clock size (d .0) in
       omega (arith, k .total-low, count-le-total (stateOf w .verdicts) (placeOf v), count-word w v)
 
   -- the words that it changes make the words of the state that it returns
-  pub words-of : length w ≡ 20 → reply .answer ≡ verdict v → (s : State) → reply .state ≡ s → arrivalWords w s v ≡ wordsOf w s
+  pub words-of : length w ≡ 20 → reply .answer ≡ verdict v → (s : State) → reply .state ≡ s → arrivalWords w s v ≡ stateWords w s
   words-of h e s f =
       let d = decided (stateOf w) handles sizes clock size ecn u v e in
       rw (← f, d .1) (arrival-words w h clock size v)

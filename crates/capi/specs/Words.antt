@@ -51,8 +51,8 @@ abbrev pub flagWord : (word : ℕ) (runs : Bool) → ℕ
 flagWord word runs = cond (isSet word) (cond runs word 0) (cond runs 1 0)
 
 -- the twenty words of a state, written over these
-unfoldable pub wordsOf : (words : List ℕ) → State → List ℕ
-wordsOf w s =
+unfoldable pub stateWords : (words : List ℕ) → State → List ℕ
+stateWords w s =
     s .settings .target .0
     ∷ s .settings .buffer .0
     ∷ s .settings .slots

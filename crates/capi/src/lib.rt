@@ -15,7 +15,7 @@ use units::Prob;
 ghost use mathlib.Core.Path.{_≡_};
 ghost use Prim.Native.Nat.{_+_, _<_};
 ghost use lib.ListN.{getD, length};
-ghost use Rattle.pie.specs.Constants.{limit};
+ghost use Rattle.pie.specs.Constants.{mostVerdicts};
 ghost use Rattle.pie.specs.Verdicts.{placeOf};
 ghost use Rattle.queue.specs.Answer.{numberOf};
 ghost use Rattle.queue.specs.State.{wellFormed};
@@ -23,7 +23,7 @@ ghost use Rattle.queue.specs.Fresh.{fresh, settingsOf};
 ghost use Rattle.queue.specs.Arrival.{arrival, stored};
 ghost use Rattle.queue.specs.Departure.{departure};
 ghost use Rattle.queue.specs.Tick.{tick};
-ghost use Rattle.capi.specs.Words.{arrivalWords, flagWord, stateOf, wordsOf};
+ghost use Rattle.capi.specs.Words.{arrivalWords, flagWord, stateOf, stateWords};
 ghost use Rattle.capi.specs.Codes.{codeOf, packetOf, wordsAfter};
 
 // The state that the words hold, and that they are twenty.
@@ -79,7 +79,7 @@ fn flag(word: u64, runs: bool) -> u64
 
 // The words of a state.
 fn encode(w: &mut [u64; 20], s: State)
-    ensures { λ _. ⌜ now (w .exit) ≡ wordsOf (now (w .entry)) s ⌝ }
+    ensures { λ _. ⌜ now (w .exit) ≡ stateWords (now (w .entry)) s ⌝ }
 {
     let v0 = s.verdicts[0];
     let v1 = s.verdicts[1];
@@ -113,7 +113,7 @@ fn encode(w: &mut [u64; 20], s: State)
 
 // The words that an arrival with this verdict changes: fewer than `encode` writes, since the tables were written before.
 fn write_arrival(w: &mut [u64; 20], s: State, v: Verdict) -> u32
-    requires { ⌜ getD (now w) (15 + placeOf v) 0 < limit ⌝ }
+    requires { ⌜ getD (now w) (15 + placeOf v) 0 < mostVerdicts ⌝ }
     ensures { λ r. ⌜ r ≡ placeOf v ⌝ }
     ensures { λ _. ⌜ now (w .exit) ≡ arrivalWords (now (w .entry)) s v ⌝ }
 {
@@ -142,7 +142,7 @@ pub extern "C" fn obikuteru_fresh(
     clock: u64,
 ) -> u32
     ensures { λ r. ⌜ r ≡ codeOf (fresh (settingsOf target buffer slots) clock .answer) ⌝ }
-    ensures { λ _. ⌜ now (words .exit) ≡ wordsOf (now (words .entry)) (fresh (settingsOf target buffer slots) clock .state) ⌝ }
+    ensures { λ _. ⌜ now (words .exit) ≡ stateWords (now (words .entry)) (fresh (settingsOf target buffer slots) clock .state) ⌝ }
 {
     let r = State::fresh(Micros(target), Bytes(buffer), slots, Micros(clock));
     let state = r.state;

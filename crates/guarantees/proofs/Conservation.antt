@@ -8,7 +8,7 @@ use Rattle.guarantees.specs.Handed.{Run, packetAt, queued}
 use Rattle.guarantees.proofs.NeverRefused.{never-2, never-9}
 use Rattle.guarantees.proofs.Packets.{bytes-append}
 use Rattle.guarantees.proofs.Ring.{length-listed}
-use Rattle.guarantees.proofs.Run.{Kept, run-kept}
+use Rattle.guarantees.proofs.RunKept.{Kept, run-kept}
 
 module _ (r : Run) (k : Kept r) where
   all-bytes : bytesOf (r .admitted) ≡ bytesOf (r .departed) + bytesOf (queued (r .queue))

@@ -1,6 +1,6 @@
 -- Demand 2 over lists of calls.
 use Rattle.guarantees.specs.FirstInFirstOut.{FirstInFirstOut}
-use Rattle.guarantees.proofs.Run.{run-kept}
+use Rattle.guarantees.proofs.RunKept.{run-kept}
 
 pub first-in-first-out : FirstInFirstOut
 first-in-first-out settings clock handles sizes requests e = (run-kept settings clock handles sizes requests e) .order

@@ -14,7 +14,7 @@ pub mod Packets
 pub mod Ring
 pub mod Moves
 pub mod Answers
-pub mod Run
+pub mod RunKept
 pub mod NeverRefused
 pub mod FirstInFirstOut
 pub mod Conservation

@@ -22,7 +22,7 @@ use Rattle.guarantees.specs.Refusals.{Applies, rowsOf}
 use Rattle.guarantees.proofs.Packets.{Sized, sized-bytes}
 use Rattle.guarantees.proofs.Refusals.{calls-refused}
 use Rattle.guarantees.proofs.Ring.{leaves, length-listed, ring, slot}
-use Rattle.guarantees.proofs.Run.{Kept}
+use Rattle.guarantees.proofs.RunKept.{Kept}
 
 -- whether a test of this number holds
 abbrev testOf : (n : ℕ) → List (ℕ × Bool) → Bool

@@ -7,7 +7,7 @@ use lib.Dec.{eqb}
 use lib.ListN.{getD}
 use borrow.Author.Tests.{le-leb, leb-true, lt-ltb, ltb-true}
 use Rattle.units.specs.Kinds.{whole}
-use Rattle.pie.specs.Constants.{fullAllowance, largest, limit, longest, threshold}
+use Rattle.pie.specs.Constants.{fullAllowance, largest, latest, longest, mostVerdicts, threshold}
 use Rattle.pie.specs.Verdicts.{total}
 use Rattle.queue.specs.State.{settingsConditions, stateConditions, wellFormed}
 use Rattle.queue.specs.declared.State.{State}
@@ -21,7 +21,7 @@ pub record Facts (s : State) : Type 0 where
   pub slots-low : 1 ≤ s .settings .slots
   pub slots-high : s .settings .slots ≤ 65536
   pub last-high : s .last .0 ≤ s .clock .0
-  pub clock-high : s .clock .0 ≤ limit
+  pub clock-high : s .clock .0 ≤ latest
   pub prob-high : s .pie .prob .0 ≤ whole
   pub old-high : s .pie .old .0 ≤ longest
   pub allowance-high : s .pie .allowance .0 ≤ fullAllowance
@@ -36,7 +36,7 @@ pub record Facts (s : State) : Type 0 where
   -- a measurement that does not run has no start and nothing counted
   pub idle-start : s .pie .rate .measuring || eqb (s .pie .rate .start .0) 0 ≡ true
   pub idle-counted : s .pie .rate .measuring || eqb (s .pie .rate .counted .0) 0 ≡ true
-  pub total-high : total (s .verdicts) ≤ limit
+  pub total-high : total (s .verdicts) ≤ mostVerdicts
 
 pub facts : (s : State) → wellFormed s ≡ true → Facts s
 unfolding wellFormed

@@ -10,7 +10,7 @@ use borrow.Author.Tests.{leb-false, leb-true, not-false}
 use Rattle.laws.proofs.Choice.{at-cond}
 use Rattle.laws.proofs.Tests.{and-left, and-right}
 use Rattle.units.specs.Kinds.{whole}
-use Rattle.pie.specs.Constants.{fullAllowance, largest, limit, longest, threshold}
+use Rattle.pie.specs.Constants.{fullAllowance, largest, latest, longest, mostVerdicts, threshold}
 use Rattle.pie.specs.DepartureRate.{counting, rateAfter, resting, running, sampleOf, starting}
 use Rattle.pie.specs.Update.{delayOf, nextProb, updated}
 use Rattle.pie.specs.Verdicts.{admitted, total}
@@ -64,12 +64,12 @@ record BacklogFits (s : Settings) (b : Backlog) : Type 0 where
 record Fits (s : State) : Type 0 where
   settings : SettingsFit (s .settings)
   last-high : s .last .0 ≤ s .clock .0
-  clock-high : s .clock .0 ≤ limit
+  clock-high : s .clock .0 ≤ latest
   pie : PieFits (s .pie)
   rate : RateFits (s .clock .0) (s .pie .rate)
   backlog : BacklogFits (s .settings) (s .backlog)
   first-high : s .first < s .settings .slots
-  total-high : total (s .verdicts) ≤ limit
+  total-high : total (s .verdicts) ≤ mostVerdicts
 
 fits : (s : State) → Facts s → Fits s
 fits s f = search
@@ -206,9 +206,9 @@ unfolding fresh
 fresh-well-formed settings clock e =
     let no = made-accepted settings clock e in
     let fine = all (settingsConditions settings) in
-    let ok : fine && leb clock limit ≡ true = not-false (fine && leb clock limit) no in
-    let time : clock ≤ limit = leb-true _ _ (and-right fine (leb clock limit) ok) in
-    let fit = settings-fit settings (and-left fine (leb clock limit) ok) in
+    let ok : fine && leb clock latest ≡ true = not-false (fine && leb clock latest) no in
+    let time : clock ≤ latest = leb-true _ _ (and-right fine (leb clock latest) ok) in
+    let fit = settings-fit settings (and-left fine (leb clock latest) ok) in
     rw no (fits-well-formed (freshState settings clock) (record {
       settings = fit;
       last-high = omega arith;

@@ -9,7 +9,7 @@ use Rattle.pie.specs.declared.Verdict.{Verdict}
 use Rattle.queue.specs.Answer.{Reply, numberOf, refused, unlessRefused, verdict}
 use Rattle.queue.specs.Arrival.{arrival, arrivalRefusal, arrivedState, verdictOf}
 use Rattle.queue.specs.declared.Refusal.{Refusal}
-use Rattle.queue.specs.declared.Refusal.the-variants.{Settings, Malformed, Tables, Clock, Early, Empty, Size, Counts, Head}
+use Rattle.queue.specs.declared.Refusal.the-variants.{Settings, Malformed, Tables, Clock, TooSoon, Empty, Size, Counts, Head}
 use Rattle.queue.specs.declared.State.{State}
 
 pub refused-reply : (r : Refusal) (given : State) (accepted : Reply) →
@@ -18,7 +18,7 @@ refused-reply Settings given accepted = refl
 refused-reply Malformed given accepted = refl
 refused-reply Tables given accepted = refl
 refused-reply Clock given accepted = refl
-refused-reply Early given accepted = refl
+refused-reply TooSoon given accepted = refl
 refused-reply Empty given accepted = refl
 refused-reply Size given accepted = refl
 refused-reply Counts given accepted = refl

@@ -7,7 +7,7 @@ use native.Mathlib.Omega.{arith}
 use lib.Dec.{eqb, ltb}
 use borrow.Author.Tests.{eqb-false, eqb-true, ltb-false, not-false}
 use Rattle.laws.proofs.Tests.{and-left, and-right, or-neither}
-use Rattle.pie.specs.Constants.{largest, limit, period}
+use Rattle.pie.specs.Constants.{largest, latest, mostVerdicts, period}
 use Rattle.pie.specs.Verdicts.{total}
 use Rattle.pie.specs.declared.Backlog.{Backlog}
 use Rattle.queue.specs.Arrival.{arrivalRefusal, arrivalRefusals}
@@ -25,10 +25,10 @@ pub record ArrivalAccepted (s : State) (handlesLength sizesLength clock size : �
   pub handles : handlesLength ≡ s .settings .slots
   pub sizes : sizesLength ≡ s .settings .slots
   pub clock-low : s .clock .0 ≤ clock
-  pub clock-high : clock ≤ limit
+  pub clock-high : clock ≤ latest
   pub size-low : 1 ≤ size
   pub size-high : size ≤ largest
-  pub total-low : total (s .verdicts) < limit
+  pub total-low : total (s .verdicts) < mostVerdicts
 
 pub record DepartureAccepted (s : State) (handlesLength sizesLength clock headSize : ℕ) : Type 0 where
   pub formed : wellFormed s ≡ true
@@ -36,7 +36,7 @@ pub record DepartureAccepted (s : State) (handlesLength sizesLength clock headSi
   pub handles : handlesLength ≡ s .settings .slots
   pub sizes : sizesLength ≡ s .settings .slots
   pub clock-low : s .clock .0 ≤ clock
-  pub clock-high : clock ≤ limit
+  pub clock-high : clock ≤ latest
   pub some : 1 ≤ s .backlog .count
   pub head-low : 1 ≤ headSize
   pub head-high : headSize ≤ largest
@@ -48,7 +48,7 @@ pub record TickAccepted (s : State) (clock : ℕ) : Type 0 where
   pub formed : wellFormed s ≡ true
   pub known : Facts s
   pub clock-low : s .clock .0 ≤ clock
-  pub clock-high : clock ≤ limit
+  pub clock-high : clock ≤ latest
   pub due : s .last .0 + period ≤ clock
 
 -- ── what each test's failing says ──
@@ -61,9 +61,9 @@ tables-fit s handlesLength sizesLength e =
     let both : h && z ≡ true = not-false (h && z) e in
     (eqb-true _ _ (and-left h z both), eqb-true _ _ (and-right h z both))
 
-clock-in-order : (s : State) (clock : ℕ) → clockRefused s clock ≡ false → (s .clock .0 ≤ clock) × (clock ≤ limit)
+clock-in-order : (s : State) (clock : ℕ) → clockRefused s clock ≡ false → (s .clock .0 ≤ clock) × (clock ≤ latest)
 clock-in-order s clock e =
-    let n = or-neither (ltb clock (s .clock .0)) (ltb limit clock) e in
+    let n = or-neither (ltb clock (s .clock .0)) (ltb latest clock) e in
     (ltb-false _ _ (n .0), ltb-false _ _ (n .1))
 
 size-in-range : (size : ℕ) → sizeRefused size ≡ false → (1 ≤ size) × (size ≤ largest)
@@ -104,7 +104,7 @@ arrival-accepted s handlesLength sizesLength clock size e =
     let tables = tables-fit s handlesLength sizesLength (at 1) in
     let time = clock-in-order s clock (at 2) in
     let range = size-in-range size (at 3) in
-    let full : total (s .verdicts) ≢ limit = eqb-false _ _ (at 4) in
+    let full : total (s .verdicts) ≢ mostVerdicts = eqb-false _ _ (at 4) in
     record {
       formed = formed;
       known = known;

@@ -11,7 +11,7 @@ use Rattle.queue.specs.declared.ArrivalAnswer.the-variants.{Decided, Ref
 use Rattle.queue.specs.declared.Arrived.{Arrived}
 use Rattle.queue.specs.declared.Departed.{Departed}
 use Rattle.queue.specs.declared.Refusal.{Refusal}
-use Rattle.queue.specs.declared.Refusal.the-variants.{Settings, Malformed, Tables, Clock, Early, Empty, Size, Counts, Head}
+use Rattle.queue.specs.declared.Refusal.the-variants.{Settings, Malformed, Tables, Clock, TooSoon, Empty, Size, Counts, Head}
 use Rattle.queue.specs.declared.Returned.{Returned}
 use Rattle.queue.specs.declared.State.{State}
 
@@ -21,7 +21,7 @@ numberOf Settings = 1
 numberOf Malformed = 2
 numberOf Tables = 3
 numberOf Clock = 4
-numberOf Early = 5
+numberOf TooSoon = 5
 numberOf Empty = 6
 numberOf Size = 7
 numberOf Counts = 8
@@ -80,22 +80,22 @@ refusalIn Yes = 0
 refusalIn (No r) = numberOf r
 
 -- an answer that is `accepted` unless it is a refusal
-abbrev pub answerOf : Accepted → (accepted : Answer) → Answer
-answerOf Yes accepted = accepted
-answerOf (No r) accepted = refused (numberOf r)
+abbrev pub acceptedAnswer : Accepted → (accepted : Answer) → Answer
+acceptedAnswer Yes accepted = accepted
+acceptedAnswer (No r) accepted = refused (numberOf r)
 
 abbrev pub arrivalAnswer : ArrivalAnswer → Answer
 arrivalAnswer (Decided v) = verdict v
 arrivalAnswer (Refused r) = refused (numberOf r)
 
 abbrev pub freshReply : Returned → Reply
-freshReply r = record { answer = answerOf (r .accepted) made; state = r .state }
+freshReply r = record { answer = acceptedAnswer (r .accepted) made; state = r .state }
 
 abbrev pub arrivalReply : Arrived → Reply
 arrivalReply r = record { answer = arrivalAnswer (r .answer); state = r .state }
 
 abbrev pub departureReply : Departed → Reply
-departureReply r = record { answer = answerOf (r .accepted) (departed (r .handle) (r .size)); state = r .state }
+departureReply r = record { answer = acceptedAnswer (r .accepted) (departed (r .handle) (r .size)); state = r .state }
 
 abbrev pub tickReply : Returned → Reply
-tickReply r = record { answer = answerOf (r .accepted) ticked; state = r .state }
+tickReply r = record { answer = acceptedAnswer (r .accepted) ticked; state = r .state }

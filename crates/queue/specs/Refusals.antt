@@ -3,7 +3,7 @@ use mathlib.Core.Bool.{Bool, cond, not, _&&_, _||_}
 use mathlib.Core.List.{List, [], _∷_}
 use Prim.Native.Nat.{ℕ, _+_, _-_, _*_}
 use lib.Dec.{ltb, leb, eqb}
-use Rattle.pie.specs.Constants.{largest, limit, period}
+use Rattle.pie.specs.Constants.{largest, latest, mostVerdicts, period}
 use Rattle.pie.specs.Verdicts.{total}
 use Rattle.pie.specs.declared.Backlog.{Backlog}
 use Rattle.queue.specs.State.{all, settingsConditions, wellFormed}
@@ -17,7 +17,7 @@ firstRefusal ((number, test) ∷ rows) = cond test number (firstRefusal rows)
 
 -- 1: target, buffer or slots out of range, or start clock above 2^48
 abbrev pub settingsRefused : Settings → (clock : ℕ) → Bool
-settingsRefused s clock = not (all (settingsConditions s) && leb clock limit)
+settingsRefused s clock = not (all (settingsConditions s) && leb clock latest)
 
 -- 2: state not well formed
 abbrev pub stateRefused : State → Bool
@@ -29,11 +29,11 @@ tablesRefused s handlesLength sizesLength = not (eqb handlesLength (s .settings 
 
 -- 4: the call's clock is less than the state's, or above 2^48
 abbrev pub clockRefused : State → (clock : ℕ) → Bool
-clockRefused s clock = ltb clock (s .clock .0) || ltb limit clock
+clockRefused s clock = ltb clock (s .clock .0) || ltb latest clock
 
 -- 5: clock less than last tick + 15,000
-abbrev pub earlyRefused : State → (clock : ℕ) → Bool
-earlyRefused s clock = ltb clock (s .last .0 + period)
+abbrev pub tooSoonRefused : State → (clock : ℕ) → Bool
+tooSoonRefused s clock = ltb clock (s .last .0 + period)
 
 -- 6: count is 0
 abbrev pub emptyRefused : State → Bool
@@ -45,7 +45,7 @@ sizeRefused size = eqb size 0 || ltb largest size
 
 -- 8: the five counts sum to 2^48
 abbrev pub countsRefused : State → Bool
-countsRefused s = eqb (total (s .verdicts)) limit
+countsRefused s = eqb (total (s .verdicts)) mostVerdicts
 
 -- 9: the head's stored size is 0 or above 65,535, or removing it would take bytes below 0 or break count ≤ bytes ≤ 65,535 × count
 unfoldable pub headRefused : Backlog → (size : ℕ) → Bool

@@ -4,7 +4,7 @@ use mathlib.Core.List.{List, [], _∷_, _++_, foldl}
 use Prim.Native.Nat.{ℕ, _*_, _^_}
 use lib.Dec.{leb, ltb, eqb}
 use Rattle.units.specs.Kinds.{whole}
-use Rattle.pie.specs.Constants.{fullAllowance, largest, limit, longest, threshold}
+use Rattle.pie.specs.Constants.{fullAllowance, largest, latest, longest, mostVerdicts, threshold}
 use Rattle.pie.specs.Verdicts.{total}
 use Rattle.queue.specs.declared.Settings.{Settings}
 use Rattle.queue.specs.declared.State.{State}
@@ -28,7 +28,7 @@ settingsConditions s =
 abbrev pub stateConditions : State → List Bool
 stateConditions s =
     leb (s .last .0) (s .clock .0)
-    ∷ leb (s .clock .0) limit
+    ∷ leb (s .clock .0) latest
     ∷ leb (s .pie .prob .0) whole
     ∷ leb (s .pie .old .0) longest
     ∷ leb (s .pie .allowance .0) fullAllowance
@@ -42,7 +42,7 @@ stateConditions s =
     ∷ ltb (s .pie .rate .counted .0) threshold
     ∷ (s .pie .rate .measuring || eqb (s .pie .rate .start .0) 0)
     ∷ (s .pie .rate .measuring || eqb (s .pie .rate .counted .0) 0)
-    ∷ leb (total (s .verdicts)) limit
+    ∷ leb (total (s .verdicts)) mostVerdicts
     ∷ []
 
 unfoldable pub wellFormed : State → Bool

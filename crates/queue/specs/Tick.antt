@@ -5,14 +5,14 @@ use Prim.Native.Nat.{ℕ}
 use Rattle.units.specs.Kinds.{micros}
 use Rattle.pie.specs.Update.{updated}
 use Rattle.queue.specs.Answer.{Reply, ticked, unlessRefused}
-use Rattle.queue.specs.Refusals.{clockRefused, earlyRefused, firstRefusal, stateRefused}
+use Rattle.queue.specs.Refusals.{clockRefused, tooSoonRefused, firstRefusal, stateRefused}
 use Rattle.queue.specs.declared.State.{State}
 
 abbrev pub tickRefusals : State → (clock : ℕ) → List (ℕ × Bool)
 tickRefusals s clock =
     (2, stateRefused s)
     ∷ (4, clockRefused s clock)
-    ∷ (5, earlyRefused s clock)
+    ∷ (5, tooSoonRefused s clock)
     ∷ []
 
 unfoldable pub tickRefusal : State → (clock : ℕ) → ℕ

@@ -4,7 +4,9 @@ use crate::ArrivalAnswer;
 use crate::Arrived;
 use crate::Refusal;
 use crate::State;
-use crate::well_formed::LIMIT;
+use pie::LARGEST;
+use pie::LATEST;
+use pie::MOST_VERDICTS;
 use pie::Verdict;
 use pie::raise;
 use units::Bytes;
@@ -14,7 +16,7 @@ ghost use mathlib.Core.Bool.{cond, true};
 ghost use Prim.Native.Nat.{_≤_, _<_};
 ghost use lib.Dec.{eqb};
 ghost use lib.ListN.{length, set};
-ghost use Rattle.pie.specs.Constants.{largest, limit};
+ghost use Rattle.pie.specs.Constants.{largest, mostVerdicts};
 ghost use Rattle.pie.specs.Verdicts.{admitted, total};
 ghost use Rattle.queue.specs.State.{wellFormed};
 ghost use Rattle.queue.specs.Answer.{arrivalReply, refusalIn};
@@ -22,15 +24,15 @@ ghost use Rattle.queue.specs.Arrival.{arrival, arrivalRefusal, arrivedSt
 
 // Whether the five counts, whose sum is in range, sum to 2^48.
 fn counts_full(counts: [u64; 5]) -> bool
-    requires { ⌜ total counts ≤ limit ⌝ }
-    ensures { λ r. ⌜ r ≡ eqb (total counts) limit ⌝ }
+    requires { ⌜ total counts ≤ mostVerdicts ⌝ }
+    ensures { λ r. ⌜ r ≡ eqb (total counts) mostVerdicts ⌝ }
 {
     let a = counts[0];
     let b = counts[1];
     let c = counts[2];
     let d = counts[3];
     let e = counts[4];
-    e == LIMIT - a - b - c - d
+    e == MOST_VERDICTS - a - b - c - d
 }
 
 impl State {
@@ -47,11 +49,11 @@ impl State {
         if !fit {
             return Accepted::No(Refusal::Tables);
         }
-        let wrong_clock = (clock.0 < self.clock.0) | (LIMIT < clock.0);
+        let wrong_clock = (clock.0 < self.clock.0) | (LATEST < clock.0);
         if wrong_clock {
             return Accepted::No(Refusal::Clock);
         }
-        let wrong_size = (size.0 == 0) | (65_535 < size.0);
+        let wrong_size = (size.0 == 0) | (LARGEST < size.0);
         if wrong_size {
             return Accepted::No(Refusal::Size);
         }
@@ -85,7 +87,7 @@ impl State {
     // The state after an arrival with this verdict.
     fn arrived(self, clock: Micros, size: Bytes, v: Verdict) -> State
         requires { ⌜ wellFormed self ≡ true ⌝ }
-        requires { ⌜ (total (self .verdicts) < limit) × (size .0 ≤ largest) ⌝ }
+        requires { ⌜ (total (self .verdicts) < mostVerdicts) × (size .0 ≤ largest) ⌝ }
         ensures { λ r. ⌜ r ≡ arrivedState self (clock .0) (size .0) v ⌝ }
     {
         let counts = self.verdicts;

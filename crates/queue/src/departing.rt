@@ -3,8 +3,9 @@ use crate::Accepted;
 use crate::Departed;
 use crate::Refusal;
 use crate::State;
-use crate::well_formed::LIMIT;
 use pie::Backlog;
+use pie::LARGEST;
+use pie::LATEST;
 use pie::Pie;
 use units::Bytes;
 use units::Micros;
@@ -29,7 +30,7 @@ fn wrong_head(backlog: Backlog, size: u64) -> bool
     }
     let left = bytes - size;
     let others = backlog.count - 1;
-    (size == 0) | (65_535 < size) | (left < others) | (65_535 * others < left)
+    (size == 0) | (LARGEST < size) | (left < others) | (LARGEST * others < left)
 }
 
 impl State {
@@ -46,7 +47,7 @@ impl State {
         if !fit {
             return Accepted::No(Refusal::Tables);
         }
-        let wrong_clock = (clock.0 < self.clock.0) | (LIMIT < clock.0);
+        let wrong_clock = (clock.0 < self.clock.0) | (LATEST < clock.0);
         if wrong_clock {
             return Accepted::No(Refusal::Clock);
         }

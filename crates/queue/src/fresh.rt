@@ -4,8 +4,9 @@ use crate::Refusal;
 use crate::Returned;
 use crate::Settings;
 use crate::State;
-use crate::well_formed::LIMIT;
 use pie::Backlog;
+use pie::FULL_ALLOWANCE;
+use pie::LATEST;
 use pie::Pie;
 use pie::Rate;
 use units::Bytes;
@@ -55,11 +56,11 @@ impl State {
             buffer,
             slots,
         };
-        let fits = settings.in_range() & (clock.0 <= LIMIT);
+        let fits = settings.in_range() & (clock.0 <= LATEST);
         if fits {
             return Returned {
                 accepted: Accepted::Yes,
-                state: empty(settings, clock, Micros(150_000)),
+                state: empty(settings, clock, Micros(FULL_ALLOWANCE)),
             };
         }
         let none = Settings {

@@ -37,7 +37,7 @@ pub enum Refusal {
     Malformed,
     Tables,
     Clock,
-    Early,
+    TooSoon,
     Empty,
     Size,
     Counts,

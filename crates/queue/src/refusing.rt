@@ -13,7 +13,7 @@ impl Refusal {
             Refusal::Malformed => 2,
             Refusal::Tables => 3,
             Refusal::Clock => 4,
-            Refusal::Early => 5,
+            Refusal::TooSoon => 5,
             Refusal::Empty => 6,
             Refusal::Size => 7,
             Refusal::Counts => 8,

@@ -3,7 +3,8 @@ use crate::Accepted;
 use crate::Refusal;
 use crate::Returned;
 use crate::State;
-use crate::well_formed::LIMIT;
+use pie::LATEST;
+use pie::PERIOD;
 use units::Micros;
 ghost use mathlib.Core.Path.{_≡_};
 ghost use mathlib.Core.Bool.{true};
@@ -20,13 +21,13 @@ impl State {
         if !formed {
             return Accepted::No(Refusal::Malformed);
         }
-        let wrong_clock = (clock.0 < self.clock.0) | (LIMIT < clock.0);
+        let wrong_clock = (clock.0 < self.clock.0) | (LATEST < clock.0);
         if wrong_clock {
             return Accepted::No(Refusal::Clock);
         }
-        let early = clock.0 < self.last.0 + 15_000;
-        if early {
-            return Accepted::No(Refusal::Early);
+        let too_soon = clock.0 < self.last.0 + PERIOD;
+        if too_soon {
+            return Accepted::No(Refusal::TooSoon);
         }
         Accepted::Yes
     }

@@ -1,40 +1,44 @@
 // Whether a state record is well formed. Any values of its fields are taken.
 use crate::Settings;
 use crate::State;
+use pie::FULL_ALLOWANCE;
+use pie::LARGEST;
+use pie::LATEST;
+use pie::LONGEST;
+use pie::MOST_VERDICTS;
 use pie::Rate;
+use pie::THRESHOLD;
 use units::Micros;
+use units::Prob;
 ghost use mathlib.Core.Path.{_≡_};
 ghost use mathlib.Core.Bool.{_&&_, _||_};
 ghost use lib.Dec.{eqb, leb, ltb};
-ghost use Rattle.pie.specs.Constants.{limit, threshold};
+ghost use Rattle.pie.specs.Constants.{mostVerdicts, threshold};
 ghost use Rattle.pie.specs.Verdicts.{total};
 ghost use Rattle.queue.specs.State.{all, settingsConditions, wellFormed};
 
-// The latest clock, and the most that the verdict counts may sum to.
-pub const LIMIT: u64 = 281_474_976_710_656;
-
 // Whether the five counts sum to at most 2^48: what is left of it after each of them.
 pub fn counts_fit(counts: [u64; 5]) -> bool
-    ensures { λ r. ⌜ r ≡ leb (total counts) limit ⌝ }
+    ensures { λ r. ⌜ r ≡ leb (total counts) mostVerdicts ⌝ }
 {
     let a = counts[0];
     let b = counts[1];
     let c = counts[2];
     let d = counts[3];
     let e = counts[4];
-    if LIMIT < a {
+    if MOST_VERDICTS < a {
         return false;
     }
-    if LIMIT - a < b {
+    if MOST_VERDICTS - a < b {
         return false;
     }
-    if LIMIT - a - b < c {
+    if MOST_VERDICTS - a - b < c {
         return false;
     }
-    if LIMIT - a - b - c < d {
+    if MOST_VERDICTS - a - b - c < d {
         return false;
     }
-    e <= LIMIT - a - b - c - d
+    e <= MOST_VERDICTS - a - b - c - d
 }
 
 impl Settings {
@@ -59,7 +63,7 @@ fn measurement_fits(rate: Rate, clock: Micros) -> bool
         if clock.0 < rate.start.0 {
             return false;
         }
-        return rate.counted.0 < 16_384;
+        return rate.counted.0 < THRESHOLD;
     }
     if rate.start.0 != 0 {
         return false;
@@ -81,11 +85,11 @@ impl State {
         let backlog = self.backlog;
         let fits = settings.in_range()
             & (self.last.0 <= self.clock.0)
-            & (self.clock.0 <= LIMIT)
-            & (pie.prob.0 <= 4_294_967_296)
-            & (pie.old.0 <= 10_000_000)
-            & (pie.allowance.0 <= 150_000)
-            & (pie.rate.average.0 <= 10_000_000)
+            & (self.clock.0 <= LATEST)
+            & (pie.prob.0 <= Prob::WHOLE.0)
+            & (pie.old.0 <= LONGEST)
+            & (pie.allowance.0 <= FULL_ALLOWANCE)
+            & (pie.rate.average.0 <= LONGEST)
             & (self.first < settings.slots)
             & (backlog.count <= settings.slots)
             & (backlog.count <= backlog.bytes.0)
@@ -93,7 +97,7 @@ impl State {
         if !fits {
             return false;
         }
-        if 65_535 * backlog.count < backlog.bytes.0 {
+        if LARGEST * backlog.count < backlog.bytes.0 {
             return false;
         }
         measurement_fits(pie.rate, self.clock)

@@ -12,7 +12,7 @@ use Rattle.command.proofs.Reading.{reads-lines}
 use Rattle.script.specs.Feeding.{Machine, byteFed, endFed, fed, hasEnded, lineFed}
 use Rattle.script.specs.Lines.{joined, linesOf}
 use Rattle.script.specs.Pieces.{NothingAfterABadLine, PiecesWriteTheScript, emptied, joinedUp, start, written}
-use Rattle.script.specs.Script.{Run, answerLine, script, startRun}
+use Rattle.script.specs.Script.{ScriptRun, answerLine, script, startRun}
 use Rattle.script.specs.declared.Stage.{Stage}
 use Rattle.script.specs.declared.Stage.the-variants.{First, Running, Ended}
 use Rattle.script.proofs.Stages.{at-ended}
@@ -42,21 +42,21 @@ after-more : (begins : List ℕ) (b : ℕ) (lines : List (List ℕ)) → after (
 after-more begins b [] = last-more begins b
 after-more begins b (line ∷ lines) = rw append-assoc
 
-abbrev at : Run → List ℕ → Machine
+abbrev at : ScriptRun → List ℕ → Machine
 at r begins = record { run = r; reader = foldl pushed begun begins }
 
 -- a line that has begun is answered at the end of the input
-end-answered : (begins : List ℕ) (r : Run) → endFed (at r begins) .run ≡ foldl answerLine r (map readLine (lastLine begins))
+end-answered : (begins : List ℕ) (r : ScriptRun) → endFed (at r begins) .run ≡ foldl answerLine r (map readLine (lastLine begins))
 unfolding endFed
 end-answered [] r = refl
 end-answered (b ∷ begins) r = rw (not-empty b begins) (ap (answerLine r) (reads-lines (b ∷ begins)))
 
-lines-fed : (rest begins : List ℕ) (r : Run) → endFed (fed (at r begins) rest) .run ≡ foldl answerLine r (map readLine (after begins (linesOf rest)))
+lines-fed : (rest begins : List ℕ) (r : ScriptRun) → endFed (fed (at r begins) rest) .run ≡ foldl answerLine r (map readLine (after begins (linesOf rest)))
 unfolding fed linesOf
 lines-fed [] begins r = end-answered begins r
 lines-fed (b ∷ rest) begins r = go (eqb b 10) refl (lines-fed rest)
   where
-    go : (t : Bool) → eqb b 10 ≡ t → ((begins : List ℕ) (r : Run) → endFed (fed (at r begins) rest) .run ≡ foldl answerLine r (map readLine (after begins (linesOf rest)))) → endFed (fed (byteFed (at r begins) b) rest) .run ≡ foldl answerLine r (map readLine (after begins (joined (eqb b 10) b (linesOf rest))))
+    go : (t : Bool) → eqb b 10 ≡ t → ((begins : List ℕ) (r : ScriptRun) → endFed (fed (at r begins) rest) .run ≡ foldl answerLine r (map readLine (after begins (linesOf rest)))) → endFed (fed (byteFed (at r begins) b) rest) .run ≡ foldl answerLine r (map readLine (after begins (joined (eqb b 10) b (linesOf rest))))
     go true e ih =
         rw (e, append-nil, ← (reads-lines begins))
         (ih [] (answerLine r (finished (foldl pushed begun begins))) ∙ rw after-nothing)
@@ -67,7 +67,7 @@ lines-fed (b ∷ rest) begins r = go (eqb b 10) refl (lines-fed rest)
 
 whole : (input : List ℕ) → endFed (fed start input) .run .output ≡ script input
 unfolding script
-whole input = ap (λ (r : Run). r .output) (rw after-nothing at (lines-fed input [] startRun))
+whole input = ap (λ (r : ScriptRun). r .output) (rw after-nothing at (lines-fed input [] startRun))
 
 -- ── pieces ──
 
@@ -119,7 +119,7 @@ ended First e = absurd (false≢true e)
 ended Running e = absurd (false≢true e)
 ended Ended e = refl
 
-line-stays : (r : Run) (command : Command) → r .session .stage ≡ Ended → answerLine r command ≡ r
+line-stays : (r : ScriptRun) (command : Command) → r .session .stage ≡ Ended → answerLine r command ≡ r
 unfolding answerLine
 line-stays r command e = rw (at-ended (r .session) (r .handles) (r .sizes) command e, append-nil)
 
@@ -149,4 +149,4 @@ nothing-after-a-bad-line taken rest h =
     let more = fed-stays rest m e in
     let last = end-stays (fed m rest) (rw more e) in
     let all : endFed (fed start (taken ++ rest)) .run ≡ m .run = rw fed-append (last ∙ more) in
-    ap (λ (r : Run). r .output) (sym all) ∙ whole (taken ++ rest)
+    ap (λ (r : ScriptRun). r .output) (sym all) ∙ whole (taken ++ rest)

@@ -18,7 +18,7 @@ use Rattle.command.specs.declared.Scanned.{Scanned}
 use Rattle.script.specs.Answering.{outcome}
 use Rattle.script.specs.Done.{Did}
 use Rattle.script.specs.Feeding.{Machine, byteFed, fed, lineFed, machine}
-use Rattle.script.specs.Script.{Run, answerLine}
+use Rattle.script.specs.Script.{ScriptRun, answerLine}
 use Rattle.script.specs.Turn.{Follows}
 use Rattle.script.specs.declared.Answered.{Answered}
 use Rattle.script.specs.declared.Fed.{Fed}
@@ -105,4 +105,4 @@ module _ (m : Machine) (input : List ℕ) (g : Fed) (handles sizes output : List
       let k′ : g .taken + lineEnd (drop (g .taken) input) < length input = omega arith in
       let line : fed m (take (s .at + 1) input) ≡ lineFed (reading n (s .reader)) = rw (at-is, reader-is) (past-the-newline m n input (g .taken) (omega arith) follows k′) in
       let done : answerLine (n .run) (finished (s .reader)) ≡ record { session = r .session; handles = h; sizes = z; output = take (r .end) o } = rw (← c) (answered-is (g .runner .session) handles sizes command r h z output o (g .written) d) in
-      line ∙ ap (λ (run : Run). reading (record { run = run; reader = begun }) begun) done
+      line ∙ ap (λ (run : ScriptRun). reading (record { run = run; reader = begun }) begun) done

@@ -2,6 +2,7 @@
 use mathlib.Core.Path.{_≡_}
 use mathlib.Core.List.{List, [], _∷_}
 use Prim.Native.String.{String}
+use Rattle.laws.specs.Every.{Every}
 use Rattle.answers.specs.Output.{ascii}
 use Rattle.script.specs.Script.{script}
 
@@ -57,9 +58,8 @@ cases =
     ∷ ("\nc 15000 64000 4\n", "bad line 1\n")
     ∷ []
 
-abbrev pub All : List (String × String) → Type 0
-All [] = Unit {0}
-All ((input, output) ∷ rest) = (script (ascii input) ≡ ascii output) × All rest
+abbrev pub Writes : String × String → Type 0
+Writes (input, output) = script (ascii input) ≡ ascii output
 
 abbrev pub CasesHold : Type 0
-CasesHold = All cases
+CasesHold = Every Writes cases

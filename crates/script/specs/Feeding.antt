@@ -5,14 +5,14 @@ use Prim.Native.Nat.{ℕ, _-_}
 use lib.Dec.{eqb, ltb}
 use Rattle.command.specs.Reader.{begun, finished, isEmpty, pushed}
 use Rattle.command.specs.declared.Reader.{Reader}
-use Rattle.script.specs.Script.{Run, answerLine, startSession}
+use Rattle.script.specs.Script.{ScriptRun, answerLine, startSession}
 use Rattle.script.specs.declared.Runner.{Runner}
 use Rattle.script.specs.declared.Stage.{Stage}
 use Rattle.script.specs.declared.Stage.the-variants.{First, Running, Ended}
 
 -- a run, and the reader of the line that has begun
 pub record Machine : Type 0 where
-  pub run : Run
+  pub run : ScriptRun
   pub reader : Reader
 
 -- a runner with the tables that it is lent and what it has written

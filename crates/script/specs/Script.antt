@@ -11,7 +11,7 @@ use Rattle.script.specs.declared.Session.{Session}
 use Rattle.script.specs.declared.Stage.the-variants.{First}
 
 -- where a run stands, and what it has written
-pub record Run : Type 0 where
+pub record ScriptRun : Type 0 where
   pub session : Session
   pub handles : List ℕ
   pub sizes : List ℕ
@@ -24,10 +24,10 @@ startSession = record { stage = First; line = 1; state = zeroState }
 abbrev pub noPackets : List ℕ
 noPackets = replicate 4096 0
 
-abbrev pub startRun : Run
+abbrev pub startRun : ScriptRun
 startRun = record { session = startSession; handles = noPackets; sizes = noPackets; output = [] }
 
-unfoldable pub answerLine : Run → Command → Run
+unfoldable pub answerLine : ScriptRun → Command → ScriptRun
 answerLine r command =
     let o = outcome (r .session) (r .handles) (r .sizes) command in
     record { session = o .session; handles = o .handles; sizes = o .sizes; output = r .output ++ o .text }

@@ -1,5 +1,5 @@
 -- `encode`: each word is its field.
-use Rattle.capi.specs.Words.{wordsOf}
+use Rattle.capi.specs.Words.{stateWords}
 use borrow.Author.Needs.{needs}
 use Rattle.capi.proofs.encode.Statement.{statement}
 use Rattle.capi.proofs.encode.Tie as tie
@@ -26,7 +26,7 @@ flag-requires : tie.Need-flag-requires
 flag-requires c κs = search needs
 
 returns : tie.Need-returns
-unfolding wordsOf
+unfolding stateWords
 returns c = rw (c .before .flag .ensures)
 
 pub encode-spec : {M : Type 1} → statement M

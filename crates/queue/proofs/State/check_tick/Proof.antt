@@ -20,8 +20,8 @@ unfolding tickRefusal
 returns-2 c =
     let e1 = c .before .before .before .before in simp (← (e1 .before .well-formed .ensures), e1 .if1 .left, c .if2 .taken)
 
-add-early : tie.Need-add-early
-add-early c =
+add-too-soon : tie.Need-add-too-soon
+add-too-soon c =
     let e1 = c .before .before .before .before .before in
     let w = e1 .before in
     let f = facts (w .before .args .self) (sym (w .well-formed .ensures) ∙ not-false _ (e1 .if1 .left)) in omega arith
@@ -40,4 +40,4 @@ returns-4 c =
 
 pub check-tick-spec : {M : Type 1} → statement M
 check-tick-spec =
-    tie.close (tie.spec well-formed-requires returns returns-2 add-early returns-3 returns-4)
+    tie.close (tie.spec well-formed-requires returns returns-2 add-too-soon returns-3 returns-4)

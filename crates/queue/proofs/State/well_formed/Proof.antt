@@ -8,7 +8,7 @@ use Prim.Native.Nat.{_*_}
 use native.Mathlib.Omega.{arith}
 use lib.Dec.{leb, ltb}
 use Rattle.units.specs.Kinds.{whole}
-use Rattle.pie.specs.Constants.{fullAllowance, largest, limit, longest}
+use Rattle.pie.specs.Constants.{fullAllowance, largest, latest, longest, mostVerdicts}
 use Rattle.pie.specs.Verdicts.{total}
 use Rattle.queue.specs.State.{all, settingsConditions, wellFormed}
 use Rattle.queue.specs.declared.State.{State}
@@ -21,7 +21,7 @@ use Rattle.queue.proofs.State.well_formed.Tie as tie
 abbrev tests : State → List Bool
 tests s =
     leb (s .last .0) (s .clock .0)
-    ∷ leb (s .clock .0) limit
+    ∷ leb (s .clock .0) latest
     ∷ leb (s .pie .prob .0) whole
     ∷ leb (s .pie .old .0) longest
     ∷ leb (s .pie .allowance .0) fullAllowance
@@ -49,7 +49,7 @@ module _ (s : State) where
       rw (
         settings-pass f,
         le-leb (s .last .0) (s .clock .0) (f .last-high),
-        le-leb (s .clock .0) limit (f .clock-high),
+        le-leb (s .clock .0) latest (f .clock-high),
         le-leb (s .pie .prob .0) whole (f .prob-high),
         le-leb (s .pie .old .0) longest (f .old-high),
         le-leb (s .pie .allowance .0) fullAllowance (f .allowance-high),
@@ -73,21 +73,21 @@ counts-fit-requires : tie.Need-counts-fit-requires
 counts-fit-requires c κs = search needs
 
 returns : tie.Need-returns
-returns c = part _ _ _ (λ f. le-leb _ limit (f .total-high)) (c .before .counts-fit .ensures) (c .if1 .taken)
+returns c = part _ _ _ (λ f. le-leb _ mostVerdicts (f .total-high)) (c .before .counts-fit .ensures) (c .if1 .taken)
 
 in-range-requires : tie.Need-in-range-requires
 in-range-requires c κs = search needs
 
 returns-2 : tie.Need-returns-2
 returns-2 c =
-    let r = c .before .before .before .before .before .before .before .before .before .before .before .before .before .before in
+    let r = c .before .before .before .before .before .before .before .before .before .before .before .before .before .before .before in
     let s = r .before .before .before .before .before .before .before .args .self in
     part s _ _ (tests-pass s) (tested s _ (r .in-range .ensures)) (c .if2 .taken)
 
 mul-if3 : tie.Need-mul-if3
 mul-if3 c =
     let e2 = c .before in
-    let r = e2 .before .before .before .before .before .before .before .before .before .before .before .before .before .before in
+    let r = e2 .before .before .before .before .before .before .before .before .before .before .before .before .before .before .before in
     let s = r .before .before .before .before .before .before .before .args .self in
     let passed = not-false (foldl _&&_ (r .in-range .result) (tests s)) (e2 .if2 .left) in
     let settings = sym (r .in-range .ensures) ∙ first-of (r .in-range .result) (tests s) passed in
@@ -108,12 +108,12 @@ unfolding wellFormed
 returns-4 c =
     let e3 = c .before in
     let e2 = e3 .before .before .before in
-    let r = e2 .before .before .before .before .before .before .before .before .before .before .before .before .before .before in
+    let r = e2 .before .before .before .before .before .before .before .before .before .before .before .before .before .before .before in
     let e1 = r .before .before .before .before in
     let s = e1 .before .before .before .args .self in
     let passed = not-false (foldl _&&_ (r .in-range .result) (tests s)) (e2 .if2 .left) in
     let b = at-from (r .in-range .result) (tests s) passed in
-    let counted : leb (total (s .verdicts)) limit ≡ true = sym (e1 .before .counts-fit .ensures) ∙ not-false _ (e1 .if1 .left) in
+    let counted : leb (total (s .verdicts)) mostVerdicts ≡ true = sym (e1 .before .counts-fit .ensures) ∙ not-false _ (e1 .if1 .left) in
     simp (
       ← (r .in-range .ensures),
       first-of (r .in-range .result) (tests s) passed,

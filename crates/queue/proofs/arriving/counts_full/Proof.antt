@@ -8,7 +8,7 @@ use Prim.Native.Nat.{ℕ, _+_, _-_, _≤_}
 use native.Mathlib.Omega.{arith}
 use lib.Dec.{eqb}
 use lib.ListN.{getD}
-use Rattle.pie.specs.Constants.{limit}
+use Rattle.pie.specs.Constants.{mostVerdicts}
 use Rattle.queue.proofs.FiveCounts.{total-five}
 use Rattle.queue.proofs.arriving.counts_full.Statement.{statement}
 use Rattle.queue.proofs.arriving.counts_full.Tie as tie
@@ -52,8 +52,8 @@ returns c =
     let counts = c .args .t1 in
     let at : ℕ → ℕ = λ i. getD counts i 0 in
     let five = total-five counts (search needs) in
-    let left : limit - at 0 - at 1 - at 2 - at 3 ≡ limit - (at 0 + at 1 + at 2 + at 3) = omega arith in
-    rw (five, left) (all-that-is-left (at 0 + at 1 + at 2 + at 3) (at 4) limit (omega arith))
+    let left : mostVerdicts - at 0 - at 1 - at 2 - at 3 ≡ mostVerdicts - (at 0 + at 1 + at 2 + at 3) = omega arith in
+    rw (five, left) (all-that-is-left (at 0 + at 1 + at 2 + at 3) (at 4) mostVerdicts (omega arith))
 
 pub counts-full-spec : {M : Type 1} → statement M
 counts-full-spec =

@@ -7,7 +7,7 @@ use Prim.Native.Nat.{ℕ, _+_, _-_, _≤_}
 use native.Mathlib.Omega.{arith}
 use lib.Dec.{leb}
 use lib.ListN.{getD}
-use Rattle.pie.specs.Constants.{limit}
+use Rattle.pie.specs.Constants.{mostVerdicts}
 use Rattle.pie.specs.Verdicts.{total}
 use Rattle.queue.proofs.FiveCounts.{total-five}
 use Rattle.queue.proofs.well_formed.counts_fit.Statement.{statement}
@@ -39,12 +39,12 @@ array-read-e c = search needs
 returns : tie.Need-returns
 returns c =
     let counts = c .before .args .t1 in
-    let five = total-five counts (search needs) in sym (lt-leb (total counts) limit (omega arith))
+    let five = total-five counts (search needs) in sym (lt-leb (total counts) mostVerdicts (omega arith))
 
 returns-2 : tie.Need-returns-2
 returns-2 c =
     let counts = c .before .before .args .t1 in
-    let five = total-five counts (search needs) in sym (lt-leb (total counts) limit (omega arith))
+    let five = total-five counts (search needs) in sym (lt-leb (total counts) mostVerdicts (omega arith))
 
 sub-if3 : tie.Need-sub-if3
 sub-if3 c = search needs
@@ -52,7 +52,7 @@ sub-if3 c = search needs
 returns-3 : tie.Need-returns-3
 returns-3 c =
     let counts = c .before .before .before .args .t1 in
-    let five = total-five counts (search needs) in sym (lt-leb (total counts) limit (omega arith))
+    let five = total-five counts (search needs) in sym (lt-leb (total counts) mostVerdicts (omega arith))
 
 sub-if4 : tie.Need-sub-if4
 sub-if4 c = search needs
@@ -63,7 +63,7 @@ sub-if4-2 c = search needs
 returns-4 : tie.Need-returns-4
 returns-4 c =
     let counts = c .before .before .before .before .args .t1 in
-    let five = total-five counts (search needs) in sym (lt-leb (total counts) limit (omega arith))
+    let five = total-five counts (search needs) in sym (lt-leb (total counts) mostVerdicts (omega arith))
 
 sub-result : tie.Need-sub-result
 sub-result c = search needs
@@ -78,8 +78,8 @@ returns-5 : tie.Need-returns-5
 returns-5 c =
     let counts = c .before .before .before .before .args .t1 in
     let at : ℕ → ℕ = λ i. getD counts i 0 in
-    let left : limit - at 0 - at 1 - at 2 - at 3 ≡ limit - (at 0 + at 1 + at 2 + at 3) = omega arith in
-    rw (total-five counts (search needs), left) (last-part limit (at 0 + at 1 + at 2 + at 3) (at 4) (omega arith))
+    let left : mostVerdicts - at 0 - at 1 - at 2 - at 3 ≡ mostVerdicts - (at 0 + at 1 + at 2 + at 3) = omega arith in
+    rw (total-five counts (search needs), left) (last-part mostVerdicts (at 0 + at 1 + at 2 + at 3) (at 4) (omega arith))
 
 pub counts-fit-spec : {M : Type 1} → statement M
 counts-fit-spec =

@@ -5,7 +5,7 @@ use borrow.Author.Tests.{le-leb, lt-leb}
 use lib.ListN.{length}
 use Rattle.command.specs.Reader.{begun}
 use Rattle.script.specs.Feeding.{endFed}
-use Rattle.script.specs.Script.{Run}
+use Rattle.script.specs.Script.{ScriptRun}
 use Rattle.script.proofs.Turns.{answered-is}
 use borrow.Author.Needs.{needs}
 use Rattle.script.proofs.feeding.finish.Statement.{statement}
@@ -55,7 +55,7 @@ returns-3 c =
     let r = c .before .before .before .before .before .before .before .before .answer in
     let done = answered-is (a .runner .session) (a .handles .now) (a .sizes .now) (f .result) (r .result) _ _ _ _ 0 (r .ensures) in
     let line = rw (f .ensures) at done in (
-      rw (c .begin .ensures, le-leb 128 (length (a .output .now)) roomy, ← e, full) (ap (λ (run : Run). record { run = run; reader = begun }) (sym line)),
+      rw (c .begin .ensures, le-leb 128 (length (a .output .now)) roomy, ← e, full) (ap (λ (run : ScriptRun). record { run = run; reader = begun }) (sym line)),
       (refl, omega (arith, roomy, r .ensures .said .short, r .kept)),
     )
 
