@@ -71,7 +71,8 @@ fn put_departed(handle: u32, out: &mut [u8], at: usize) -> usize
 
 pub fn put_departure(accepted: Accepted, handle: u32, out: &mut [u8], at: usize) -> usize
     requires { ⌜ at + 40 ≤ length (now out) ⌝ }
-    ensures { λ r. ⌜ ((size : ℕ) → Wrote (now (out .entry)) (now (out .exit)) at r (wordOf (acceptedAnswer accepted (departed handle size)))) ⌝ }
+    ensures { λ r. ⌜ ((size : ℕ) →
+        Wrote (now (out .entry)) (now (out .exit)) at r (wordOf (acceptedAnswer accepted (departed handle size)))) ⌝ }
     ensures { λ r. ⌜ r ≤ at + 40 ⌝ }
 {
     match accepted {

@@ -165,10 +165,11 @@ pub extern "C" fn obikuteru_arrival(
     ecn: bool,
     u: u32,
 ) -> u32
-    ensures { λ r. ⌜ r ≡ codeOf (arrival (stateOf (now (words .entry))) (now (handles .entry)) (now (sizes .entry)) clock size ecn u .answer) ⌝ }
-    ensures { λ _. ⌜ now (words .exit) ≡ wordsAfter (arrival (stateOf (now (words .entry))) (now (handles .entry)) (now (sizes .entry)) clock size ecn u) (now (words .entry)) ⌝ }
-    ensures { λ _. ⌜ now (handles .exit) ≡ stored (stateOf (now (words .entry))) (arrival (stateOf (now (words .entry))) (now (handles .entry)) (now (sizes .entry)) clock size ecn u .answer) (now (handles .entry)) handle ⌝ }
-    ensures { λ _. ⌜ now (sizes .exit) ≡ stored (stateOf (now (words .entry))) (arrival (stateOf (now (words .entry))) (now (handles .entry)) (now (sizes .entry)) clock size ecn u .answer) (now (sizes .entry)) size ⌝ }
+    ensures { λ r. ⌜ (let a = arrival (stateOf (now (words .entry))) (now (handles .entry)) (now (sizes .entry)) clock size ecn u in
+        (r ≡ codeOf (a .answer))
+        × (now (words .exit) ≡ wordsAfter a (now (words .entry)))
+        × (now (handles .exit) ≡ stored (stateOf (now (words .entry))) (a .answer) (now (handles .entry)) handle)
+        × (now (sizes .exit) ≡ stored (stateOf (now (words .entry))) (a .answer) (now (sizes .entry)) size)) ⌝ }
 {
     let s = decode(*words);
     let r = s.arrival(
@@ -196,9 +197,10 @@ pub extern "C" fn obikuteru_departure(
     clock: u64,
     packet: &mut [u32; 2],
 ) -> u32
-    ensures { λ r. ⌜ r ≡ codeOf (departure (stateOf (now (words .entry))) (now (handles .entry)) (now (sizes .entry)) clock .answer) ⌝ }
-    ensures { λ _. ⌜ now (words .exit) ≡ wordsAfter (departure (stateOf (now (words .entry))) (now (handles .entry)) (now (sizes .entry)) clock) (now (words .entry)) ⌝ }
-    ensures { λ _. ⌜ now (packet .exit) ≡ packetOf (departure (stateOf (now (words .entry))) (now (handles .entry)) (now (sizes .entry)) clock .answer) ⌝ }
+    ensures { λ r. ⌜ (let a = departure (stateOf (now (words .entry))) (now (handles .entry)) (now (sizes .entry)) clock in
+        (r ≡ codeOf (a .answer))
+        × (now (words .exit) ≡ wordsAfter a (now (words .entry)))
+        × (now (packet .exit) ≡ packetOf (a .answer))) ⌝ }
 {
     let s = decode(*words);
     let r = s.departure(handles, sizes, Micros(clock));
@@ -221,8 +223,8 @@ pub extern "C" fn obikuteru_departure(
 
 #[no_mangle]
 pub extern "C" fn obikuteru_tick(words: &mut [u64; 20], clock: u64) -> u32
-    ensures { λ r. ⌜ r ≡ codeOf (tick (stateOf (now (words .entry))) clock .answer) ⌝ }
-    ensures { λ _. ⌜ now (words .exit) ≡ wordsAfter (tick (stateOf (now (words .entry))) clock) (now (words .entry)) ⌝ }
+    ensures { λ r. ⌜ (let a = tick (stateOf (now (words .entry))) clock in
+        (r ≡ codeOf (a .answer)) × (now (words .exit) ≡ wordsAfter a (now (words .entry)))) ⌝ }
 {
     let s = decode(*words);
     let r = s.tick(Micros(clock));

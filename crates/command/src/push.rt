@@ -4,7 +4,8 @@ use crate::Reader;
 ghost use mathlib.Core.Path.{_≡_};
 ghost use mathlib.Core.Bool.{true};
 ghost use Rattle.command.specs.Numbers.{extended, isDigit};
-ghost use Rattle.command.specs.Reader.{afterDigits, afterGap, afterLetter, afterStart, begun, digitRead, fieldRead, isEmpty, pushed, spoiled};
+ghost use Rattle.command.specs.Reader.{afterDigits, afterGap, afterLetter, afterStart};
+ghost use Rattle.command.specs.Reader.{begun, digitRead, fieldRead, isEmpty, pushed, spoiled};
 
 impl Reader {
     pub fn begin() -> Reader

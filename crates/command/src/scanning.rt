@@ -53,7 +53,8 @@ fn read_field(begun: Reader, input: &[u8], from: usize) -> Scanned
 // Reads `input` from `from` on, up to a newline or to its end.
 pub fn scan(begun: Reader, input: &[u8], from: usize) -> Scanned
     requires { ⌜ from ≤ length (now input) ⌝ }
-    ensures { λ r. ⌜ (r .at ≡ from + lineEnd (drop from (now (input .entry)))) × (r .reader ≡ readOn begun (drop from (now (input .entry)))) ⌝ }
+    ensures { λ r. ⌜ (r .at ≡ from + lineEnd (drop from (now (input .entry))))
+        × (r .reader ≡ readOn begun (drop from (now (input .entry)))) ⌝ }
 {
     let mut reader = begun;
     let mut at = from;

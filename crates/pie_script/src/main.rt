@@ -24,7 +24,8 @@ fn feed_some(
     output: &mut [u8],
 ) -> Progress
     ensures { λ r. ⌜ r .taken ≤ length (now (input .entry)) ⌝ }
-    ensures { λ r. ⌜ Feeds begun (now (handles .entry)) (now (sizes .entry)) (now (input .entry)) (r .taken) (r .runner) (now (handles .exit)) (now (sizes .exit)) ⌝ }
+    ensures { λ r. ⌜ Feeds begun (now (handles .entry)) (now (sizes .entry)) (now (input .entry))
+        (r .taken) (r .runner) (now (handles .exit)) (now (sizes .exit)) ⌝ }
 {
     let fed = script::feed(begun, handles, sizes, input, output);
     let runner = fed.runner;
@@ -46,7 +47,8 @@ fn feed_piece(
     input: &[u8],
     output: &mut [u8],
 ) -> Progress
-    ensures { λ r. ⌜ Feeds begun (now (handles .entry)) (now (sizes .entry)) (now (input .entry)) (r .taken) (r .runner) (now (handles .exit)) (now (sizes .exit)) ⌝ }
+    ensures { λ r. ⌜ Feeds begun (now (handles .entry)) (now (sizes .entry)) (now (input .entry))
+        (r .taken) (r .runner) (now (handles .exit)) (now (sizes .exit)) ⌝ }
     ensures { λ r. ⌜ (r .more ≡ true → length (now (input .entry)) ≤ r .taken) ⌝ }
 {
     let mut runner = begun;

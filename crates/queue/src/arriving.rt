@@ -114,8 +114,10 @@ impl State {
     fn store(self, handles: &mut [u32], sizes: &mut [u32], v: Verdict, handle: u32, size: u32)
         requires { ⌜ wellFormed self ≡ true ⌝ }
         requires { ⌜ (length (now handles) ≡ self .settings .slots) × (length (now sizes) ≡ self .settings .slots) ⌝ }
-        ensures { λ _. ⌜ now (handles .exit) ≡ cond (admitted v) (set (now (handles .entry)) (tailPlace self) handle) (now (handles .entry)) ⌝ }
-        ensures { λ _. ⌜ now (sizes .exit) ≡ cond (admitted v) (set (now (sizes .entry)) (tailPlace self) size) (now (sizes .entry)) ⌝ }
+        ensures { λ _. ⌜ now (handles .exit)
+            ≡ cond (admitted v) (set (now (handles .entry)) (tailPlace self) handle) (now (handles .entry)) ⌝ }
+        ensures { λ _. ⌜ now (sizes .exit)
+            ≡ cond (admitted v) (set (now (sizes .entry)) (tailPlace self) size) (now (sizes .entry)) ⌝ }
     {
         let admits = v.admits();
         if admits {
@@ -138,8 +140,9 @@ impl State {
         u: u32,
     ) -> Arrived
         ensures { λ r. ⌜ arrivalReply r ≡ arrival self (now (handles .entry)) (now (sizes .entry)) (clock .0) (size .0) ecn u ⌝ }
-        ensures { λ _. ⌜ now (handles .exit) ≡ stored self (arrival self (now (handles .entry)) (now (sizes .entry)) (clock .0) (size .0) ecn u .answer) (now (handles .entry)) handle ⌝ }
-        ensures { λ _. ⌜ now (sizes .exit) ≡ stored self (arrival self (now (handles .entry)) (now (sizes .entry)) (clock .0) (size .0) ecn u .answer) (now (sizes .entry)) (size .0) ⌝ }
+        ensures { λ _. ⌜ (let a = arrival self (now (handles .entry)) (now (sizes .entry)) (clock .0) (size .0) ecn u in
+            (now (handles .exit) ≡ stored self (a .answer) (now (handles .entry)) handle)
+            × (now (sizes .exit) ≡ stored self (a .answer) (now (sizes .entry)) (size .0))) ⌝ }
     {
         let checked = self.check_arrival(handles.len() as u64, sizes.len() as u64, clock, size);
         match checked {

@@ -36,7 +36,8 @@ fn wrong_head(backlog: Backlog, size: u64) -> bool
 impl State {
     // Refusals 2, 3, 4, 6 and 9.
     fn check_departure(self, handles: u64, sizes: &[u32], clock: Micros) -> Accepted
-        ensures { λ r. ⌜ refusalIn r ≡ departureRefusal self handles (length (now (sizes .entry))) (clock .0) (headOf self (now (sizes .entry))) ⌝ }
+        ensures { λ r. ⌜ refusalIn r
+            ≡ departureRefusal self handles (length (now (sizes .entry))) (clock .0) (headOf self (now (sizes .entry))) ⌝ }
     {
         let formed = self.well_formed();
         if !formed {
@@ -68,7 +69,8 @@ impl State {
     // The state after the head, of this size, has left.
     fn departed(self, clock: Micros, size: Bytes) -> State
         requires { ⌜ wellFormed self ≡ true ⌝ }
-        requires { ⌜ (self .clock .0 ≤ clock .0) × (0 < self .backlog .count) × (size .0 ≤ self .backlog .bytes .0) × (size .0 ≤ largest) ⌝ }
+        requires { ⌜ (self .clock .0 ≤ clock .0) × (0 < self .backlog .count)
+            × (size .0 ≤ self .backlog .bytes .0) × (size .0 ≤ largest) ⌝ }
         ensures { λ r. ⌜ r ≡ departedState self (clock .0) (size .0) ⌝ }
     {
         let queued = self.backlog;
@@ -90,7 +92,8 @@ impl State {
     // The head leaves. The tables are only read.
     pub fn departure(self, handles: &[u32], sizes: &[u32], clock: Micros) -> Departed
         ensures { λ r. ⌜ departureReply r ≡ departure self (now (handles .entry)) (now (sizes .entry)) (clock .0) ⌝ }
-        ensures { λ r. ⌜ (r .handle ≡ handleIn (departure self (now (handles .entry)) (now (sizes .entry)) (clock .0) .answer)) × (r .size ≡ sizeIn (departure self (now (handles .entry)) (now (sizes .entry)) (clock .0) .answer)) ⌝ }
+        ensures { λ r. ⌜ (let a = departure self (now (handles .entry)) (now (sizes .entry)) (clock .0) in
+            (r .handle ≡ handleIn (a .answer)) × (r .size ≡ sizeIn (a .answer))) ⌝ }
     {
         let checked = self.check_departure(handles.len() as u64, sizes, clock);
         match checked {

@@ -56,7 +56,8 @@ impl Settings {
 
 // The measurement: start and counted bytes are 0 if none runs.
 fn measurement_fits(rate: Rate, clock: Micros) -> bool
-    ensures { λ r. ⌜ r ≡ (leb (rate .start .0) (clock .0) && ltb (rate .counted .0) threshold && (rate .measuring || eqb (rate .start .0) 0) && (rate .measuring || eqb (rate .counted .0) 0)) ⌝ }
+    ensures { λ r. ⌜ r ≡ (leb (rate .start .0) (clock .0) && ltb (rate .counted .0) threshold
+        && (rate .measuring || eqb (rate .start .0) 0) && (rate .measuring || eqb (rate .counted .0) 0)) ⌝ }
 {
     let runs = rate.measuring;
     if runs {

@@ -54,7 +54,8 @@ fn returned(session: Session, state: State) -> Session
 
 fn bad_line(session: Session, out: &mut [u8], at: usize) -> Answered
     requires { ⌜ at + 128 ≤ length (now out) ⌝ }
-    ensures { λ r. ⌜ ((handles sizes : List ℕ) → Said (refusedLine session handles sizes) r (now (out .entry)) (now (out .exit)) at) ⌝ }
+    ensures { λ r. ⌜ ((handles sizes : List ℕ) →
+        Said (refusedLine session handles sizes) r (now (out .entry)) (now (out .exit)) at) ⌝ }
 {
     let end = put_bad(session.line, out, at);
     let ended = Session {
@@ -76,7 +77,8 @@ fn start_line(
     at: usize,
 ) -> Answered
     requires { ⌜ at + 128 ≤ length (now out) ⌝ }
-    ensures { λ r. ⌜ ((handles sizes : List ℕ) → Said (replied session (fresh (settingsOf target buffer slots) 0) handles sizes) r (now (out .entry)) (now (out .exit)) at) ⌝ }
+    ensures { λ r. ⌜ ((handles sizes : List ℕ) →
+        Said (replied session (fresh (settingsOf target buffer slots) 0) handles sizes) r (now (out .entry)) (now (out .exit)) at) ⌝ }
 {
     let made = State::fresh(
         Micros(target as u64),
@@ -96,7 +98,8 @@ fn start_line(
 
 fn tick_line(session: Session, clock: u64, out: &mut [u8], at: usize) -> Answered
     requires { ⌜ at + 128 ≤ length (now out) ⌝ }
-    ensures { λ r. ⌜ ((handles sizes : List ℕ) → Said (replied session (tick (session .state) clock) handles sizes) r (now (out .entry)) (now (out .exit)) at) ⌝ }
+    ensures { λ r. ⌜ ((handles sizes : List ℕ) →
+        Said (replied session (tick (session .state) clock) handles sizes) r (now (out .entry)) (now (out .exit)) at) ⌝ }
 {
     let before = session.state;
     let ticked = before.tick(Micros(clock));
@@ -119,7 +122,9 @@ fn departure_line(
     at: usize,
 ) -> Answered
     requires { ⌜ at + 128 ≤ length (now out) ⌝ }
-    ensures { λ r. ⌜ Said (replied session (departure (session .state) (take (session .state .settings .slots) (now (handles .entry))) (take (session .state .settings .slots) (now (sizes .entry))) clock) (now (handles .entry)) (now (sizes .entry))) r (now (out .entry)) (now (out .exit)) at ⌝ }
+    ensures { λ r. ⌜ (let slots = session .state .settings .slots in
+        let a = departure (session .state) (take slots (now (handles .entry))) (take slots (now (sizes .entry))) clock in
+        Said (replied session a (now (handles .entry)) (now (sizes .entry))) r (now (out .entry)) (now (out .exit)) at) ⌝ }
 {
     let before = session.state;
     let slots = before.settings.slots;
@@ -149,7 +154,8 @@ fn arrival_line(
     at: usize,
 ) -> Answered
     requires { ⌜ at + 128 ≤ length (now out) ⌝ }
-    ensures { λ r. ⌜ Did (laterLine session (now (handles .entry)) (now (sizes .entry)) (Command.Arrival clock handle size ecn u)) r (now (handles .exit)) (now (sizes .exit)) (now (out .entry)) (now (out .exit)) at ⌝ }
+    ensures { λ r. ⌜ Did (laterLine session (now (handles .entry)) (now (sizes .entry)) (Command.Arrival clock handle size ecn u))
+        r (now (handles .exit)) (now (sizes .exit)) (now (out .entry)) (now (out .exit)) at ⌝ }
 {
     let before = session.state;
     let slots = before.settings.slots;
@@ -176,7 +182,8 @@ fn arrival_line(
 
 fn first_line(session: Session, command: Command, out: &mut [u8], at: usize) -> Answered
     requires { ⌜ at + 128 ≤ length (now out) ⌝ }
-    ensures { λ r. ⌜ ((handles sizes : List ℕ) → Said (firstLine session handles sizes command) r (now (out .entry)) (now (out .exit)) at) ⌝ }
+    ensures { λ r. ⌜ ((handles sizes : List ℕ) →
+        Said (firstLine session handles sizes command) r (now (out .entry)) (now (out .exit)) at) ⌝ }
 {
     match command {
         Command::Bad => bad_line(session, out, at),
@@ -200,7 +207,8 @@ fn later_line(
     at: usize,
 ) -> Answered
     requires { ⌜ at + 128 ≤ length (now out) ⌝ }
-    ensures { λ r. ⌜ Did (laterLine session (now (handles .entry)) (now (sizes .entry)) command) r (now (handles .exit)) (now (sizes .exit)) (now (out .entry)) (now (out .exit)) at ⌝ }
+    ensures { λ r. ⌜ Did (laterLine session (now (handles .entry)) (now (sizes .entry)) command)
+        r (now (handles .exit)) (now (sizes .exit)) (now (out .entry)) (now (out .exit)) at ⌝ }
 {
     match command {
         Command::Bad => bad_line(session, out, at),
@@ -237,7 +245,8 @@ pub fn answer(
     at: usize,
 ) -> Answered
     requires { ⌜ at + 128 ≤ length (now out) ⌝ }
-    ensures { λ r. ⌜ Did (outcome session (now (handles .entry)) (now (sizes .entry)) command) r (now (handles .exit)) (now (sizes .exit)) (now (out .entry)) (now (out .exit)) at ⌝ }
+    ensures { λ r. ⌜ Did (outcome session (now (handles .entry)) (now (sizes .entry)) command)
+        r (now (handles .exit)) (now (sizes .exit)) (now (out .entry)) (now (out .exit)) at ⌝ }
 {
     let stage = session.stage;
     match stage {

@@ -74,9 +74,11 @@ pub fn feed(
     input: &[u8],
     output: &mut [u8],
 ) -> Fed
-    ensures { λ r. ⌜ Follows (machine runner (now (handles .entry)) (now (sizes .entry)) []) (now (input .entry)) r (now (handles .exit)) (now (sizes .exit)) (now (output .exit)) ⌝ }
+    ensures { λ r. ⌜ Follows (machine runner (now (handles .entry)) (now (sizes .entry)) [])
+        (now (input .entry)) r (now (handles .exit)) (now (sizes .exit)) (now (output .exit)) ⌝ }
     ensures { λ r. ⌜ (r .taken ≤ length (now (input .entry))) × (r .written ≤ length (now (output .exit))) ⌝ }
-    ensures { λ r. ⌜ stops (r .taken) (length (now (input .entry))) (r .runner .session .stage) (r .written) (length (now (output .exit))) ≡ true ⌝ }
+    ensures { λ r. ⌜ stops (r .taken) (length (now (input .entry))) (r .runner .session .stage)
+        (r .written) (length (now (output .exit))) ≡ true ⌝ }
 {
     let mut session = runner.session;
     let mut reader = runner.reader;
@@ -103,7 +105,9 @@ pub fn feed(
 
 // The end of the input: a last line that lacks its newline is answered, given room for its output.
 pub fn finish(runner: Runner, handles: &mut [u32], sizes: &mut [u32], output: &mut [u8]) -> Fed
-    ensures { λ r. ⌜ machine (r .runner) (now (handles .exit)) (now (sizes .exit)) (take (r .written) (now (output .exit))) ≡ cond (leb room (length (now (output .entry)))) (endFed (machine runner (now (handles .entry)) (now (sizes .entry)) [])) (machine runner (now (handles .entry)) (now (sizes .entry)) []) ⌝ }
+    ensures { λ r. ⌜ (let before = machine runner (now (handles .entry)) (now (sizes .entry)) [] in
+        machine (r .runner) (now (handles .exit)) (now (sizes .exit)) (take (r .written) (now (output .exit)))
+        ≡ cond (leb room (length (now (output .entry)))) (endFed before) before) ⌝ }
     ensures { λ r. ⌜ (r .taken ≡ 0) × (r .written ≤ length (now (output .exit))) ⌝ }
 {
     let none = Fed {

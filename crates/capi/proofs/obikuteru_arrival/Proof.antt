@@ -41,7 +41,7 @@ returns c =
     let t = c .before .before .before .before .before .before .before .before .before in
     let a = t .arrival .ensures in
     let g = arrival-refused _ (a .0) (c .before .before .answer .given .1) (c .refused .ensures) in
-    rw (← (t .before .before .before .decode .ensures .0)) (g .0, (g .1, a .1))
+    rw (← (t .before .before .before .decode .ensures .0)) (g .0, g .1, a .1 .0, a .1 .1)
 
 same-length-3 : tie.Need-same-length-3
 same-length-3 c = search needs
@@ -56,9 +56,11 @@ returns-2 c =
     let a = t .arrival .ensures in
     let given = c .before .before .before .answer2 .given .1 in
     let e = sym (ap (λ (r : Reply). r .answer) (a .0)) ∙ ap arrivalAnswer given in
-    let written = words-of _ _ _ _ _ _ _ _ (w .decode .ensures .1) (rw (w .decode .ensures .0) at e) _ (rw (w .decode .ensures .0) at (sym (ap (λ (r : Reply). r .state) (a .0)))) in
+    let d = w .decode .ensures in
+    let state = sym (ap (λ (r : Reply). r .state) (a .0)) in
+    let written = words-of _ _ _ _ _ _ _ _ (d .1) (rw (d .0) at e) _ (rw (d .0) at state) in
     let g = arrival-decided _ _ (a .0) given (c .write-arrival .ensures .0) (c .write-arrival .ensures .1 ∙ written) in
-    rw (← (w .decode .ensures .0)) (g .0, (g .1, a .1))
+    rw (← (w .decode .ensures .0)) (g .0, g .1, a .1 .0, a .1 .1)
 
 pub obikuteru-arrival-spec : {M : Type 1} → statement M
 obikuteru-arrival-spec =

@@ -29,14 +29,14 @@ returns c =
     let t = c .before .before .before .before .before .before in
     let d = t .departure .ensures in
     let g = refused (departed _ _) _ (d .0) (c .before .before .before .accepted .given .1) (c .refused .ensures) in
-    rw (← (t .before .decode .ensures .0)) (g .0, (g .1, rw (d .1 .0, d .1 .1)))
+    rw (← (t .before .decode .ensures .0)) (g .0, g .1, rw (d .1 .0, d .1 .1))
 
 returns-2 : tie.Need-returns-2
 returns-2 c =
     let t = c .before .before .before .before .before .before in
     let d = t .departure .ensures in
     let g = accepted (departed _ _) _ _ (d .0) (c .before .before .before .enum-told .given .1) refl refl (c .before .encode .ensures) in
-    rw (← (t .before .decode .ensures .0)) (g .0, (g .1, rw (d .1 .0, d .1 .1)))
+    rw (← (t .before .decode .ensures .0)) (g .0, g .1, rw (d .1 .0, d .1 .1))
 
 pub obikuteru-departure-spec : {M : Type 1} → statement M
 obikuteru-departure-spec =
