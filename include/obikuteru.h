@@ -18,10 +18,11 @@
  *
  * Memory
  *   Hand state and tables back to the next call as the last call left them. The library checks
- *   what it is given: a damaged record or table is refused, never followed. What it cannot check
- *   is the caller's part: that a pointer is not null, even with a length of 0; that it leads to
- *   as much memory as is said, a record aligned to 8 bytes, a table or packet to 4; and that what
- *   one call is lent does not overlap.
+ *   what it is given: a record that is not well formed, or a head whose size cannot be, is refused
+ *   and never followed; damage that stays within those bounds is not seen.
+ *   What it cannot check is the caller's part: that a pointer is not null, even with a length of
+ *   0; that it leads to as much memory as is said, a record aligned to 8 bytes, a table or packet
+ *   to 4; and that what one call is lent does not overlap.
  *   A state and its tables belong to one thread at a time. Calls on different queues may run at
  *   the same time.
  *
@@ -41,8 +42,8 @@
  * Random numbers
  *   Each arrival needs a number `u` of its own, uniform over all 32 bits: from getrandom, or from
  *   a good generator seeded by it. rand() will not do. Where it gives 31 bits, `u` is below 2^31:
- *   early verdicts come twice as often, and at every arrival from a probability of 1/2. Where it
- *   gives 15 bits, they come at every arrival from a probability of 1/131,072.
+ *   rule 6 drops or marks twice as often, and always from a probability of 1/2. Where it gives
+ *   15 bits, always from a probability of 1/131,072.
  *
  * Saving
  *   Save record and both tables together, between two calls, and with them
