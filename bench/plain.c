@@ -192,7 +192,7 @@ uint32_t plain_tick(struct plain_state *s, uint64_t clock)
     if (clock < s->clock || LIMIT < clock)
         return PLAIN_REFUSED_CLOCK; /* 4 */
     if (clock < s->last + PERIOD)
-        return PLAIN_REFUSED_EARLY; /* 5 */
+        return PLAIN_REFUSED_TOO_SOON; /* 5 */
 
     uint64_t product = (uint64_t)s->bytes * s->average / THRESHOLD;
     uint32_t delay = LONGEST < product ? LONGEST : (uint32_t)product; /* 1 */

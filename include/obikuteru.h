@@ -10,15 +10,58 @@
  * The packets themselves stay with the caller. The queue keeps a handle (any 32-bit number that
  * names the packet to the caller) and a size for each.
  *
- * Hand state and tables back to the next call as the last call left them. The library checks
- * what it is given: a damaged record or table is refused, never followed. What it cannot check is
- * that a pointer leads to as much memory as is said, and that what one call is lent does not
- * overlap: that is the caller's part. No pointer may be null, even with a length of 0.
- *
- * Threads: a state and its tables belong to one caller at a time. Calls on different queues may
- * run at the same time.
- *
  * Units: times are microseconds, sizes bytes, probabilities whole units of 1/2^32.
+ *
+ * Platform
+ *   The archive links into programs for x86-64 Linux, where size_t has 64 bits. Take the header
+ *   and the archive from the same release: nothing compares them.
+ *
+ * Memory
+ *   Hand state and tables back to the next call as the last call left them. The library checks
+ *   what it is given: a record that is not well formed, or a head whose size cannot be, is refused
+ *   and never followed; damage that stays within those bounds is not seen.
+ *   What it cannot check is the caller's part: that a pointer is not null, even with a length of
+ *   0; that it leads to as much memory as is said, a record aligned to 8 bytes, a table or packet
+ *   to 4; and that what one call is lent does not overlap.
+ *   A state and its tables belong to one thread at a time. Calls on different queues may run at
+ *   the same time.
+ *
+ * Clock
+ *   Use a monotonic clock (CLOCK_MONOTONIC), never the time of day. Each accepted call sets the
+ *   state's clock to its own, and a smaller one is then refused by 4. So a jump forward cannot
+ *   be undone: calls are refused until the clock has caught up. 2^48 microseconds are 8.9 years;
+ *   beyond that every call is refused by 4, and only a fresh queue with a smaller clock goes on.
+ *
+ * Ticks
+ *   Arm the next tick at `last` + OBIKUTERU_TICK_PERIOD, each time anew. A timer that runs freely
+ *   every 15 ms will not do: a tick less than 15 ms after the one before is refused by 5, and with
+ *   independent jitter 37 of 100 ticks are.
+ *   A late tick is accepted. However late, it makes one update and spends 15,000 of the
+ *   allowance, so what takes a number of ticks, recovery say, takes longer in time.
+ *
+ * Random numbers
+ *   Each arrival needs a number `u` of its own, uniform over all 32 bits: from getrandom, or from
+ *   a good generator seeded by it. rand() will not do. Where it gives 31 bits, `u` is below 2^31:
+ *   rule 6 drops or marks twice as often, and always from a probability of 1/2. Where it gives
+ *   15 bits, always from a probability of 1/131,072.
+ *
+ * Saving
+ *   Save record and both tables together, between two calls, and with them
+ *   OBIKUTERU_RECORD_VERSION and sizeof(struct obikuteru_state). Restore only if both are equal;
+ *   then ask obikuteru_well_formed. The bytes stand in the machine's order (little-endian on
+ *   x86-64): a record from a machine of the other order is converted field by field.
+ *   After a restart a monotonic clock begins anew, below the record's, and is refused by 4.
+ *   Either add an offset to it, so that it goes on from the record's clock, or start afresh and
+ *   put the packets in again.
+ *
+ * After a refusal
+ *   Refusals 1 and 3 to 7 need only a right call. The others ask for a fresh queue. The handles
+ *   that are queued come out of the old one like this:
+ *     108  The queue is sound: departures and ticks go on. Let it run empty, then start afresh.
+ *     109  They stand in the table of handles, head first, at (first + i) % slots for i below
+ *          `count`. Read them there; what damaged the sizes may have damaged them too.
+ *     102  The record cannot be trusted. The table of handles still holds what was written, but
+ *          which of it is queued, and in what order, only the caller's own books can say.
  */
 #ifndef OBIKUTERU_H
 #define OBIKUTERU_H
@@ -30,6 +73,12 @@
 #ifdef __cplusplus
 extern "C" {
 #endif
+
+/* Raised whenever the layout or the meaning of the state record changes. */
+#define OBIKUTERU_RECORD_VERSION 1u
+
+/* Least time from one accepted tick to the next. */
+#define OBIKUTERU_TICK_PERIOD 15000u
 
 /*
  * The state record. Make one with obikuteru_fresh; read any field; write none, unless to restore
@@ -79,7 +128,7 @@ struct obikuteru_packet {
 #define OBIKUTERU_REFUSED_STATE 102u    /* the state record is damaged: start afresh */
 #define OBIKUTERU_REFUSED_TABLES 103u   /* a table's length is not the state's slots */
 #define OBIKUTERU_REFUSED_CLOCK 104u    /* the clock went back, or is above 2^48 */
-#define OBIKUTERU_REFUSED_EARLY 105u    /* tick: less than 15,000 since the last; try later */
+#define OBIKUTERU_REFUSED_TOO_SOON 105u /* tick: less than 15,000 since `last`; try later */
 #define OBIKUTERU_REFUSED_EMPTY 106u    /* departure: nothing is queued */
 #define OBIKUTERU_REFUSED_SIZE 107u     /* arrival: the size is 0 or above 65,535 */
 #define OBIKUTERU_REFUSED_COUNTS 108u   /* arrival: 2^48 arrivals counted; start afresh */
@@ -108,7 +157,7 @@ uint32_t obikuteru_departure(struct obikuteru_state *state, const uint32_t *hand
                              size_t handles_len, const uint32_t *sizes, size_t sizes_len,
                              uint64_t clock, struct obikuteru_packet *packet);
 
-/* The periodic update of probability and allowance. Call it every 15,000 microseconds. */
+/* The periodic update of probability and allowance, due at `last` + OBIKUTERU_TICK_PERIOD. */
 uint32_t obikuteru_tick(struct obikuteru_state *state, uint64_t clock);
 
 /* Whether a record, restored from elsewhere say, is one that the calls accept (not refusal 2). */

@@ -1,5 +1,6 @@
 //! Names the things that happen at a call, from the state before it and the state after it.
 
+use crate::guard::PAGE;
 use crate::model::{self, State};
 use crate::side::{Call, Side};
 
@@ -86,8 +87,12 @@ pub const ENDS: [&str; 32] = [
     "size 65,535",
 ];
 
+/// Where the tables are whole pages: guarded memory then ends right beside both of their ends.
+pub const WHOLE_PAGES: [&str; 4] =
+    ["first element written", "last element written", "first element read", "last element read"];
+
 /// Adds each thing found as a pair: its list (0 is `MEASUREMENT`, 1 `EVENTS`, 2 `RUN_EVENTS`,
-/// 3 `SINGLE_EVENTS`, 4 `ENDS`) and its place in that list.
+/// 3 `SINGLE_EVENTS`, 4 `ENDS`, 5 `WHOLE_PAGES`) and its place in that list.
 pub fn found(before: &Side, call: &Call, after: &Side, hits: &mut Vec<(usize, usize)>) {
     let accepted = after.answer < 100;
     let mut events = Vec::new();
@@ -110,6 +115,9 @@ pub fn found(before: &Side, call: &Call, after: &Side, hits: &mut Vec<(usize, us
         singles.push((odd && after.state.measuring == before.state.measuring, 1));
         let small = before.state.allowance > 0 && before.state.allowance < 15_000;
         singles.push((small && after.state.allowance == 0, 0));
+    }
+    if accepted && before.state.slots * 4 % PAGE as u64 == 0 {
+        whole_pages(call, &before.state, &after.state, hits);
     }
     if after.well_formed && !fresh {
         ends(&before.state, call, hits);
@@ -140,6 +148,20 @@ fn departure(before: &State, after: &State, events: &mut Found) {
         events.push((time > model::TIME_MAX, 9));
         events.push((before.average == 0, 10));
         events.push((before.average != 0, 11));
+    }
+}
+
+/// Which end of the tables an accepted call wrote or read.
+fn whole_pages(call: &Call, before: &State, after: &State, hits: &mut Vec<(usize, usize)>) {
+    let (place, label) = match call {
+        Call::Arrival { .. } if after.count > before.count => (before.first + before.count, 0),
+        Call::Departure { .. } => (before.first, 2),
+        _ => return,
+    };
+    match place % before.slots {
+        0 => hits.push((5, label)),
+        place if place == before.slots - 1 => hits.push((5, label + 1)),
+        _ => {}
     }
 }
 

@@ -1,5 +1,6 @@
 //! Lends memory that stands right before or right after pages that nobody may touch: a read or
-//! write outside of what was lent stops the program. Tables are read-only during a departure,
+//! write outside of what was lent stops the program. A table that fills whole pages stands between
+//! two such pages, with nothing to spare on either side. Tables are read-only during a departure,
 //! and the state while it is asked whether it is well formed.
 
 use crate::library::{self, Packet, Record};
@@ -7,8 +8,10 @@ use crate::side::{handed_back, state_of, words, Call, Lender, Lent, Side, UNWRIT
 use std::ptr::{copy_nonoverlapping, null_mut};
 use std::slice::{from_raw_parts, from_raw_parts_mut};
 
-/// A multiple of the page length on every machine we know of.
-const UNIT: usize = 65_536;
+/// The length of a page on x86-64, for which the library is built.
+pub const PAGE: usize = 4_096;
+/// How much at least nobody may touch on either side.
+const UNIT: usize = 16 * PAGE;
 const NOTHING: i32 = 0;
 const READ: i32 = 1;
 const READ_WRITE: i32 = 3;
@@ -17,6 +20,7 @@ const PRIVATE_ANONYMOUS: i32 = 0x22;
 extern "C" {
     fn mmap(at: *mut u8, length: usize, access: i32, flags: i32, file: i32, from: i64) -> *mut u8;
     fn mprotect(at: *mut u8, length: usize, access: i32) -> i32;
+    fn getpagesize() -> i32;
 }
 
 /// Units of memory with a unit before them and one after them that nobody may touch.
@@ -24,6 +28,8 @@ struct Area {
     body: *mut u8,
     length: usize,
     at_end: bool,
+    /// How many bytes, in whole pages, may be touched now.
+    open: usize,
 }
 
 impl Area {
@@ -32,18 +38,17 @@ impl Area {
         let all = length + 2 * UNIT;
         let base = unsafe { mmap(null_mut(), all, NOTHING, PRIVATE_ANONYMOUS, -1, 0) };
         assert!(base as isize != -1, "the system gave no memory for the guarded pages");
-        let area = Area { body: base.wrapping_add(UNIT), length, at_end };
-        area.access(READ_WRITE);
-        area
+        Area { body: base.wrapping_add(UNIT), length, at_end, open: 0 }
     }
 
+    /// Changes the access to the open pages.
     fn access(&self, access: i32) {
-        let result = unsafe { mprotect(self.body, self.length, access) };
+        let result = unsafe { mprotect(self.at(self.open), self.open, access) };
         assert!(result == 0, "the system did not change the access to the guarded pages");
     }
 
     /// Where something of this many bytes stands: at the very end, or at the very beginning.
-    fn place(&self, bytes: usize) -> *mut u8 {
+    fn at(&self, bytes: usize) -> *mut u8 {
         assert!(bytes <= self.length, "too much for the guarded pages");
         if self.at_end {
             self.body.wrapping_add(self.length - bytes)
@@ -52,7 +57,18 @@ impl Area {
         }
     }
 
-    fn table(&self, content: &[u32]) -> *mut u32 {
+    /// The place of this many bytes. Their pages are open, and no others.
+    fn place(&mut self, bytes: usize) -> *mut u8 {
+        let pages = bytes.next_multiple_of(PAGE);
+        if pages != self.open {
+            self.access(NOTHING);
+            self.open = pages;
+            self.access(READ_WRITE);
+        }
+        self.at(bytes)
+    }
+
+    fn table(&mut self, content: &[u32]) -> *mut u32 {
         let place = self.place(content.len() * 4) as *mut u32;
         unsafe { copy_nonoverlapping(content.as_ptr(), place, content.len()) };
         place
@@ -68,6 +84,7 @@ pub struct Guarded {
 
 impl Guarded {
     pub fn new(at_end: bool) -> Guarded {
+        assert!(unsafe { getpagesize() } as usize == PAGE, "a page has another length than 4,096");
         Guarded {
             state: Area::new(1, at_end),
             packet: Area::new(1, at_end),
@@ -76,7 +93,7 @@ impl Guarded {
         }
     }
 
-    fn arrival(&self, record: &mut Record, side: &mut Side, call: &Call) -> u32 {
+    fn arrival(&mut self, record: &mut Record, side: &mut Side, call: &Call) -> u32 {
         let Call::Arrival { lent, clock, packet: p } = *call else { unreachable!() };
         let Lent { handles, sizes } = lent;
         let h = self.handles.table(&side.handles[..handles]);
@@ -89,7 +106,7 @@ impl Guarded {
         answer
     }
 
-    fn departure(&self, record: &mut Record, side: &mut Side, call: &Call) -> u32 {
+    fn departure(&mut self, record: &mut Record, side: &mut Side, call: &Call) -> u32 {
         let Call::Departure { lent, clock } = *call else { unreachable!() };
         let h = self.handles.table(&side.handles[..lent.handles]);
         let s = self.sizes.table(&side.sizes[..lent.sizes]);

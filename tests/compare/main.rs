@@ -4,7 +4,7 @@
 //!   compare counts        the same, and prints how often each thing was reached
 //!   compare seed N        one round with the seed N
 //!   compare soak SECONDS  rounds with new seeds until the time is over
-//!   compare guard         calls with memory that stands beside guarded pages
+//!   compare guard         calls with memory that stands beside or between guarded pages
 //!
 //! It ends with 1 at the first difference, with 2 if the calls did not reach everything, and
 //! with 3 if it was not understood.
@@ -134,13 +134,16 @@ fn soak(seconds: u64) {
 }
 
 fn guarded() {
-    let mut reached = Reached::new();
+    let mut calls = 0;
     for at_end in [true, false] {
         let place = if at_end { "before" } else { "after" };
-        println!("memory right {place} a guarded page");
-        round(SEED, 10, plans::KINDS, &mut Guarded::new(at_end), &mut reached);
+        println!("memory right {place} a guarded page, tables of whole pages between two");
+        let mut reached = Reached::new();
+        round(SEED, 20, 2 * plans::KINDS, &mut Guarded::new(at_end), &mut reached);
+        reached.require_all();
+        calls += reached.calls();
     }
-    println!("compare: guard, {} calls, no difference", reached.calls());
+    println!("compare: guard, {calls} calls, no difference");
 }
 
 fn misunderstood() -> ! {

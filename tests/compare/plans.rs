@@ -83,6 +83,7 @@ pub fn plan(r: &mut Random, kind: u64) -> Plan {
         }
         8 => (plan.buffer, plan.sizes) = (r.range(1_000_000, 16_777_216), (20_000, 65_535)),
         9 => (plan.ecn, plan.target) = (100, 15_000),
+        10 => plan.slots = 1_024, // tables of whole pages
         _ => {}
     }
     plan

@@ -26,6 +26,7 @@ fn settings(r: &mut Random, s: &mut State) {
     s.slots = match r.range(0, 299) {
         0 => r.pick(&[65_535, 65_536]),
         1..=9 => r.range(100, 400),
+        10..=14 => 1_024 * r.range(1, 4), // tables of whole pages
         _ => r.pick(&[1, 2, 3, 4, 5, 8, 17]),
     };
 }

@@ -1,0 +1,277 @@
+/*
+ * The header against the definitions. The numbers stand here a second time, by hand: the words of
+ * the record from crates/capi/specs/Words.antt, the answers from crates/capi/specs/Codes.antt, the
+ * refusals from crates/queue/specs/Answer.antt. Then the library runs, and each field must hold
+ * what document 01 gives for it, and each constant must be the answer of a call that deserves it.
+ * It prints each mistake and ends with 1 if there is any.
+ */
+#include <obikuteru.h>
+
+#include <inttypes.h>
+#include <stdio.h>
+
+enum { SLOTS = 4 };
+
+static int checks, mistakes;
+
+static void expect(const char *what, uint64_t found, uint64_t wanted)
+{
+    checks++;
+    if (found != wanted) {
+        mistakes++;
+        printf("layout: %s is %" PRIu64 ", and not %" PRIu64 ".\n", what, found, wanted);
+    }
+}
+
+#define WORD(field, place)                                                                             \
+    expect("the place of " #field, offsetof(struct obikuteru_state, field), 8 * (place));            \
+    expect("the length of " #field, sizeof((struct obikuteru_state *)0)->field, 8)
+
+static void record(void)
+{
+    struct before_state { char byte; struct obikuteru_state state; };
+
+    WORD(target, 0);
+    WORD(buffer, 1);
+    WORD(slots, 2);
+    WORD(clock, 3);
+    WORD(last, 4);
+    WORD(probability, 5);
+    WORD(old_delay, 6);
+    WORD(allowance, 7);
+    WORD(average, 8);
+    WORD(measuring, 9);
+    WORD(start, 10);
+    WORD(counted, 11);
+    WORD(count, 12);
+    WORD(bytes, 13);
+    WORD(first, 14);
+    WORD(verdicts[0], 15);
+    WORD(verdicts[1], 16);
+    WORD(verdicts[2], 17);
+    WORD(verdicts[3], 18);
+    WORD(verdicts[4], 19);
+    expect("the size of the record", sizeof(struct obikuteru_state), 160);
+    expect("the alignment of the record", offsetof(struct before_state, state), 8);
+}
+
+static void packet(void)
+{
+    struct before_packet { char byte; struct obikuteru_packet packet; };
+
+    expect("the place of handle", offsetof(struct obikuteru_packet, handle), 0);
+    expect("the place of size", offsetof(struct obikuteru_packet, size), 4);
+    expect("the size of the packet", sizeof(struct obikuteru_packet), 8);
+    expect("the alignment of the packet", offsetof(struct before_packet, packet), 4);
+}
+
+static void constants(void)
+{
+    expect("ENQUEUED", OBIKUTERU_ENQUEUED, 0);
+    expect("MARKED", OBIKUTERU_MARKED, 1);
+    expect("DROPPED_BYTES", OBIKUTERU_DROPPED_BYTES, 2);
+    expect("DROPPED_SLOTS", OBIKUTERU_DROPPED_SLOTS, 3);
+    expect("DROPPED_EARLY", OBIKUTERU_DROPPED_EARLY, 4);
+    expect("ACCEPTED", OBIKUTERU_ACCEPTED, 0);
+    expect("REFUSED_SETTINGS", OBIKUTERU_REFUSED_SETTINGS, 101);
+    expect("REFUSED_STATE", OBIKUTERU_REFUSED_STATE, 102);
+    expect("REFUSED_TABLES", OBIKUTERU_REFUSED_TABLES, 103);
+    expect("REFUSED_CLOCK", OBIKUTERU_REFUSED_CLOCK, 104);
+    expect("REFUSED_TOO_SOON", OBIKUTERU_REFUSED_TOO_SOON, 105);
+    expect("REFUSED_EMPTY", OBIKUTERU_REFUSED_EMPTY, 106);
+    expect("REFUSED_SIZE", OBIKUTERU_REFUSED_SIZE, 107);
+    expect("REFUSED_COUNTS", OBIKUTERU_REFUSED_COUNTS, 108);
+    expect("REFUSED_HEAD", OBIKUTERU_REFUSED_HEAD, 109);
+    expect("TICK_PERIOD", OBIKUTERU_TICK_PERIOD, 15000);
+    expect("RECORD_VERSION", OBIKUTERU_RECORD_VERSION, 1);
+    for (uint32_t answer = 0; answer <= 4; answer++)
+        expect("a verdict taken for a refusal", obikuteru_refused(answer), false);
+    for (uint32_t answer = 101; answer <= 109; answer++)
+        expect("a refusal known as one", obikuteru_refused(answer), true);
+}
+
+/* A well-formed record, no two of its fields alike. */
+static const struct obikuteru_state start_state = {
+    .target = 20000, .buffer = 60000, .slots = SLOTS, .clock = 1000000, .last = 985000,
+    .probability = 1000000, .old_delay = 12000, .allowance = 30000, .average = 10000,
+    .measuring = 1, .start = 990000, .counted = 16000, .count = 3, .bytes = 20001, .first = 2,
+    .verdicts = {11, 22, 33, 44, 55},
+};
+
+static struct obikuteru_state state;
+static uint32_t handles[SLOTS], sizes[SLOTS];
+
+/* The queue of start_state: its packets 70, 71 and 72 stand at the places 2, 3 and 0. */
+static void restore(void)
+{
+    static const uint32_t queued_handles[SLOTS] = {72, 7, 70, 71};
+    static const uint32_t queued_sizes[SLOTS] = {9001, 8, 5000, 6000};
+
+    state = start_state;
+    for (int i = 0; i < SLOTS; i++) {
+        handles[i] = queued_handles[i];
+        sizes[i] = queued_sizes[i];
+    }
+}
+
+static uint32_t arrive(uint64_t clock, uint32_t handle, uint32_t size, bool ecn)
+{
+    return obikuteru_arrival(&state, handles, SLOTS, sizes, SLOTS, clock, handle, size, ecn, 0);
+}
+
+static uint32_t depart(uint64_t clock, struct obikuteru_packet *packet)
+{
+    return obikuteru_departure(&state, handles, SLOTS, sizes, SLOTS, clock, packet);
+}
+
+/* Every field of `state`, by name. */
+static void expect_state(const char *after, const struct obikuteru_state *wanted)
+{
+    int before = mistakes;
+
+    expect("target", state.target, wanted->target);
+    expect("buffer", state.buffer, wanted->buffer);
+    expect("slots", state.slots, wanted->slots);
+    expect("clock", state.clock, wanted->clock);
+    expect("last", state.last, wanted->last);
+    expect("probability", state.probability, wanted->probability);
+    expect("old_delay", state.old_delay, wanted->old_delay);
+    expect("allowance", state.allowance, wanted->allowance);
+    expect("average", state.average, wanted->average);
+    expect("measuring", state.measuring, wanted->measuring);
+    expect("start", state.start, wanted->start);
+    expect("counted", state.counted, wanted->counted);
+    expect("count", state.count, wanted->count);
+    expect("bytes", state.bytes, wanted->bytes);
+    expect("first", state.first, wanted->first);
+    for (int v = 0; v < 5; v++)
+        expect("a count of verdicts", state.verdicts[v], wanted->verdicts[v]);
+    if (mistakes > before)
+        printf("layout: that was after %s.\n", after);
+}
+
+static void run_fresh(void)
+{
+    struct obikuteru_state wanted = {.target = 15000, .buffer = 64000, .slots = 64, .clock = 99,
+                                     .last = 99, .allowance = 150000};
+
+    state = start_state;
+    expect("fresh", obikuteru_fresh(&state, 15000, 64000, 64, 99), OBIKUTERU_ACCEPTED);
+    expect_state("fresh", &wanted);
+}
+
+/* Delay 20,001 x 10,000 / 16,384 = 12,207; x = 12,207 - 20,000 + 10 x 207 = -5,723; k = 32. */
+static void run_tick(void)
+{
+    struct obikuteru_state wanted = start_state;
+
+    wanted.clock = wanted.last = 985000 + OBIKUTERU_TICK_PERIOD + 1;
+    wanted.old_delay = 12207;
+    wanted.probability = 1000000 - 96016; /* 5,723 x 8,388,608 / (15,625 x 32) = 96,016.0 */
+    wanted.allowance = 15000;
+    restore();
+    expect("a tick", obikuteru_tick(&state, 1000001), OBIKUTERU_ACCEPTED);
+    expect_state("a tick", &wanted);
+}
+
+/* The head ends the measurement: its sample is 10,100, the new average (10,100 + 30,000) / 4. */
+static void run_departures(void)
+{
+    struct obikuteru_state wanted = start_state;
+    struct obikuteru_packet packet;
+
+    wanted.clock = 1000100;
+    wanted.average = 10025;
+    wanted.measuring = wanted.start = wanted.counted = 0;
+    wanted.count = 2;
+    wanted.bytes = 15001;
+    wanted.first = 3;
+    restore();
+    expect("a departure", depart(1000100, &packet), OBIKUTERU_ACCEPTED);
+    expect("the handle that departs", packet.handle, 70);
+    expect("the size that departs", packet.size, 5000);
+    expect_state("a departure", &wanted);
+
+    wanted = start_state; /* the same, but the measurement goes on */
+    wanted.counted = 300 + 5000;
+    wanted.count = 2;
+    wanted.bytes = 15001;
+    wanted.first = 3;
+    restore();
+    state.counted = 300;
+    expect("a departure while measuring", depart(1000000, &packet), OBIKUTERU_ACCEPTED);
+    expect_state("a departure while measuring", &wanted);
+}
+
+/* One arrival of each verdict. With no allowance left, u = 0 is early. */
+static void run_arrivals(void)
+{
+    struct obikuteru_state wanted = start_state;
+
+    restore();
+    expect("too many bytes", arrive(1000001, 80, 40000, false), OBIKUTERU_DROPPED_BYTES);
+    wanted.clock = 1000001;
+    wanted.verdicts[2] = 34;
+    expect_state("a drop for bytes", &wanted);
+    state.allowance = wanted.allowance = 0;
+    expect("an early drop", arrive(1000002, 81, 100, false), OBIKUTERU_DROPPED_EARLY);
+    wanted.clock = 1000002;
+    wanted.verdicts[4] = 56;
+    expect_state("an early drop", &wanted);
+    expect("a mark", arrive(1000003, 82, 100, true), OBIKUTERU_MARKED);
+    wanted.clock = 1000003;
+    wanted.count = 4;
+    wanted.bytes = 20101;
+    wanted.verdicts[1] = 23;
+    expect_state("a mark", &wanted);
+    expect("no slot", arrive(1000004, 83, 100, true), OBIKUTERU_DROPPED_SLOTS);
+    wanted.clock = 1000004;
+    wanted.verdicts[3] = 45;
+    expect_state("a drop for slots", &wanted);
+    expect("the handle written", handles[1], 82);
+    expect("the size written", sizes[1], 100);
+    restore();
+    expect("an arrival", arrive(1000005, 84, 100, false), OBIKUTERU_ENQUEUED);
+    expect("the count of enqueued", state.verdicts[0], 12);
+}
+
+/* Each refusal by a call to which no other applies. */
+static void run_refusals(void)
+{
+    struct obikuteru_packet packet;
+
+    restore();
+    expect("a short table", obikuteru_arrival(&state, handles, SLOTS - 1, sizes, SLOTS, 1000000, 1, 1, 0, 0),
+           OBIKUTERU_REFUSED_TABLES);
+    expect("a clock that went back", arrive(999999, 1, 1, false), OBIKUTERU_REFUSED_CLOCK);
+    expect("a packet of no bytes", arrive(1000000, 1, 0, false), OBIKUTERU_REFUSED_SIZE);
+    sizes[state.first] = 0;
+    expect("a head of no bytes", depart(1000000, &packet), OBIKUTERU_REFUSED_HEAD);
+    expect_state("four refusals", &start_state);
+    state.last = 1000000 - OBIKUTERU_TICK_PERIOD + 1;
+    expect("a tick too soon", obikuteru_tick(&state, 1000000), OBIKUTERU_REFUSED_TOO_SOON);
+    state.verdicts[4] = (UINT64_C(1) << 48) - 11 - 22 - 33 - 44;
+    expect("2^48 arrivals", arrive(1000000, 1, 1, false), OBIKUTERU_REFUSED_COUNTS);
+    expect("the record with them", obikuteru_well_formed(&state), true);
+    state.count = state.bytes = 0;
+    expect("an empty queue", depart(1000000, &packet), OBIKUTERU_REFUSED_EMPTY);
+    expect("wrong settings", obikuteru_fresh(&state, 0, 64000, SLOTS, 0), OBIKUTERU_REFUSED_SETTINGS);
+    expect("the record of wrong settings", obikuteru_well_formed(&state), false);
+    expect("a record of zeros", obikuteru_tick(&state, 15000), OBIKUTERU_REFUSED_STATE);
+}
+
+int main(void)
+{
+    record();
+    packet();
+    constants();
+    run_fresh();
+    run_tick();
+    run_departures();
+    run_arrivals();
+    run_refusals();
+    if (mistakes > 0)
+        return 1;
+    printf("layout: %d numbers, all as defined\n", checks);
+    return 0;
+}
