@@ -1,0 +1,7 @@
+-- The proofs of the claims in specs/, and what they share.
+pub mod Idle
+pub mod Lent
+pub mod Lines
+pub mod Slots
+pub mod ScriptEnd
+pub mod ScriptText

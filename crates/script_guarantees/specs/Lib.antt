@@ -1,0 +1,5 @@
+-- What holds of every script.
+pub mod Asked
+pub mod Entries
+pub mod ScriptText
+pub mod ScriptEnd
