@@ -5,3 +5,9 @@ pub mod Lines
 pub mod Slots
 pub mod ScriptEnd
 pub mod ScriptText
+pub mod RunTrace
+pub mod Sound
+pub mod ScriptOrder
+pub mod ScriptBytes
+pub mod ScriptGrace
+pub mod ScriptRecovery

@@ -109,7 +109,7 @@ lines-counted line (suc count) h =
     lines-counted (nextLine line) count next ∙ omega arith
 
 -- the text of a request and of what follows it
-trace-on : (q : Queue) (r : Request) (rest : List Request) → traceOf q (r ∷ rest) ≡ entry (q .state) (callOf q r) ∷ traceOf (after q r) rest
+pub trace-on : (q : Queue) (r : Request) (rest : List Request) → traceOf q (r ∷ rest) ≡ entry (q .state) (callOf q r) ∷ traceOf (after q r) rest
 trace-on q (askArrival clock handle size ecn u) rest = refl
 trace-on q (askDeparture clock) rest = refl
 trace-on q (askTick clock) rest = refl

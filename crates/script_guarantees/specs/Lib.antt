@@ -3,3 +3,8 @@ pub mod Asked
 pub mod Entries
 pub mod ScriptText
 pub mod ScriptEnd
+pub mod RunTrace
+pub mod ScriptOrder
+pub mod ScriptBytes
+pub mod ScriptRecovery
+pub mod ScriptGrace
