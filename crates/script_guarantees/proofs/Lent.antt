@@ -1,6 +1,5 @@
 -- A run's tables are the part of the script's that a call is lent; where the state is all-zero, any tables serve.
 use mathlib.Core.Path.{_≡_, refl, sym, ap, _∙_}
-use mathlib.Core.Bool.{Bool, true, false}
 use mathlib.Core.List.{List}
 use mathlib.Core.Logic.{_⊎_, inl, inr, ⊎-elim}
 use Prim.Native.Nat.{ℕ}
@@ -59,7 +58,8 @@ whole-after q (askTick clock) w =
     record { handles = w .handles ∙ sym same; sizes = w .sizes ∙ sym same }
 
 pub idle-after : (q : Queue) (r : Request) → q .state ≡ zeroState → (after q r) .state ≡ zeroState
-idle-after q (askArrival clock handle size ecn u) e = rw e (ap (λ (r : Reply). r .state) (idle-reply (callOf q (askArrival clock handle size ecn u))))
+idle-after q (askArrival clock handle size ecn u) e =
+    rw e (ap (λ (r : Reply). r .state) (idle-reply (callOf q (askArrival clock handle size ecn u))))
 idle-after q (askDeparture clock) e = rw e (ap (λ (r : Reply). r .state) (idle-reply (callOf q (askDeparture clock))))
 idle-after q (askTick clock) e = rw e (ap (λ (r : Reply). r .state) (idle-reply (callOf q (askTick clock))))
 

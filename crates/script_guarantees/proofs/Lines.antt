@@ -1,33 +1,29 @@
 -- A running script's line is answered as a request of the run, and a bad line ends it.
 use mathlib.Core.Path.{_≡_, refl, sym, ap, _∙_}
-use mathlib.Core.Bool.{Bool, true, false, cond}
+use mathlib.Core.Bool.{Bool, cond}
 use mathlib.Core.List.{List, [], _∷_, _++_, append-assoc, append-nil, flatMap, foldl}
-use mathlib.Core.Logic.{_⊎_, inl, inr, ⊎-elim}
+use mathlib.Core.Logic.{⊎-elim}
 use Prim.Native.Nat.{ℕ, zero, suc, _+_, _-_, _^_, _≤_, min}
 use native.Mathlib.Omega.{arith}
-use lib.ListN.{drop, length, take}
+use lib.ListN.{length}
 use lib.Seq.{drop-at, take-at}
 use Rattle.command.specs.declared.Command.{Command}
 use Rattle.command.specs.declared.Command.the-variants.{Bad, Configure, Arrival, Departure, Tick}
-use Rattle.queue.specs.Answer.{Reply}
-use Rattle.queue.specs.Arrival.{arrival, arrivalRefusal, stored}
+use Rattle.queue.specs.Arrival.{arrival, arrivalRefusal}
 use Rattle.queue.specs.Departure.{departure, departureRefusal}
 use Rattle.queue.specs.Fresh.{zeroState}
 use Rattle.queue.specs.State.{wellFormed}
 use Rattle.queue.specs.Tick.{tick, tickRefusal}
-use Rattle.queue.specs.declared.State.{State}
 use Rattle.answers.specs.Output.{badText}
 use Rattle.guarantees.specs.Calls.{Entry, entry}
 use Rattle.guarantees.specs.Handed.{Queue, Request, after, askArrival, askDeparture, askTick, callOf}
 use Rattle.script.specs.Answering.{laterLine, nextLine, outcome}
 use Rattle.script.specs.Script.{ScriptRun, answerLine}
-use Rattle.script.specs.declared.Session.{Session}
 use Rattle.script.proofs.Stages.{at-ended}
 use Rattle.script.specs.declared.Stage.the-variants.{Running, Ended}
 use Rattle.script_guarantees.specs.Asked.{Body, asking, bodyOf}
 use Rattle.script_guarantees.specs.Entries.{traceOf}
 use Rattle.script_guarantees.specs.ScriptText.{lineText}
-use Rattle.script_guarantees.proofs.Idle.{idle-reply}
 use Rattle.script_guarantees.proofs.Lent.{Lent, Whole, lent-after}
 
 -- a running script with this queue; `spare` lies past its slots
@@ -109,7 +105,8 @@ lines-counted line (suc count) h =
     lines-counted (nextLine line) count next ∙ omega arith
 
 -- the text of a request and of what follows it
-pub trace-on : (q : Queue) (r : Request) (rest : List Request) → traceOf q (r ∷ rest) ≡ entry (q .state) (callOf q r) ∷ traceOf (after q r) rest
+pub trace-on : (q : Queue) (r : Request) (rest : List Request) →
+    traceOf q (r ∷ rest) ≡ entry (q .state) (callOf q r) ∷ traceOf (after q r) rest
 trace-on q (askArrival clock handle size ecn u) rest = refl
 trace-on q (askDeparture clock) rest = refl
 trace-on q (askTick clock) rest = refl
@@ -161,13 +158,16 @@ module _ (spare : List ℕ) where
       let t = output ++ lineText (entry (q .state) (callOf q r)) in
       ap (λ (s : ScriptRun). foldl answerLine s commands) (request-line line spare q output l r)
       ∙ (ih (nextLine line) (after q r) t (lent-after q r l)
-      ∙ ap (stopped n spare (foldl after (after q r) (b .requests)) (b .bad)) (text-on q r (b .requests) output (cond (b .bad) (badText n) [])))
+      ∙ ap (stopped n spare (foldl after (after q r) (b .requests)) (b .bad))
+      (text-on q r (b .requests) output (cond (b .bad) (badText n) [])))
 
   pub lines-leave : (commands : List Command) → Leaves commands
   unfolding answerLine outcome laterLine flatMap
   lines-leave [] line q output l = ap (running line spare q) (sym (append-nil output))
   lines-leave (Bad ∷ commands) line q output l = bad-line commands Bad line q output refl
-  lines-leave (Configure target buffer slots ∷ commands) line q output l = bad-line commands (Configure target buffer slots) line q output refl
-  lines-leave (Arrival clock handle size ecn u ∷ commands) line q output l = good-line (askArrival clock handle size ecn u) commands (lines-leave commands) line q output l
+  lines-leave (Configure target buffer slots ∷ commands) line q output l =
+      bad-line commands (Configure target buffer slots) line q output refl
+  lines-leave (Arrival clock handle size ecn u ∷ commands) line q output l =
+      good-line (askArrival clock handle size ecn u) commands (lines-leave commands) line q output l
   lines-leave (Departure clock ∷ commands) line q output l = good-line (askDeparture clock) commands (lines-leave commands) line q output l
   lines-leave (Tick clock ∷ commands) line q output l = good-line (askTick clock) commands (lines-leave commands) line q output l

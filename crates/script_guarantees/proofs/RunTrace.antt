@@ -1,14 +1,12 @@
 -- A run told by its trace: one induction over the requests, from any run.
 use mathlib.Core.Path.{_≡_, refl, sym, ap, _∙_}
 use mathlib.Core.List.{List, [], _∷_, _++_, append-assoc, append-nil, flatMap, foldl, map}
-use Prim.Native.Nat.{ℕ}
-use Rattle.queue.specs.declared.Settings.{Settings}
 use Rattle.queue.specs.declared.State.{State}
-use Rattle.queue.specs.Answer.{Answer}
 use Rattle.guarantees.specs.Calls.{Entry, entry}
-use Rattle.guarantees.specs.Handed.{Packet, Queue, Request, Run, admittedBy, after, answerOf, askArrival, askDeparture, askTick, callOf, begin, run, step}
+use Rattle.guarantees.specs.Handed.{Queue, Request, Run, admittedBy, after, answerOf, begin, callOf, step}
+use Rattle.guarantees.specs.Handed.{askArrival, askDeparture, askTick}
 use Rattle.script_guarantees.specs.Entries.{admittedIn, departedIn, traceOf}
-use Rattle.script_guarantees.specs.RunTrace.{RunTrace, ToldBy, stateAfter}
+use Rattle.script_guarantees.specs.RunTrace.{RunTrace, stateAfter}
 use Rattle.script_guarantees.proofs.Lines.{trace-on}
 
 -- what the entries add to a run

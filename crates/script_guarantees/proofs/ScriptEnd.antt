@@ -1,8 +1,8 @@
 -- Any script: its first line, and then the others.
 use mathlib.Core.Path.{_≡_, refl, sym, ap, _∙_}
 use mathlib.Core.Bool.{cond}
-use mathlib.Core.List.{List, [], _∷_, _++_, flatMap, foldl, map}
-use Prim.Native.Nat.{ℕ, zero, suc, _+_, _-_, _^_, _≤_, min}
+use mathlib.Core.List.{List, [], _∷_, _++_, foldl, map}
+use Prim.Native.Nat.{ℕ, _+_, _-_, _^_, _≤_}
 use native.Mathlib.Omega.{arith}
 use lib.ListN.{length, replicate, replicate-append-replicate}
 use Rattle.command.specs.Line.{readLine}
@@ -14,14 +14,14 @@ use Rattle.answers.specs.Output.{badText, replyText}
 use Rattle.guarantees.specs.Handed.{Queue, Request, Run, after, begin, step}
 use Rattle.script.specs.Answering.{firstLine, outcome}
 use Rattle.script.specs.Lines.{linesOf}
-use Rattle.script.specs.Script.{ScriptRun, answerLine, noPackets, script, startRun}
+use Rattle.script.specs.Script.{ScriptRun, answerLine, noPackets, startRun}
 use Rattle.script.specs.declared.Stage.the-variants.{Running, Ended}
 use Rattle.script_guarantees.specs.Asked.{Body, askedBy, bodyOf, started}
-use Rattle.script_guarantees.specs.Entries.{entriesOf, opened, runOf, traceOf}
+use Rattle.script_guarantees.specs.Entries.{opened}
 use Rattle.script_guarantees.specs.ScriptEnd.{ScriptEnd, endOf}
-use Rattle.script_guarantees.specs.ScriptText.{ScriptText, endText, lineAfter, lineText, textOf}
+use Rattle.script_guarantees.specs.ScriptText.{lineAfter, textOf}
 use Rattle.script_guarantees.proofs.Lent.{lent-opened}
-use Rattle.script_guarantees.proofs.Lines.{ended-lines, leftBy, lines-counted, lines-leave, linesOn, running}
+use Rattle.script_guarantees.proofs.Lines.{ended-lines, leftBy, lines-counted, lines-leave, running}
 use Rattle.script_guarantees.proofs.Slots.{FewSlots, line-few}
 
 -- ── no `c` ──
@@ -83,7 +83,8 @@ module _ (target buffer slots : ℕ) (few : slots ≤ 4096) where
       })
       (sym (queue-after (begin (settingsOf target buffer slots) 0 (zeros slots) (zeros slots)) (body .requests))))
 
-  configured-lines : (commands : List Command) → foldl answerLine startRun (Configure target buffer slots ∷ commands) ≡ endOf (started target buffer slots (bodyOf commands))
+  configured-lines : (commands : List Command) →
+      foldl answerLine startRun (Configure target buffer slots ∷ commands) ≡ endOf (started target buffer slots (bodyOf commands))
   configured-lines commands =
       let q = opened target buffer slots in
       let text = replyText (fresh (settingsOf target buffer slots) 0) in
@@ -93,7 +94,8 @@ module _ (target buffer slots : ℕ) (few : slots ≤ 4096) where
 
 -- ── any script ──
 
-first-then-lines : (command : Command) (commands : List Command) → FewSlots command → foldl answerLine startRun (command ∷ commands) ≡ endOf (askedBy (command ∷ commands))
+first-then-lines : (command : Command) (commands : List Command) → FewSlots command →
+    foldl answerLine startRun (command ∷ commands) ≡ endOf (askedBy (command ∷ commands))
 unfolding answerLine outcome firstLine
 first-then-lines Bad commands few = unbegun-lines Bad refl commands
 first-then-lines (Configure target buffer slots) commands few = configured-lines target buffer slots few commands

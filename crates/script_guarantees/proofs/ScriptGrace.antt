@@ -4,8 +4,7 @@ use mathlib.Core.List.{List, _∷_, _++_, List·Memᴰ}
 use Prim.Native.Nat.{ℕ, _+_}
 use native.Mathlib.Omega.{arith}
 use Rattle.pie.specs.Constants.{fullAllowance}
-use Rattle.queue.specs.Answer.{ticked}
-use Rattle.guarantees.specs.Calls.{ByLimitsBefore, Entry, update}
+use Rattle.guarantees.specs.Calls.{ByLimitsBefore, Entry}
 use Rattle.guarantees.specs.Handed.{Request}
 use Rattle.guarantees.proofs.Grace.{ticked-by-limits}
 use Rattle.guarantees.proofs.Traces.{cut}
@@ -20,7 +19,8 @@ Lasts t later = (a : Entry) → List·Memᴰ a later → ByLimitsBefore (t + ful
 pub script-grace : ScriptGrace
 script-grace input before e later t h ec ea full = by-entries (λ es. es ≡ before ++ e ∷ later → Lasts t later) go (asked input) h
   where
-    go : (target buffer slots : ℕ) (requests : List Request) → traceOf (opened target buffer slots) requests ≡ before ++ e ∷ later → Lasts t later
+    go : (target buffer slots : ℕ) (requests : List Request) → traceOf (opened target buffer slots) requests ≡ before ++ e ∷ later →
+        Lasts t later
     go target buffer slots requests q =
         let o = opened target buffer slots in
         let k = cut (λ n x. tt) (λ n s. Unit {0}) (λ n s h c. tt) (tt {0}) (o .state) (callsOf o requests) before e later tt q in

@@ -1,7 +1,7 @@
 -- Demand 3 and question 4 for scripts: after an accepted `c` by the theorem over traces, and after a refused one no call is accepted.
 use mathlib.Core.Path.{_≡_, refl, sym, ap, _∙_}
-use mathlib.Core.List.{List, [], _∷_, _++_}
-use Prim.Native.Nat.{ℕ, _≤_}
+use mathlib.Core.List.{List, _∷_, _++_}
+use Prim.Native.Nat.{ℕ}
 use native.Mathlib.Omega.{arith}
 use Rattle.queue.specs.Answer.{Reply, made, refused, ticked}
 use Rattle.queue.specs.Fresh.{fresh, settingsOf, zeroState}
@@ -52,10 +52,11 @@ script-recovery input before e later = by-entries (λ es. es ≡ before ++ e ∷
         by-start (RecoveredAfter 1000 0 before e later) target buffer slots
         (λ m. rw (empty-start target buffer slots m) at (recovery (o .state) (fresh-well-formed _ 0 m) calls before e later q))
         (λ z.
-          let k = cut (λ t a. noted 0 t (a .answer)) Still still-kept nothingYet (o .state) calls before e later (record { state = z; none = refl }) q in
-          let still : tally 0 before ≡ nothingYet = k .holds .none in
-          record {
-            counted = rw (k .holds .state, still);
-            covered = rw still (omega arith);
-            recovers = λ t ec ea enough. absurd (not-ticked e (k .replied) (k .holds .state) ea);
-          })
+        let start : Still nothingYet (o .state) = record { state = z; none = refl } in
+        let k = cut (λ t a. noted 0 t (a .answer)) Still still-kept nothingYet (o .state) calls before e later start q in
+        let still : tally 0 before ≡ nothingYet = k .holds .none in
+        record {
+          counted = rw (k .holds .state, still);
+          covered = rw still (omega arith);
+          recovers = λ t ec ea enough. absurd (not-ticked e (k .replied) (k .holds .state) ea);
+        })

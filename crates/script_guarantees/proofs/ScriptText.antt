@@ -1,13 +1,10 @@
 -- What a script writes is its output at the end.
-use mathlib.Core.Path.{ap, _∙_, refl}
-use mathlib.Core.List.{List}
-use Prim.Native.Nat.{ℕ}
+use mathlib.Core.Path.{_≡_, refl, ap, _∙_}
 use Rattle.script.specs.Script.{ScriptRun, script}
 use Rattle.script_guarantees.specs.Asked.{Asked, asked, nothing, started, unstarted}
 use Rattle.script_guarantees.specs.ScriptEnd.{endOf}
 use Rattle.script_guarantees.specs.ScriptText.{ScriptText, textOf}
 use Rattle.script_guarantees.proofs.ScriptEnd.{script-end}
-use mathlib.Core.Path.{_≡_}
 
 end-text : (a : Asked) → (endOf a) .output ≡ textOf a
 end-text nothing = refl

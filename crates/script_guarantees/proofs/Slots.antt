@@ -1,6 +1,6 @@
 -- A line that is read as a `c` has at most 4,096 slots.
-use mathlib.Core.Path.{_≡_, refl}
-use mathlib.Core.Bool.{Bool, true, false, cond, _&&_}
+use mathlib.Core.Path.{_≡_}
+use mathlib.Core.Bool.{true, cond, _&&_}
 use mathlib.Core.List.{List, [], _∷_, map}
 use Prim.Native.Nat.{ℕ, _≤_}
 use native.Mathlib.Omega.{arith}
@@ -49,7 +49,8 @@ form-few letter numbers = forms-few forms (third-fits, (λ n e. tt, (λ n e. tt,
 
 words-few : (first : List ℕ) (fields : List (List ℕ)) → FewSlots (wordsRead first fields)
 words-few [] fields = tt
-words-few (letter ∷ []) fields = either FewSlots (areNumbers fields) (commandOf letter (map valueOf fields)) Bad (form-few letter (map valueOf fields)) tt
+words-few (letter ∷ []) fields =
+    either FewSlots (areNumbers fields) (commandOf letter (map valueOf fields)) Bad (form-few letter (map valueOf fields)) tt
 words-few (letter ∷ more ∷ rest) fields = tt
 
 pub line-few : (line : List ℕ) → FewSlots (readLine line)

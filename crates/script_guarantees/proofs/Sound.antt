@@ -1,7 +1,7 @@
 -- What a script's run keeps, also after a refused `c`; and the part of a script up to a request.
 use mathlib.Core.Path.{_≡_, refl, sym, ap, _∙_}
 use mathlib.Core.Bool.{Bool, true, false}
-use mathlib.Core.List.{List, [], _∷_, _++_, flatMap, foldl}
+use mathlib.Core.List.{List, [], _∷_, _++_, foldl}
 use Prim.Native.Nat.{ℕ, zero, suc}
 use lib.ListN.{length, take}
 use lib.Seq.{take-append-seam}
@@ -11,12 +11,12 @@ use Rattle.queue.specs.Refusals.{settingsRefused}
 use Rattle.queue.specs.declared.State.{State}
 use Rattle.guarantees.specs.Calls.{Entry, entry, reply}
 use Rattle.guarantees.specs.Conservation.{bytesOf}
-use Rattle.guarantees.specs.Handed.{Packet, Queue, Request, Run, admittedBy, after, answerOf, begin, callOf, departedBy, queued, step}
+use Rattle.guarantees.specs.Handed.{Queue, Request, Run, after, answerOf, callOf, queued, step}
 use Rattle.guarantees.proofs.Refusals.{refusals}
 use Rattle.guarantees.proofs.RunKept.{run-kept}
 use Rattle.script_guarantees.specs.Asked.{Asked, nothing, started, unstarted}
-use Rattle.script_guarantees.specs.Entries.{admittedIn, departedIn, entriesOf, opened, runOf, traceOf}
-use Rattle.script_guarantees.specs.RunTrace.{ToldBy, stateAfter}
+use Rattle.script_guarantees.specs.Entries.{entriesOf, opened, runOf, traceOf}
+use Rattle.script_guarantees.specs.RunTrace.{ToldBy}
 use Rattle.script_guarantees.proofs.Idle.{idle-reply}
 use Rattle.script_guarantees.proofs.Lent.{idle-after}
 use Rattle.script_guarantees.proofs.Lines.{trace-on}
@@ -27,10 +27,10 @@ use Rattle.script_guarantees.proofs.RunTrace.{run-trace}
 -- a `c` is accepted, or leaves the all-zero state
 pub by-start : (P : Type 0) (target buffer slots : ℕ) → ((fresh (settingsOf target buffer slots) 0) .answer ≡ made → P) →
     ((opened target buffer slots) .state ≡ zeroState → P) → P
-by-start P target buffer slots accepted refused′ = go (settingsRefused (settingsOf target buffer slots) 0) refl
+by-start P target buffer slots accepted otherwise = go (settingsRefused (settingsOf target buffer slots) 0) refl
   where
     go : (b : Bool) → settingsRefused (settingsOf target buffer slots) 0 ≡ b → P
-    go true e = refused′ (ap (λ (r : Reply). r .state) (refusals .starts (settingsOf target buffer slots) 0 .refuses e))
+    go true e = otherwise (ap (λ (r : Reply). r .state) (refusals .starts (settingsOf target buffer slots) 0 .refuses e))
     go false e = accepted (refusals .starts (settingsOf target buffer slots) 0 .accepts e)
 
 -- ── what a run keeps ──

@@ -6,11 +6,10 @@ use Prim.Native.Nat.{ℕ, _-_}
 use lib.ListN.{length, replicate}
 use Rattle.command.specs.Line.{readLine}
 use Rattle.queue.specs.Fresh.{zeroState}
-use Rattle.guarantees.specs.Handed.{Run}
 use Rattle.script.specs.Lines.{linesOf}
 use Rattle.script.specs.Script.{ScriptRun, answerLine, noPackets, startRun}
-use Rattle.script.specs.declared.Stage.the-variants.{First, Running, Ended}
-use Rattle.script_guarantees.specs.Asked.{Asked, Body, asked, nothing, started, unstarted}
+use Rattle.script.specs.declared.Stage.the-variants.{Running, Ended}
+use Rattle.script_guarantees.specs.Asked.{Asked, asked, nothing, started, unstarted}
 use Rattle.script_guarantees.specs.Entries.{runOf}
 use Rattle.script_guarantees.specs.ScriptText.{lineAfter, textOf}
 

@@ -1,5 +1,5 @@
--- Question 2 for scripts: in any script, after an accepted tick that fills the allowance, at the clock t, each accepted arrival with a clock
--- below t + 150,000 is answered by rules 1 and 2 alone.
+-- Question 2 for scripts: in any script, after an accepted tick that fills the allowance, at the clock t, each accepted arrival with a
+-- clock below t + 150,000 is answered by rules 1 and 2 alone.
 use mathlib.Core.Path.{_≡_}
 use mathlib.Core.List.{List, _∷_, _++_, List·Memᴰ}
 use Prim.Native.Nat.{ℕ, _+_}

@@ -1,4 +1,4 @@
--- What any script writes: the line of its `c`, and then for each request the answer that its trace gives, up to the end or the first bad line.
+-- What any script writes: the line of its `c`, and then for each request the answer in its trace, up to the end or the first bad line.
 use mathlib.Core.Path.{_≡_}
 use mathlib.Core.Bool.{cond}
 use mathlib.Core.List.{List, [], _++_, flatMap}
