@@ -41,7 +41,7 @@ length-stored : (s : State) (a : Answer) (table : List ℕ) (element : ℕ) → 
 length-stored s a table element =
     at-cond (λ (l : List ℕ). length l ≡ length table) (admits a) (λ e. length-set table _ element) (λ e. refl)
 
-whole-after : (q : Queue) (r : Request) → Whole q → Whole (after q r)
+pub whole-after : (q : Queue) (r : Request) → Whole q → Whole (after q r)
 whole-after q (askArrival clock handle size ecn u) w =
     let c = callOf q (askArrival clock handle size ecn u) in
     let same = same-slots (q .state) c in

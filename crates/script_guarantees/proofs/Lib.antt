@@ -11,3 +11,4 @@ pub mod ScriptOrder
 pub mod ScriptBytes
 pub mod ScriptGrace
 pub mod ScriptRecovery
+pub mod ScriptRefusals

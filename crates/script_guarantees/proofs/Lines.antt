@@ -19,7 +19,6 @@ use Rattle.guarantees.specs.Calls.{Entry, entry}
 use Rattle.guarantees.specs.Handed.{Queue, Request, after, askArrival, askDeparture, askTick, callOf}
 use Rattle.script.specs.Answering.{laterLine, nextLine, outcome}
 use Rattle.script.specs.Script.{ScriptRun, answerLine}
-use Rattle.script.proofs.Stages.{at-ended}
 use Rattle.script.specs.declared.Stage.the-variants.{Running, Ended}
 use Rattle.script_guarantees.specs.Asked.{Body, asking, bodyOf}
 use Rattle.script_guarantees.specs.Entries.{traceOf}
@@ -85,8 +84,8 @@ ended line spare q output =
     }
 
 ended-line : (r : ScriptRun) (command : Command) → r .session .stage ≡ Ended → answerLine r command ≡ r
-unfolding answerLine
-ended-line r command e = rw (at-ended (r .session) (r .handles) (r .sizes) command e, append-nil)
+unfolding answerLine outcome
+ended-line r command e = rw (e, append-nil)
 
 pub ended-lines : (r : ScriptRun) (commands : List Command) → r .session .stage ≡ Ended → foldl answerLine r commands ≡ r
 ended-lines r [] e = refl
@@ -104,13 +103,14 @@ lines-counted line (suc count) h =
     let next : nextLine line ≤ 2 ^ 64 - 1 = omega arith in
     lines-counted (nextLine line) count next ∙ omega arith
 
--- the text of a request and of what follows it
+-- a request's entry, and then those of what follows it
 pub trace-on : (q : Queue) (r : Request) (rest : List Request) →
     traceOf q (r ∷ rest) ≡ entry (q .state) (callOf q r) ∷ traceOf (after q r) rest
 trace-on q (askArrival clock handle size ecn u) rest = refl
 trace-on q (askDeparture clock) rest = refl
 trace-on q (askTick clock) rest = refl
 
+-- and their text
 text-on : (q : Queue) (r : Request) (rest : List Request) (output end : List ℕ) →
     (output ++ lineText (entry (q .state) (callOf q r))) ++ (flatMap lineText (traceOf (after q r) rest) ++ end)
     ≡ output ++ (flatMap lineText (traceOf q (r ∷ rest)) ++ end)

@@ -7,6 +7,7 @@
 --   ScriptBytes      question 3: the bytes on a line are those admitted so far less those departed so far
 --   ScriptRecovery   demand 3 and question 4: 1,000 ticks on an empty queue
 --   ScriptGrace      question 2: a refilled allowance lasts 150 ms
+--   ScriptRefusals   which refusals a script's requests are never given
 pub mod Asked
 pub mod Entries
 pub mod ScriptText
@@ -16,3 +17,4 @@ pub mod ScriptOrder
 pub mod ScriptBytes
 pub mod ScriptRecovery
 pub mod ScriptGrace
+pub mod ScriptRefusals
