@@ -12,3 +12,4 @@ pub mod ScriptBytes
 pub mod ScriptGrace
 pub mod ScriptRecovery
 pub mod ScriptRefusals
+pub mod ScriptVerdicts
