@@ -1,0 +1,1 @@
+// Theorems over scripts: stated in specs/, proved in proofs/. No code.
