@@ -1,0 +1,47 @@
+-- The words of a state hold that state.
+use mathlib.Core.Path.{_≡_, refl, ap, _∙_}
+use mathlib.Core.Bool.{Bool, true, false, cond, not}
+use mathlib.Core.List.{List, [], _∷_}
+use Prim.Native.Nat.{ℕ, zero, suc, _+_}
+use native.Mathlib.Omega.{arith}
+use lib.Dec.{eqb}
+use lib.ListN.{getD, length}
+use borrow.Author.Tests.{eqb-false}
+use Rattle.queue.specs.declared.State.{State}
+use Rattle.capi.specs.Words.{flagWord, isSet, stateOf, stateWords}
+use Rattle.c_guarantees.specs.Decoding.{Decoding}
+
+-- the word `measuring` says what was written
+flag-says : (word : ℕ) (runs : Bool) → isSet (flagWord word runs) ≡ runs
+flag-says word runs = go (eqb word 0) refl runs
+  where
+    go : (b : Bool) → eqb word 0 ≡ b → (runs : Bool) → isSet (cond (not b) (cond runs word 0) (cond runs 1 0)) ≡ runs
+    go true e true = refl
+    go true e false = refl
+    go false e true = ap not e
+    go false e false = refl
+
+-- five counts, written out
+five-written : (l : List ℕ) → length l ≡ 5 → getD l 0 0 ∷ getD l 1 0 ∷ getD l 2 0 ∷ getD l 3 0 ∷ getD l 4 0 ∷ [] ≡ l
+five-written [] h = absurd (omega arith)
+five-written (a ∷ []) h = absurd (omega arith)
+five-written (a ∷ b ∷ []) h = absurd (omega arith)
+five-written (a ∷ b ∷ c ∷ []) h = absurd (omega arith)
+five-written (a ∷ b ∷ c ∷ d ∷ []) h = absurd (omega arith)
+five-written (a ∷ b ∷ c ∷ d ∷ e ∷ []) h = refl
+five-written (a ∷ b ∷ c ∷ d ∷ e ∷ f ∷ l) h = absurd (omega arith)
+
+pub decodes : (words : List ℕ) (s : State) → length (s .verdicts) ≡ 5 → stateOf (stateWords words s) ≡ s
+unfolding stateOf stateWords
+decodes w s h = rw (flag-says (getD w 9 0) (s .pie .rate .measuring), five-written (s .verdicts) h)
+
+pub five : (words : List ℕ) → length ((stateOf words) .verdicts) ≡ 5
+unfolding stateOf
+five w = refl
+
+twenty : (words : List ℕ) (s : State) → length (stateWords words s) ≡ 20
+unfolding stateWords
+twenty w s = refl
+
+pub decoding : Decoding
+decoding = record { decodes = decodes; five = five; twenty = twenty }
