@@ -1,4 +1,6 @@
 -- The proofs of the claims in specs/, each in the file of its name, and what they share.
 pub mod Decoding
+pub mod Codes
 pub mod CReplies
 pub mod TracesJoined
+pub mod RunsJoined

@@ -13,3 +13,4 @@ pub mod CCalls
 pub mod CHanded
 pub mod Decoding
 pub mod TracesJoined
+pub mod RunsJoined

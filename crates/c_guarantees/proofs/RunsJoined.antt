@@ -1,0 +1,105 @@
+-- The run over words is the run over states: the one induction over a list of requests.
+use mathlib.Core.Path.{_≡_, refl, ap, sym, _∙_}
+use mathlib.Core.Bool.{cond}
+use mathlib.Core.List.{List, [], _∷_, _++_, append-assoc, append-nil, foldl, map}
+use Prim.Native.Nat.{ℕ, _+_}
+use native.Mathlib.Omega.{arith}
+use lib.Dec.{eqb, ltb}
+use lib.ListN.{length}
+use Rattle.laws.proofs.Choice.{either}
+use Rattle.pie.specs.Verdicts.{placeOf}
+use Rattle.queue.specs.Answer.{Answer, Reply, admits}
+use Rattle.queue.specs.Arrival.{verdictOf}
+use Rattle.queue.specs.Fresh.{fresh, settingsOf}
+use Rattle.queue.specs.Refusals.{settingsRefused}
+use Rattle.queue.specs.declared.Settings.{Settings}
+use Rattle.capi.specs.Codes.{codeOf, packetOf}
+use Rattle.capi.specs.Words.{stateOf, stateWords}
+use Rattle.guarantees.specs.Handed.{Packet, Request, Run, after, answerOf, askArrival, askDeparture, askTick, begin, brought, departedBy, run, step}
+use Rattle.guarantees.specs.Handed as states
+use Rattle.guarantees.proofs.Replies.{at-one-reply}
+use Rattle.c_guarantees.specs.CHanded.{CQueue, Logged, admittedBy, admittedIn, cCallOf, codeFor, finalQueue, freshQueue, handedOutBy, handedOutIn, logOf, logged, queueLeft, queueOf, written}
+use Rattle.c_guarantees.specs.RunsJoined.{RunsJoined, SameRun}
+use Rattle.c_guarantees.proofs.CReplies.{words-left}
+use Rattle.c_guarantees.proofs.Codes.{admitted-below-2, refused-not, refused-not-below, same-either-way}
+use Rattle.c_guarantees.proofs.Decoding.{decodes}
+
+-- ── one request ──
+
+queue-left : (q : CQueue) (r : Request) → queueOf (queueLeft q r) ≡ after (queueOf q) r
+queue-left q (askArrival clock handle size ecn u) = rw (words-left (q .words) (cCallOf q (askArrival clock handle size ecn u)))
+queue-left q (askDeparture clock) = rw (words-left (q .words) (cCallOf q (askDeparture clock)))
+queue-left q (askTick clock) = rw (words-left (q .words) (cCallOf q (askTick clock)))
+
+admitted-same : (q : CQueue) (r : Request) → admittedBy (logged q r) ≡ states.admittedBy r (answerOf (queueOf q) r)
+admitted-same q (askArrival clock handle size ecn u) =
+    let r = askArrival clock handle size ecn u in
+    at-one-reply (λ p. cond (ltb (codeOf (p .answer)) 2) (brought r) [] ≡ cond (admits (p .answer)) (brought r) []) (stateOf (q .words)) (cCallOf q r)
+    (λ number. rw (refused-not-below number 2 (omega arith)))
+    (λ a. rw (admitted-below-2 (verdictOf (stateOf (q .words)) size ecn u)))
+admitted-same q (askDeparture clock) =
+    let r = askDeparture clock in same-either-way (ltb (codeFor q r) 2) [] ∙ sym (same-either-way (admits (answerOf (queueOf q) r)) [])
+admitted-same q (askTick clock) =
+    let r = askTick clock in same-either-way (ltb (codeFor q r) 2) [] ∙ sym (same-either-way (admits (answerOf (queueOf q) r)) [])
+
+departed-same : (q : CQueue) (r : Request) → handedOutBy (logged q r) ≡ departedBy (answerOf (queueOf q) r)
+departed-same q (askArrival clock handle size ecn u) =
+    let r = askArrival clock handle size ecn u in
+    at-one-reply (λ p. cond (eqb (codeOf (p .answer)) 0) [] [] ≡ departedBy (p .answer)) (stateOf (q .words)) (cCallOf q r)
+    (λ number. same-either-way (eqb (100 + number) 0) [])
+    (λ a. same-either-way (eqb (placeOf (verdictOf (stateOf (q .words)) size ecn u)) 0) [])
+departed-same q (askDeparture clock) =
+    let r = askDeparture clock in
+    at-one-reply (λ p. cond (eqb (codeOf (p .answer)) 0) (written r (packetOf (p .answer))) [] ≡ departedBy (p .answer)) (stateOf (q .words)) (cCallOf q r)
+    (λ number. rw (refused-not number 0 (omega arith)))
+    (λ a. refl)
+departed-same q (askTick clock) =
+    let r = askTick clock in
+    at-one-reply (λ p. cond (eqb (codeOf (p .answer)) 0) [] [] ≡ departedBy (p .answer)) (stateOf (q .words)) (cCallOf q r)
+    (λ number. same-either-way (eqb (100 + number) 0) [])
+    (λ a. refl)
+
+-- ── a list of them ──
+
+-- the answers whose numbers the log has
+pub answersTo : CQueue → List Request → List Answer
+answersTo q [] = []
+answersTo q (r ∷ rs) = answerOf (queueOf q) r ∷ answersTo (queueLeft q r) rs
+
+abbrev runOf : CQueue → (admitted departed : List Packet) (answers : List Answer) → Run
+runOf q admitted departed answers = record { queue = queueOf q; admitted = admitted; departed = departed; answers = answers }
+
+step-same : (q : CQueue) (a d : List Packet) (n : List Answer) (r : Request) →
+    step (runOf q a d n) r ≡ runOf (queueLeft q r) (a ++ admittedBy (logged q r)) (d ++ handedOutBy (logged q r)) (n ++ answerOf (queueOf q) r ∷ [])
+step-same q a d n r = rw (queue-left q r, admitted-same q r, departed-same q r)
+
+steps-same : (q : CQueue) (a d : List Packet) (n : List Answer) (requests : List Request) →
+    foldl step (runOf q a d n) requests
+    ≡ runOf (finalQueue q requests) (a ++ admittedIn (logOf q requests)) (d ++ handedOutIn (logOf q requests)) (n ++ answersTo q requests)
+unfolding answersTo
+steps-same q a d n [] = rw (append-nil a, append-nil d, append-nil n)
+steps-same q a d n (r ∷ requests) =
+    let e = logged q r in
+    rw (step-same q a d n r)
+    (simp append-assoc at
+    (steps-same (queueLeft q r) (a ++ admittedBy e) (d ++ handedOutBy e) (n ++ answerOf (queueOf q) r ∷ []) requests))
+
+codes-same : (q : CQueue) (requests : List Request) → map (λ (e : Logged). e .code) (logOf q requests) ≡ map codeOf (answersTo q requests)
+unfolding answersTo
+codes-same q [] = refl
+codes-same q (r ∷ requests) = ap (λ (l : List ℕ). codeFor q r ∷ l) (codes-same (queueLeft q r) requests)
+
+fresh-five : (settings : Settings) (clock : ℕ) → length ((fresh settings clock) .state .verdicts) ≡ 5
+unfolding fresh
+fresh-five settings clock = either (λ (r : Reply). length (r .state .verdicts) ≡ 5) (settingsRefused settings clock) _ _ refl refl
+
+begin-same : (given : CQueue) (target buffer slots clock : ℕ) →
+    begin (settingsOf target buffer slots) clock (given .handles) (given .sizes) ≡ runOf (freshQueue given target buffer slots clock) [] [] []
+begin-same given target buffer slots clock =
+    let settings = settingsOf target buffer slots in rw (decodes (given .words) ((fresh settings clock) .state) (fresh-five settings clock))
+
+pub runs-joined : RunsJoined
+runs-joined given target buffer slots clock requests =
+    let start = freshQueue given target buffer slots clock in
+    rw (begin-same given target buffer slots clock, steps-same start [] [] [] requests)
+    (record { queue = refl; codes = codes-same start requests; admitted = refl; departed = refl })
