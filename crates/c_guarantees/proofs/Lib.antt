@@ -4,3 +4,5 @@ pub mod Codes
 pub mod CReplies
 pub mod TracesJoined
 pub mod RunsJoined
+pub mod CTraces
+pub mod CGrace

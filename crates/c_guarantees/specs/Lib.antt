@@ -14,3 +14,4 @@ pub mod CHanded
 pub mod Decoding
 pub mod TracesJoined
 pub mod RunsJoined
+pub mod CGrace
