@@ -6,3 +6,4 @@ pub mod TracesJoined
 pub mod RunsJoined
 pub mod CTraces
 pub mod CGrace
+pub mod CRecovery

@@ -15,3 +15,4 @@ pub mod Decoding
 pub mod TracesJoined
 pub mod RunsJoined
 pub mod CGrace
+pub mod CRecovery
