@@ -1,11 +1,10 @@
 -- Question 2 for C calls, from the same over states.
 use mathlib.Core.Path.{_≡_, refl, ap, sym, _∙_}
-use mathlib.Core.List.{List, _∷_, _++_, Memᴰ·append-right, Memᴰ·map, List·Memᴰ·head, List·Memᴰ·tail, map}
-use Prim.Native.Nat.{ℕ, _+_}
+use mathlib.Core.List.{List, Memᴰ·append-right, Memᴰ·map, List·Memᴰ·head, List·Memᴰ·tail, map}
+use Prim.Native.Nat.{ℕ}
 use Rattle.capi.specs.Words.{stateOf}
 use Rattle.queue.specs.declared.State.{State}
 use Rattle.guarantees.proofs.Grace.{grace}
-use Rattle.c_guarantees.specs.CCalls.{CEntry}
 use Rattle.c_guarantees.specs.CGrace.{CGrace}
 use Rattle.c_guarantees.specs.Fields.{allowanceIn}
 use Rattle.c_guarantees.proofs.CTraces.{cut-of, entryOf, own-by-limits, own-in, own-returned, own-ticked}

@@ -1,7 +1,7 @@
 -- Demand 3 and question 4 for C calls, from the same over states.
 use mathlib.Core.Path.{_≡_, refl, ap, sym, _∙_}
-use mathlib.Core.Bool.{Bool, true, false, cond}
-use mathlib.Core.List.{List, [], _∷_, _++_, foldl, foldl-append, List·Memᴰ, Memᴰ·append-left, Memᴰ·append-right, Memᴰ·map, List·Memᴰ·head, List·Memᴰ·tail, map, map-append}
+use mathlib.Core.List.{List, [], _∷_, _++_, foldl, foldl-append, List·Memᴰ, Memᴰ·append-left, Memᴰ·append-right, Memᴰ·map, List·Memᴰ·head}
+use mathlib.Core.List.{List·Memᴰ·tail, map}
 use Prim.Native.Nat.{ℕ, _+_}
 use native.Mathlib.Omega.{arith}
 use Rattle.queue.specs.Arrival.{verdictOf}
@@ -61,17 +61,18 @@ c-recovers ticks w recovers calls before e later q =
     let earlier : codesTally n before ≡ tally n (map entryOf before)
     = tallies-same n nothingYet before (λ a m. owned a (Memᴰ·append-left (e ∷ later) m)) in
     let upto : codesTally n (before ++ e ∷ []) ≡ tally n (map entryOf before ++ entryOf e ∷ [])
-    = foldl-append _ nothingYet before (e ∷ []) ∙ own-noted n (codesTally n before) e here ∙ ap (λ (t : Tally). noted n t ((entryOf e) .answer)) earlier
+    = foldl-append _ nothingYet before (e ∷ [])
+    ∙ own-noted n (codesTally n before) e here
+    ∙ ap (λ (t : Tally). noted n t ((entryOf e) .answer)) earlier
     ∙ sym (foldl-append _ nothingYet (map entryOf before) (entryOf e ∷ [])) in
     record {
       counted = sym (count-held (e .given)) ∙ known .counted ∙ ap (queuedBy n) (sym earlier);
       covered = rw earlier (known .covered);
       recovers =
           λ t called zero enough.
-          let k = known .recovers t called (own-ticked e t here called zero) (rw upto at enough) in
-          (
+          let k = known .recovers t called (own-ticked e t here called zero) (rw upto at enough) in (
             sym (probability-held (e .returned)) ∙ ap (λ (s : State). s .pie .prob .0) (own-returned e here) ∙ k .0,
-            λ a m. own-by-limits _ a (owned a (Memᴰ·append-right before (List·Memᴰ·tail m))) (k .1 (entryOf a) (Memᴰ·map entryOf m))
+            λ a m. own-by-limits _ a (owned a (Memᴰ·append-right before (List·Memᴰ·tail m))) (k .1 (entryOf a) (Memᴰ·map entryOf m)),
           );
     }
 

@@ -1,10 +1,8 @@
 -- A C call's words hold the state that the call over states returns.
-use mathlib.Core.Path.{_≡_, refl, ap, sym, _∙_}
+use mathlib.Core.Path.{_≡_, refl, _∙_}
 use mathlib.Core.List.{List}
 use Prim.Native.Nat.{ℕ}
-use lib.ListN.{length}
 use Rattle.pie.proofs.Counts.{length-raised}
-use Rattle.queue.specs.declared.State.{State}
 use Rattle.queue.specs.Arrival.{arrivedState, verdictOf}
 use Rattle.queue.specs.Departure.{departedState}
 use Rattle.queue.specs.Tick.{tickedState}

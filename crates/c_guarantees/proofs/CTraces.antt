@@ -1,7 +1,7 @@
 -- An entry of a trace over words, as the entry of the trace over states that it is.
 use mathlib.Core.Path.{_≡_, refl, ap, sym, _∙_}
 use mathlib.Core.Bool.{Bool, true, false, cond}
-use mathlib.Core.List.{List, [], _∷_, _++_, List·Memᴰ, List·Memᴰ·cases-cons, List·Memᴰ·not-nil, Memᴰ·append-right, Memᴰ·map, map, map-append}
+use mathlib.Core.List.{List, [], _∷_, _++_, List·Memᴰ, List·Memᴰ·cases-cons, List·Memᴰ·not-nil, map, map-append}
 use mathlib.Core.Logic.{⊎-elim}
 use Prim.Native.Nat.{ℕ, _+_, _<_}
 use native.Mathlib.Omega.{arith}
@@ -89,4 +89,5 @@ own-by-limits end e o limited handles sizes clock handle size ecn u called below
     let told = own-code e o in
     let v = arrival-answered s handles sizes clock handle size ecn u (rw (told, called) at below) in
     let answered : (entryOf e) .answer ≡ verdict (v .0) = ap (λ (c : Call). (reply s c) .answer) called ∙ v .1 in
-    told ∙ ap codeOf answered ∙ ap placeOf (limited handles sizes clock handle size ecn u (v .0) called answered early) ∙ limits-place (e .given) size
+    let decided : v .0 ≡ limitsVerdict s size = limited handles sizes clock handle size ecn u (v .0) called answered early in
+    told ∙ ap codeOf answered ∙ ap placeOf decided ∙ limits-place (e .given) size

@@ -1,5 +1,5 @@
 -- What the number of an answer tells of it.
-use mathlib.Core.Path.{_≡_, refl}
+use mathlib.Core.Path.{_≡_, refl, ap}
 use mathlib.Core.Bool.{Bool, true, false, cond}
 use Prim.Native.Nat.{ℕ, _+_, _<_}
 use native.Mathlib.Omega.{arith}
@@ -8,6 +8,9 @@ use lib.Dec.{eqb, ltb}
 use Rattle.pie.specs.Verdicts.{admitted, placeOf}
 use Rattle.pie.specs.declared.Verdict.{Verdict}
 use Rattle.pie.specs.declared.Verdict.the-variants.{Enqueued, Marked, DroppedBytes, DroppedSlots, DroppedEarly}
+use Rattle.pie.proofs.Counts.{place-lt}
+use Rattle.queue.specs.Answer.{Answer, departed, made, refused, ticked, verdict}
+use Rattle.capi.specs.Codes.{codeOf}
 
 -- a refusal's number is none below 100
 pub refused-not : (number code : ℕ) → code < 100 → eqb (100 + number) code ≡ false
@@ -27,3 +30,11 @@ admitted-below-2 DroppedEarly = refl
 pub same-either-way : {A : Type 0} (t : Bool) (x : A) → cond t x x ≡ x
 same-either-way true x = refl
 same-either-way false x = refl
+
+-- a number above 100 is a refusal's
+pub code-refused : (a : Answer) (number : ℕ) → codeOf a ≡ 100 + number → a ≡ refused number
+code-refused (refused n) number e = ap refused (omega arith)
+code-refused made number e = absurd (omega arith)
+code-refused (verdict v) number e = absurd (omega (arith, place-lt v))
+code-refused (departed handle size) number e = absurd (omega arith)
+code-refused ticked number e = absurd (omega arith)

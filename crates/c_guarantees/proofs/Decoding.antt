@@ -1,12 +1,11 @@
 -- The words of a state hold that state.
-use mathlib.Core.Path.{_≡_, refl, ap, _∙_}
+use mathlib.Core.Path.{_≡_, refl, ap}
 use mathlib.Core.Bool.{Bool, true, false, cond, not}
 use mathlib.Core.List.{List, [], _∷_}
-use Prim.Native.Nat.{ℕ, zero, suc, _+_}
+use Prim.Native.Nat.{ℕ}
 use native.Mathlib.Omega.{arith}
 use lib.Dec.{eqb}
 use lib.ListN.{getD, length}
-use borrow.Author.Tests.{eqb-false}
 use Rattle.queue.specs.declared.State.{State}
 use Rattle.capi.specs.Words.{flagWord, isSet, stateOf, stateWords}
 use Rattle.c_guarantees.specs.Decoding.{Decoding}

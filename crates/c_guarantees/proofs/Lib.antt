@@ -7,3 +7,5 @@ pub mod RunsJoined
 pub mod CTraces
 pub mod CGrace
 pub mod CRecovery
+pub mod CFirstInFirstOut
+pub mod CConservation

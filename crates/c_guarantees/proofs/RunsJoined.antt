@@ -14,12 +14,14 @@ use Rattle.queue.specs.Fresh.{fresh, settingsOf}
 use Rattle.queue.specs.Refusals.{settingsRefused}
 use Rattle.queue.specs.declared.Settings.{Settings}
 use Rattle.capi.specs.Codes.{codeOf, packetOf}
-use Rattle.capi.specs.Words.{stateOf, stateWords}
-use Rattle.guarantees.specs.Handed.{Packet, Request, Run, after, answerOf, askArrival, askDeparture, askTick, begin, brought, departedBy, run, step}
+use Rattle.capi.specs.Words.{stateOf}
+use Rattle.guarantees.specs.Handed.{Packet, Request, Run, after, answerOf, askArrival, askDeparture, askTick, begin, brought, departedBy}
+use Rattle.guarantees.specs.Handed.{run, step}
 use Rattle.guarantees.specs.Handed as states
 use Rattle.guarantees.proofs.Replies.{at-one-reply}
-use Rattle.c_guarantees.specs.CHanded.{CQueue, Logged, admittedBy, admittedIn, cCallOf, codeFor, finalQueue, freshQueue, handedOutBy, handedOutIn, logOf, logged, queueLeft, queueOf, written}
-use Rattle.c_guarantees.specs.RunsJoined.{RunsJoined, SameRun}
+use Rattle.c_guarantees.specs.CHanded.{CQueue, Logged, admittedBy, admittedIn, cCallOf, codeFor, finalQueue, freshQueue, handedOutBy}
+use Rattle.c_guarantees.specs.CHanded.{handedOutIn, logOf, logged, queueLeft, queueOf, written}
+use Rattle.c_guarantees.specs.RunsJoined.{RunsJoined}
 use Rattle.c_guarantees.proofs.CReplies.{words-left}
 use Rattle.c_guarantees.proofs.Codes.{admitted-below-2, refused-not, refused-not-below, same-either-way}
 use Rattle.c_guarantees.proofs.Decoding.{decodes}
@@ -34,7 +36,8 @@ queue-left q (askTick clock) = rw (words-left (q .words) (cCallOf q (askTick clo
 admitted-same : (q : CQueue) (r : Request) → admittedBy (logged q r) ≡ states.admittedBy r (answerOf (queueOf q) r)
 admitted-same q (askArrival clock handle size ecn u) =
     let r = askArrival clock handle size ecn u in
-    at-one-reply (λ p. cond (ltb (codeOf (p .answer)) 2) (brought r) [] ≡ cond (admits (p .answer)) (brought r) []) (stateOf (q .words)) (cCallOf q r)
+    at-one-reply (λ p. cond (ltb (codeOf (p .answer)) 2) (brought r) [] ≡ cond (admits (p .answer)) (brought r) [])
+    (stateOf (q .words)) (cCallOf q r)
     (λ number. rw (refused-not-below number 2 (omega arith)))
     (λ a. rw (admitted-below-2 (verdictOf (stateOf (q .words)) size ecn u)))
 admitted-same q (askDeparture clock) =
@@ -50,7 +53,8 @@ departed-same q (askArrival clock handle size ecn u) =
     (λ a. same-either-way (eqb (placeOf (verdictOf (stateOf (q .words)) size ecn u)) 0) [])
 departed-same q (askDeparture clock) =
     let r = askDeparture clock in
-    at-one-reply (λ p. cond (eqb (codeOf (p .answer)) 0) (written r (packetOf (p .answer))) [] ≡ departedBy (p .answer)) (stateOf (q .words)) (cCallOf q r)
+    at-one-reply (λ p. cond (eqb (codeOf (p .answer)) 0) (written r (packetOf (p .answer))) [] ≡ departedBy (p .answer))
+    (stateOf (q .words)) (cCallOf q r)
     (λ number. rw (refused-not number 0 (omega arith)))
     (λ a. refl)
 departed-same q (askTick clock) =
@@ -62,21 +66,21 @@ departed-same q (askTick clock) =
 -- ── a list of them ──
 
 -- the answers whose numbers the log has
-pub answersTo : CQueue → List Request → List Answer
+abbrev pub answersTo : CQueue → List Request → List Answer
 answersTo q [] = []
 answersTo q (r ∷ rs) = answerOf (queueOf q) r ∷ answersTo (queueLeft q r) rs
 
-abbrev runOf : CQueue → (admitted departed : List Packet) (answers : List Answer) → Run
+abbrev pub runOf : CQueue → (admitted departed : List Packet) (answers : List Answer) → Run
 runOf q admitted departed answers = record { queue = queueOf q; admitted = admitted; departed = departed; answers = answers }
 
 step-same : (q : CQueue) (a d : List Packet) (n : List Answer) (r : Request) →
-    step (runOf q a d n) r ≡ runOf (queueLeft q r) (a ++ admittedBy (logged q r)) (d ++ handedOutBy (logged q r)) (n ++ answerOf (queueOf q) r ∷ [])
+    step (runOf q a d n) r
+    ≡ runOf (queueLeft q r) (a ++ admittedBy (logged q r)) (d ++ handedOutBy (logged q r)) (n ++ answerOf (queueOf q) r ∷ [])
 step-same q a d n r = rw (queue-left q r, admitted-same q r, departed-same q r)
 
 steps-same : (q : CQueue) (a d : List Packet) (n : List Answer) (requests : List Request) →
     foldl step (runOf q a d n) requests
     ≡ runOf (finalQueue q requests) (a ++ admittedIn (logOf q requests)) (d ++ handedOutIn (logOf q requests)) (n ++ answersTo q requests)
-unfolding answersTo
 steps-same q a d n [] = rw (append-nil a, append-nil d, append-nil n)
 steps-same q a d n (r ∷ requests) =
     let e = logged q r in
@@ -84,8 +88,8 @@ steps-same q a d n (r ∷ requests) =
     (simp append-assoc at
     (steps-same (queueLeft q r) (a ++ admittedBy e) (d ++ handedOutBy e) (n ++ answerOf (queueOf q) r ∷ []) requests))
 
-codes-same : (q : CQueue) (requests : List Request) → map (λ (e : Logged). e .code) (logOf q requests) ≡ map codeOf (answersTo q requests)
-unfolding answersTo
+codes-same : (q : CQueue) (requests : List Request) →
+    map (λ (e : Logged). e .code) (logOf q requests) ≡ map codeOf (answersTo q requests)
 codes-same q [] = refl
 codes-same q (r ∷ requests) = ap (λ (l : List ℕ). codeFor q r ∷ l) (codes-same (queueLeft q r) requests)
 
@@ -94,12 +98,21 @@ unfolding fresh
 fresh-five settings clock = either (λ (r : Reply). length (r .state .verdicts) ≡ 5) (settingsRefused settings clock) _ _ refl refl
 
 begin-same : (given : CQueue) (target buffer slots clock : ℕ) →
-    begin (settingsOf target buffer slots) clock (given .handles) (given .sizes) ≡ runOf (freshQueue given target buffer slots clock) [] [] []
+    begin (settingsOf target buffer slots) clock (given .handles) (given .sizes)
+    ≡ runOf (freshQueue given target buffer slots clock) [] [] []
 begin-same given target buffer slots clock =
     let settings = settingsOf target buffer slots in rw (decodes (given .words) ((fresh settings clock) .state) (fresh-five settings clock))
+
+pub run-same : (given : CQueue) (target buffer slots clock : ℕ) (requests : List Request) →
+    let start = freshQueue given target buffer slots clock in
+    let log = logOf start requests in
+    run (settingsOf target buffer slots) clock (given .handles) (given .sizes) requests
+    ≡ runOf (finalQueue start requests) (admittedIn log) (handedOutIn log) (answersTo start requests)
+run-same given target buffer slots clock requests =
+    rw (begin-same given target buffer slots clock) (steps-same (freshQueue given target buffer slots clock) [] [] [] requests)
 
 pub runs-joined : RunsJoined
 runs-joined given target buffer slots clock requests =
     let start = freshQueue given target buffer slots clock in
-    rw (begin-same given target buffer slots clock, steps-same start [] [] [] requests)
+    rw (run-same given target buffer slots clock requests)
     (record { queue = refl; codes = codes-same start requests; admitted = refl; departed = refl })

@@ -2,11 +2,10 @@
 use mathlib.Core.Path.{_≡_, refl}
 use mathlib.Core.List.{List, [], _∷_, map}
 use Prim.Native.Nat.{ℕ}
-use Rattle.capi.specs.Codes.{codeOf}
 use Rattle.capi.specs.Words.{stateOf}
 use Rattle.guarantees.specs.Calls.{Call, entry, reply, trace}
 use Rattle.c_guarantees.specs.CCalls.{cEntry, cTrace, wordsLeft}
-use Rattle.c_guarantees.specs.TracesJoined.{Told, TracesJoined, toldByStates, toldByWords}
+use Rattle.c_guarantees.specs.TracesJoined.{TracesJoined, toldByStates, toldByWords}
 use Rattle.c_guarantees.proofs.CReplies.{words-left}
 
 told-same : (words : List ℕ) (c : Call) → toldByWords (cEntry words c) ≡ toldByStates (entry (stateOf words) c)

@@ -5,9 +5,10 @@ use mathlib.Core.Bool.{Bool, cond}
 use mathlib.Core.List.{List, [], _∷_}
 use Prim.Native.Nat.{ℕ, _+_, _<_}
 use lib.Dec.{eqb, ltb}
-use Rattle.capi.specs.Codes.{codeOf, wordsAfter}
+use Rattle.queue.specs.Answer.{Answer}
+use Rattle.capi.specs.Codes.{codeOf, packetOf, wordsAfter}
 use Rattle.capi.specs.Words.{stateOf}
-use Rattle.guarantees.specs.Calls.{Call, arrive, reply}
+use Rattle.guarantees.specs.Calls.{Call, arrive, depart, reply, update}
 use Rattle.c_guarantees.specs.Fields.{bufferIn, bytesIn, countIn, slotsIn}
 
 -- the number that the call answers
@@ -18,15 +19,25 @@ codeGiven w c = codeOf ((reply (stateOf w) c) .answer)
 abbrev pub wordsLeft : (words : List ℕ) → Call → List ℕ
 wordsLeft w c = wordsAfter (reply (stateOf w) c) w
 
--- one call of a list, the words that it was given, the number that it answered, and the words that it left
+-- the handle and the size that a departure with this answer writes to its packet; no other call is lent one
+abbrev pub packetFor : Call → Answer → List ℕ
+packetFor (arrive handles sizes clock handle size ecn u) a = []
+packetFor (depart handles sizes clock) a = packetOf a
+packetFor (update clock) a = []
+
+abbrev pub packetWritten : (words : List ℕ) → Call → List ℕ
+packetWritten w c = packetFor c ((reply (stateOf w) c) .answer)
+
+-- one call of a list, the words that it was given, the number that it answered, the packet that it wrote, and the words that it left
 pub record CEntry : Type 0 where
   pub call : Call
   pub given : List ℕ
   pub code : ℕ
+  pub packet : List ℕ
   pub returned : List ℕ
 
 abbrev pub cEntry : (words : List ℕ) → Call → CEntry
-cEntry w c = record { call = c; given = w; code = codeGiven w c; returned = wordsLeft w c }
+cEntry w c = record { call = c; given = w; code = codeGiven w c; packet = packetWritten w c; returned = wordsLeft w c }
 
 abbrev pub cTrace : (words : List ℕ) → List Call → List CEntry
 cTrace w [] = []

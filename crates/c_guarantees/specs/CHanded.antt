@@ -1,18 +1,17 @@
--- A queue whose words and tables are handed back untouched at each C call, and the log of its calls. What a call answers, writes and leaves is
--- what its entry promises (crates/capi/src/lib.rt).
-use mathlib.Core.Bool.{Bool, cond}
+-- A queue whose words and tables are handed back untouched at each C call, and the log of its calls. What a call answers, writes and leaves
+-- is what its entry promises (crates/capi/src/lib.rt).
+use mathlib.Core.Bool.{cond}
 use mathlib.Core.List.{List, [], _∷_, _++_, foldl}
 use Prim.Native.Nat.{ℕ, _+_, _%_}
 use lib.Dec.{eqb, ltb}
 use lib.ListN.{getD}
-use Rattle.queue.specs.Answer.{Answer}
 use Rattle.queue.specs.Arrival.{stored}
 use Rattle.queue.specs.Fresh.{fresh, settingsOf}
-use Rattle.capi.specs.Codes.{codeOf, packetOf}
+use Rattle.capi.specs.Codes.{codeOf}
 use Rattle.capi.specs.Words.{stateOf, stateWords}
-use Rattle.guarantees.specs.Calls.{Call, reply}
+use Rattle.guarantees.specs.Calls.{Call}
 use Rattle.guarantees.specs.Handed.{Packet, Queue, Request, answerOf, askArrival, askDeparture, askTick, brought, callOf, listed}
-use Rattle.c_guarantees.specs.CCalls.{codeGiven, wordsLeft}
+use Rattle.c_guarantees.specs.CCalls.{codeGiven, packetWritten, wordsLeft}
 use Rattle.c_guarantees.specs.Fields.{countIn, firstIn, slotsIn}
 
 -- the words and the two tables
@@ -44,12 +43,6 @@ cCallOf q r = callOf (queueOf q) r
 abbrev pub codeFor : CQueue → Request → ℕ
 codeFor q r = codeGiven (q .words) (cCallOf q r)
 
--- the handle and the size that a departure writes to `packet`; no other call is lent one
-abbrev pub packetFor : CQueue → Request → List ℕ
-packetFor q (askArrival clock handle size ecn u) = []
-packetFor q (askDeparture clock) = packetOf (answerOf (queueOf q) (askDeparture clock))
-packetFor q (askTick clock) = []
-
 -- a table after an arrival
 abbrev pub tableLeft : CQueue → Request → (table : List ℕ) (element : ℕ) → List ℕ
 tableLeft q r table element = stored (stateOf (q .words)) (answerOf (queueOf q) r) table element
@@ -79,7 +72,7 @@ pub record Logged : Type 0 where
   pub packet : List ℕ
 
 abbrev pub logged : CQueue → Request → Logged
-logged q r = record { asked = r; code = codeFor q r; packet = packetFor q r }
+logged q r = record { asked = r; code = codeFor q r; packet = packetWritten (q .words) (cCallOf q r) }
 
 abbrev pub logOf : CQueue → List Request → List Logged
 logOf q [] = []

@@ -1,5 +1,5 @@
--- Demand 3 and question 4 for C calls: once a crowd has left, how long does the queue go on dropping? Any list of C calls, from any words that
--- obikuteru_well_formed accepts, each call given the words that the last one left, with any tables lent to it.
+-- Demand 3 and question 4 for C calls: once a crowd has left, how long does the queue go on dropping? Any list of C calls, from any words
+-- that obikuteru_well_formed accepts, each call given the words that the last one left, with any tables lent to it.
 use mathlib.Core.Path.{_≡_}
 use mathlib.Core.Bool.{true, cond}
 use mathlib.Core.List.{List, [], _∷_, _++_, foldl, List·Memᴰ}
@@ -14,8 +14,8 @@ use Rattle.guarantees.specs.Recovery.{Tally, nothingYet, queuedBy}
 use Rattle.c_guarantees.specs.CCalls.{CEntry, CodeByLimitsBefore, cTrace}
 use Rattle.c_guarantees.specs.Fields.{countIn, probabilityIn}
 
--- one call more, with its number: admissions are arrivals answered 0 or 1, departures those answered 0, and emptyTicks the ticks answered 0 in
--- succession that each found the queue empty, by queuedBy: the count in the starting words, plus the admissions, less the departures
+-- one call more, with its number: admissions are arrivals answered 0 or 1, departures those answered 0, and emptyTicks the ticks answered 0
+-- in succession that each found the queue empty, by queuedBy: the count in the starting words, plus the admissions, less the departures
 abbrev pub codeNoted : (startCount : ℕ) → Tally → Call → (code : ℕ) → Tally
 codeNoted n t (arrive handles sizes clock handle size ecn u) code =
     record { admissions = cond (ltb code 2) (t .admissions + 1) (t .admissions); departures = t .departures; emptyTicks = t .emptyTicks }
