@@ -69,12 +69,12 @@ c-recovers ticks w recovers calls before e later q =
       counted = sym (count-held (e .given)) ∙ known .counted ∙ ap (queuedBy n) (sym earlier);
       covered = rw earlier (known .covered);
       recovers =
-          λ t called zero enough.
-          let k = known .recovers t called (own-ticked e t here called zero) (rw upto at enough) in (
+          λ t called accepted enough.
+          let k = known .recovers t called (own-ticked e t here called accepted) (rw upto at enough) in (
             sym (probability-held (e .returned)) ∙ ap (λ (s : State). s .pie .prob .0) (own-returned e here) ∙ k .0,
             λ a m. own-by-limits _ a (owned a (Memᴰ·append-right before (List·Memᴰ·tail m))) (k .1 (entryOf a) (Memᴰ·map entryOf m)),
           );
     }
 
 pub c-recovery : CRecovery
-c-recovery w formed = c-recovers 1000 w (recovery (stateOf w) formed)
+c-recovery w formed = c-recovers _ w (recovery (stateOf w) formed)

@@ -11,7 +11,7 @@ use Rattle.capi.specs.Words.{stateOf}
 use Rattle.guarantees.specs.Calls.{Call, reply}
 use Rattle.guarantees.proofs.Replies.{at-reply}
 use Rattle.c_guarantees.specs.CCalls.{wordsLeft}
-use Rattle.c_guarantees.proofs.Decoding.{decodes, five}
+use Rattle.c_guarantees.proofs.Decoding.{decoding}
 
 -- a refused call leaves the words that hold its state; any other call writes its state's words
 pub words-left : (words : List ℕ) (c : Call) → stateOf (wordsLeft words c) ≡ (reply (stateOf words) c) .state
@@ -21,6 +21,6 @@ words-left w =
     at-reply s (λ c r. stateOf (wordsAfter r w) ≡ r .state)
     (λ c number. refl)
     (λ handles sizes clock handle size ecn u a.
-    let v = verdictOf s size ecn u in decodes w (arrivedState s clock size v) (length-raised (s .verdicts) v ∙ five w))
-    (λ handles sizes clock a. decodes w _ (five w))
-    (λ clock a. decodes w _ (five w))
+    let v = verdictOf s size ecn u in decoding .decodes w (arrivedState s clock size v) (length-raised (s .verdicts) v ∙ decoding .five w))
+    (λ handles sizes clock a. decoding .decodes w _ (decoding .five w))
+    (λ clock a. decoding .decodes w _ (decoding .five w))

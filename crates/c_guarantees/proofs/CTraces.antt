@@ -1,7 +1,7 @@
 -- An entry of a trace over words, as the entry of the trace over states that it is.
 use mathlib.Core.Path.{_≡_, refl, ap, sym, _∙_}
 use mathlib.Core.Bool.{Bool, true, false, cond}
-use mathlib.Core.List.{List, [], _∷_, _++_, List·Memᴰ, List·Memᴰ·cases-cons, List·Memᴰ·not-nil, map, map-append}
+use mathlib.Core.List.{List, [], _∷_, _++_, List·Memᴰ, List·Memᴰ·cases-cons, List·Memᴰ·not-nil, map, map-append, map-map}
 use mathlib.Core.Logic.{⊎-elim}
 use Prim.Native.Nat.{ℕ, _+_, _<_}
 use native.Mathlib.Omega.{arith}
@@ -17,15 +17,25 @@ use Rattle.capi.specs.Words.{stateOf}
 use Rattle.guarantees.specs.Calls.{ByLimitsBefore, Call, Entry, arrive, entry, limitsVerdict, reply, trace, update}
 use Rattle.guarantees.proofs.Replies.{at-one-reply}
 use Rattle.c_guarantees.specs.CCalls.{CEntry, CodeByLimitsBefore, cEntry, cTrace, limitsCode, wordsLeft}
+use Rattle.c_guarantees.specs.TracesJoined.{TraceLine, lineOfStates, lineOfWords}
 use Rattle.c_guarantees.specs.Fields.{bufferIn, bytesIn, countIn, slotsIn}
 use Rattle.c_guarantees.proofs.CReplies.{words-left}
+use Rattle.c_guarantees.proofs.TracesJoined.{traces-joined}
 
 abbrev pub entryOf : CEntry → Entry
 entryOf e = entry (stateOf (e .given)) (e .call)
 
-pub trace-of : (words : List ℕ) (calls : List Call) → map entryOf (cTrace words calls) ≡ trace (stateOf words) calls
-trace-of w [] = refl
-trace-of w (c ∷ cs) = ap (λ (l : List Entry). entry (stateOf w) c ∷ l) (rw (words-left w c) at (trace-of (wordsLeft w c) cs))
+-- the entry that a line of both traces tells of
+abbrev entryAt : TraceLine → Entry
+entryAt l = entry (l .given) (l .call)
+
+lines-back : (s : State) (calls : List Call) → map entryAt (map lineOfStates (trace s calls)) ≡ trace s calls
+lines-back s [] = refl
+lines-back s (c ∷ cs) = ap (λ (l : List Entry). entry s c ∷ l) (lines-back ((reply s c) .state) cs)
+
+trace-of : (words : List ℕ) (calls : List Call) → map entryOf (cTrace words calls) ≡ trace (stateOf words) calls
+trace-of w calls =
+    sym (map-map entryAt lineOfWords (cTrace w calls)) ∙ ap (map entryAt) (traces-joined w calls) ∙ lines-back (stateOf w) calls
 
 -- the trace over states is cut where the trace over words is
 pub cut-of : (words : List ℕ) (calls : List Call) (before : List CEntry) (e : CEntry) (later : List CEntry) →
@@ -61,8 +71,8 @@ tick-answered s t =
 
 -- a tick that is answered 0
 pub own-ticked : (e : CEntry) (t : ℕ) → Own e → e .call ≡ update t → e .code ≡ 0 → (entryOf e) .answer ≡ ticked
-own-ticked e t o called zero =
-    let told = sym (own-code e o) ∙ zero in rw called (tick-answered (stateOf (e .given)) t (rw called at told))
+own-ticked e t o called accepted =
+    let told = sym (own-code e o) ∙ accepted in rw called (tick-answered (stateOf (e .given)) t (rw called at told))
 
 module _ (s : State) (handles sizes : List ℕ) (clock handle size : ℕ) (ecn : Bool) (u : ℕ) where
   abbrev arrived : Call

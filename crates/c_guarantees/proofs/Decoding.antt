@@ -6,7 +6,6 @@ use Prim.Native.Nat.{ℕ}
 use native.Mathlib.Omega.{arith}
 use lib.Dec.{eqb}
 use lib.ListN.{getD, length}
-use Rattle.queue.specs.declared.State.{State}
 use Rattle.capi.specs.Words.{flagWord, isSet, stateOf, stateWords}
 use Rattle.c_guarantees.specs.Decoding.{Decoding}
 
@@ -30,17 +29,11 @@ five-written (a ∷ b ∷ c ∷ d ∷ []) h = absurd (omega arith)
 five-written (a ∷ b ∷ c ∷ d ∷ e ∷ []) h = refl
 five-written (a ∷ b ∷ c ∷ d ∷ e ∷ f ∷ l) h = absurd (omega arith)
 
-pub decodes : (words : List ℕ) (s : State) → length (s .verdicts) ≡ 5 → stateOf (stateWords words s) ≡ s
-unfolding stateOf stateWords
-decodes w s h = rw (flag-says (getD w 9 0) (s .pie .rate .measuring), five-written (s .verdicts) h)
-
-pub five : (words : List ℕ) → length ((stateOf words) .verdicts) ≡ 5
-unfolding stateOf
-five w = refl
-
-twenty : (words : List ℕ) (s : State) → length (stateWords words s) ≡ 20
-unfolding stateWords
-twenty w s = refl
-
 pub decoding : Decoding
-decoding = record { decodes = decodes; five = five; twenty = twenty }
+unfolding stateOf stateWords
+decoding =
+    record {
+      decodes = λ w s h. rw (flag-says (getD w 9 0) (s .pie .rate .measuring), five-written (s .verdicts) h);
+      five = λ w. refl;
+      twenty = λ w s. refl;
+    }

@@ -79,12 +79,12 @@ logOf q [] = []
 logOf q (r ∷ rs) = logged q r ∷ logOf (queueLeft q r) rs
 
 -- the packet of an arrival that is answered 0 or 1
-abbrev pub admittedBy : Logged → List Packet
-admittedBy e = cond (ltb (e .code) 2) (brought (e .asked)) []
+abbrev pub admittedAt : Logged → List Packet
+admittedAt e = cond (ltb (e .code) 2) (brought (e .asked)) []
 
 abbrev pub admittedIn : List Logged → List Packet
 admittedIn [] = []
-admittedIn (e ∷ es) = admittedBy e ++ admittedIn es
+admittedIn (e ∷ es) = admittedAt e ++ admittedIn es
 
 -- the packet that a departure writes
 abbrev pub written : Request → (packet : List ℕ) → List Packet
@@ -93,12 +93,12 @@ written (askDeparture clock) packet = record { handle = getD packet 0 0; size = 
 written (askTick clock) packet = []
 
 -- the packet of a departure that is answered 0
-abbrev pub handedOutBy : Logged → List Packet
-handedOutBy e = cond (eqb (e .code) 0) (written (e .asked) (e .packet)) []
+abbrev pub handedOutAt : Logged → List Packet
+handedOutAt e = cond (eqb (e .code) 0) (written (e .asked) (e .packet)) []
 
 abbrev pub handedOutIn : List Logged → List Packet
 handedOutIn [] = []
-handedOutIn (e ∷ es) = handedOutBy e ++ handedOutIn es
+handedOutIn (e ∷ es) = handedOutAt e ++ handedOutIn es
 
 -- ── the packets in the tables ──
 

@@ -10,7 +10,7 @@ use Rattle.guarantees.specs.Calls.{Call, Entry, trace}
 use Rattle.c_guarantees.specs.CCalls.{CEntry, cTrace, packetFor}
 
 -- a call, the state that it was given, the number that it answered, the packet that it wrote, and the state that it returned
-pub record Told : Type 0 where
+pub record TraceLine : Type 0 where
   pub call : Call
   pub given : State
   pub code : ℕ
@@ -18,13 +18,13 @@ pub record Told : Type 0 where
   pub returned : State
 
 -- by the words
-abbrev pub toldByWords : CEntry → Told
-toldByWords e =
+abbrev pub lineOfWords : CEntry → TraceLine
+lineOfWords e =
     record { call = e .call; given = stateOf (e .given); code = e .code; packet = e .packet; returned = stateOf (e .returned) }
 
 -- by the states
-abbrev pub toldByStates : Entry → Told
-toldByStates e =
+abbrev pub lineOfStates : Entry → TraceLine
+lineOfStates e =
     record {
       call = e .call;
       given = e .given;
@@ -35,4 +35,4 @@ toldByStates e =
 
 abbrev pub TracesJoined : Type 0
 TracesJoined =
-    (words : List ℕ) (calls : List Call) → map toldByWords (cTrace words calls) ≡ map toldByStates (trace (stateOf words) calls)
+    (words : List ℕ) (calls : List Call) → map lineOfWords (cTrace words calls) ≡ map lineOfStates (trace (stateOf words) calls)
