@@ -47,7 +47,7 @@ cTrace w (c ∷ cs) = cEntry w c ∷ cTrace (wordsLeft w c) cs
 abbrev pub limitsCode : (words : List ℕ) (size : ℕ) → ℕ
 limitsCode w size = cond (ltb (bufferIn w) (bytesIn w + size)) 2 (cond (eqb (countIn w) (slotsIn w)) 3 0)
 
--- if the entry is an accepted arrival with a clock below `end`, rules 1 and 2 alone decide
+-- if the entry is an arrival answered below 100 (not refused) with a clock below `end`, rules 1 and 2 alone decide
 abbrev pub CodeByLimitsBefore : (end : ℕ) → CEntry → Type 0
 CodeByLimitsBefore end e =
     (handles sizes : List ℕ) (clock handle size : ℕ) (ecn : Bool) (u : ℕ) →

@@ -1,4 +1,4 @@
--- Words by the names of struct obikuteru_state (include/obikuteru.h).
+-- The words that the theorems speak of, by the names of struct obikuteru_state (include/obikuteru.h).
 use mathlib.Core.List.{List}
 use Prim.Native.Nat.{ℕ, _+_}
 use lib.ListN.{getD}

@@ -2,7 +2,7 @@
 -- gets. Each claim stands in a file of its own; proofs/ proves it.
 --
 --   Decoding           the words of a state hold that state
---   TracesJoined       each call given the words that the last one left: numbers and words are those of the trace over states
+--   TracesJoined       each call given the words that the last one left: numbers, packets and words are those of the trace over states
 --   RunsJoined         with words and tables handed back from a fresh record: words, tables, numbers and packets are those of the run
 --   CRecovery          demand 3 and question 4, in words and numbers
 --   CGrace             question 2
