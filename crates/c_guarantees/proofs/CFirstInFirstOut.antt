@@ -1,0 +1,40 @@
+-- Demand 2 over lists of C calls, from the same over states.
+use mathlib.Core.Path.{_≡_, refl, ap, ap₂, sym, _∙_}
+use mathlib.Core.List.{List, _++_}
+use Prim.Native.Nat.{ℕ}
+use native.Mathlib.Omega.{arith}
+use Rattle.laws.proofs.Choice.{either}
+use Rattle.queue.specs.Answer.{Reply, made}
+use Rattle.queue.specs.Fresh.{fresh, settingsOf}
+use Rattle.queue.specs.Refusals.{settingsRefused}
+use Rattle.capi.specs.Codes.{codeOf}
+use Rattle.capi.specs.Words.{stateOf}
+use Rattle.guarantees.specs.FirstInFirstOut.{InOrder}
+use Rattle.guarantees.specs.Handed.{Run, queued}
+use Rattle.guarantees.proofs.FirstInFirstOut.{first-in-first-out}
+use Rattle.c_guarantees.specs.CFirstInFirstOut.{CFirstInFirstOut, CInOrder}
+use Rattle.c_guarantees.specs.CHanded.{CQueue, Logged, freshCode, queueOf, queuedIn}
+use Rattle.c_guarantees.specs.RunsJoined.{SameRun}
+use Rattle.c_guarantees.proofs.RunsJoined.{runs-joined}
+
+pub fresh-made : (target buffer slots clock : ℕ) → freshCode target buffer slots clock ≡ 0 →
+    (fresh (settingsOf target buffer slots) clock) .answer ≡ made
+unfolding fresh
+fresh-made target buffer slots clock =
+    either (λ (r : Reply). codeOf (r .answer) ≡ 0 → r .answer ≡ made) (settingsRefused (settingsOf target buffer slots) clock) _ _
+    (λ e. absurd (omega arith))
+    (λ e. refl)
+
+pub queued-held : (q : CQueue) → queuedIn q ≡ queued (queueOf q)
+unfolding stateOf
+queued-held q = refl
+
+in-order : (q : CQueue) (log : List Logged) (r : Run) → SameRun q log r → InOrder r → CInOrder q log
+in-order q log r same ordered =
+    same .admitted ∙ ordered ∙ sym (ap₂ _++_ (same .departed) (queued-held q ∙ ap queued (same .queue)))
+
+pub c-first-in-first-out : CFirstInFirstOut
+c-first-in-first-out given target buffer slots clock requests accepted =
+    let settings = settingsOf target buffer slots in
+    in-order _ _ _ (runs-joined given target buffer slots clock requests)
+    (first-in-first-out settings clock (given .handles) (given .sizes) requests (fresh-made target buffer slots clock accepted))
