@@ -1,13 +1,17 @@
 -- What a reply's answer tells: a refusal's number is above 0, and a verdict is no refusal.
 use mathlib.Core.Path.{_≡_, refl}
-use mathlib.Core.Bool.{Bool}
+use mathlib.Core.Bool.{Bool, cond}
 use mathlib.Core.List.{List}
 use Prim.Native.Nat.{ℕ, zero, suc}
 use native.Mathlib.Omega.{arith}
-use lib.ListN.{length}
+use lib.ListN.{length, set}
+use Rattle.pie.specs.Verdicts.{admitted}
 use Rattle.pie.specs.declared.Verdict.{Verdict}
-use Rattle.queue.specs.Answer.{Reply, numberOf, refused, unlessRefused, verdict}
-use Rattle.queue.specs.Arrival.{arrival, arrivalRefusal, arrivedState, verdictOf}
+use Rattle.queue.specs.Answer.{Reply, departed, handleIn, numberOf, refusalIn, refused, sizeIn, unlessRefused, verdict}
+use Rattle.queue.specs.Arrival.{arrival, arrivalRefusal, arrivedState, stored, tailPlace, verdictOf}
+use Rattle.queue.specs.Departure.{departedState, departure, departureRefusal, headOf}
+use Rattle.queue.specs.declared.Accepted.{Accepted}
+use Rattle.queue.specs.declared.Accepted.the-variants.{No, Yes}
 use Rattle.queue.specs.declared.Refusal.{Refusal}
 use Rattle.queue.specs.declared.Refusal.the-variants.{Settings, Malformed, Tables, Clock, TooSoon, Empty, Size, Counts, Head}
 use Rattle.queue.specs.declared.State.{State}
@@ -23,6 +27,49 @@ refused-reply Empty given accepted = refl
 refused-reply Size given accepted = refl
 refused-reply Counts given accepted = refl
 refused-reply Head given accepted = refl
+
+-- a refused arrival: its reply, and the tables as they were
+pub arrival-refused : (s : State) (handles sizes : List ℕ) (clock handle size : ℕ) (ecn : Bool) (u : ℕ) (checked : Accepted) (r : Refusal) →
+    checked ≡ No r →
+    refusalIn checked ≡ arrivalRefusal s (length handles) (length sizes) clock size →
+    let reply = arrival s handles sizes clock size ecn u in
+    (record { answer = refused (numberOf r); state = s } ≡ reply)
+    × ((handles ≡ stored s (reply .answer) handles handle) × (sizes ≡ stored s (reply .answer) sizes size))
+unfolding arrival
+arrival-refused s handles sizes clock handle size ecn u checked r found e = rw (← e, found, refused-reply) (refl, (refl, refl))
+
+-- an arrival that is not refused, from what its parts return
+pub arrival-decided : (s : State) (handles sizes : List ℕ) (clock handle size : ℕ) (ecn : Bool) (u : ℕ) (checked : Accepted) (v : Verdict) (after : State) (handles' sizes' : List ℕ) →
+    checked ≡ Yes →
+    refusalIn checked ≡ arrivalRefusal s (length handles) (length sizes) clock size →
+    v ≡ verdictOf s size ecn u →
+    after ≡ arrivedState s clock size v →
+    (handles' ≡ cond (admitted v) (set handles (tailPlace s) handle) handles) × (sizes' ≡ cond (admitted v) (set sizes (tailPlace s) size) sizes) →
+    let reply = arrival s handles sizes clock size ecn u in
+    (record { answer = verdict v; state = after } ≡ reply)
+    × ((handles' ≡ stored s (reply .answer) handles handle) × (sizes' ≡ stored s (reply .answer) sizes size))
+unfolding arrival
+arrival-decided s handles sizes clock handle size ecn u checked v after handles' sizes' found e ev ea et =
+    rw (← e, found, ea, ← ev) (refl, et)
+
+-- a refused departure, and one that is not refused
+pub departure-refused : (s : State) (handles sizes : List ℕ) (clock : ℕ) (checked : Accepted) (r : Refusal) →
+    checked ≡ No r →
+    refusalIn checked ≡ departureRefusal s (length handles) (length sizes) clock (headOf s sizes) →
+    let reply = departure s handles sizes clock in
+    (record { answer = refused (numberOf r); state = s } ≡ reply) × ((0 ≡ handleIn (reply .answer)) × (0 ≡ sizeIn (reply .answer)))
+unfolding departure
+departure-refused s handles sizes clock checked r found e = rw (← e, found, refused-reply) (refl, (refl, refl))
+
+pub departure-taken : (s : State) (handles sizes : List ℕ) (clock : ℕ) (checked : Accepted) (after : State) →
+    checked ≡ Yes →
+    refusalIn checked ≡ departureRefusal s (length handles) (length sizes) clock (headOf s sizes) →
+    after ≡ departedState s clock (headOf s sizes) →
+    let reply = departure s handles sizes clock in
+    (record { answer = departed (headOf s handles) (headOf s sizes); state = after } ≡ reply)
+    × ((headOf s handles ≡ handleIn (reply .answer)) × (headOf s sizes ≡ sizeIn (reply .answer)))
+unfolding departure
+departure-taken s handles sizes clock checked after found e ea = rw (← e, found, ea) (refl, (refl, refl))
 
 -- an arrival that is answered with a verdict was not refused, and returns the state of that verdict
 pub decided : (s : State) (handles sizes : List ℕ) (clock size : ℕ) (ecn : Bool) (u : ℕ) (v : Verdict) →

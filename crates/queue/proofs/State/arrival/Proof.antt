@@ -1,12 +1,11 @@
 -- `State::arrival`: refused as the check says, else the verdict, what it stores, and the state it leaves.
 use borrow.Author.Needs.{needs}
-use mathlib.Core.Path.{_≡_, ap, refl, sym, _∙_}
+use mathlib.Core.Path.{ap, sym, _∙_}
 use native.Mathlib.Omega.{arith}
 use lib.ListN.{length}
 use denote.Ref.{now}
 use Rattle.queue.specs.Answer.{refusalIn}
-use Rattle.queue.specs.Arrival.{arrival}
-use Rattle.queue.proofs.Replies.{refused-reply}
+use Rattle.queue.proofs.Replies.{arrival-decided, arrival-refused}
 use Rattle.queue.proofs.WhenAccepted.{ArrivalAccepted, arrival-accepted}
 use Rattle.queue.proofs.State.arrival.Statement.{statement}
 use Rattle.queue.proofs.State.arrival.Tie as tie
@@ -47,10 +46,9 @@ arrived-requires c κs =
     let k = known (c .before .before .before .before .before .before .before .before .before) in (k .formed, (k .total-low, k .size-high))
 
 returns : tie.Need-returns
-unfolding arrival
 returns c =
     let k = c .before .before .before in
-    simp (← (k .check-arrival .ensures), c .before .checked .given .1, refused-reply) (refl, (refl, refl))
+    arrival-refused _ _ _ _ _ _ _ _ _ _ (c .before .checked .given .1) (k .check-arrival .ensures)
 
 same-length : tie.Need-same-length
 same-length c = search needs
@@ -59,14 +57,17 @@ same-length-2 : tie.Need-same-length-2
 same-length-2 c = search needs
 
 returns-2 : tie.Need-returns-2
-unfolding arrival
 returns-2 c =
     let p = c .before .before .before .before .before in
     let r = p .before .before .before .before in
     let e = r .before in
     let w = e .before .before in
-    simp (c .arrived .ensures, ← (w .check-arrival .ensures), e .enum-told .given .1, ← (r .verdict .ensures))
-    (refl, (p .store .ensures .0, p .store .ensures .1))
+    arrival-decided _ _ _ _ _ _ _ _ _ _ _ _ _
+    (e .enum-told .given .1)
+    (w .check-arrival .ensures)
+    (r .verdict .ensures)
+    (c .arrived .ensures)
+    (p .store .ensures)
 
 pub arrival-spec : {M : Type 1} → statement M
 arrival-spec =

@@ -1,12 +1,12 @@
 -- `State::departure`: refused as the check says, else the head is handed out.
 use borrow.Author.Needs.{needs}
-use mathlib.Core.Path.{_≡_, ap, refl, sym, _∙_}
+use mathlib.Core.Path.{ap, sym, _∙_}
 use native.Mathlib.Omega.{arith}
 use lib.ListN.{length}
 use denote.Ref.{now}
-use Rattle.queue.specs.Answer.{handleIn, refusalIn, sizeIn}
-use Rattle.queue.specs.Departure.{departure, headOf}
-use Rattle.queue.proofs.Replies.{refused-reply}
+use Rattle.queue.specs.Answer.{refusalIn}
+use Rattle.queue.specs.Departure.{headOf}
+use Rattle.queue.proofs.Replies.{departure-refused, departure-taken}
 use Rattle.queue.proofs.WhenAccepted.{DepartureAccepted, departure-accepted}
 use Rattle.queue.proofs.State.departure.Statement.{statement}
 use Rattle.queue.proofs.State.departure.Tie as tie
@@ -53,16 +53,14 @@ departed-requires c κs =
     let k = known (c .before .before) in (k .formed, (k .clock-low, k .some, k .head-fits, k .head-high))
 
 returns : tie.Need-returns
-unfolding departure
 returns c =
     let k = c .before .before .before in
-    simp (← (k .check-departure .ensures), c .before .checked .given .1, refused-reply) (refl, (refl, refl))
+    departure-refused _ _ _ _ _ _ (c .before .checked .given .1) (k .check-departure .ensures)
 
 returns-2 : tie.Need-returns-2
-unfolding departure
 returns-2 c =
     let t = c .before .before .before in
-    simp (← (t .before .before .check-departure .ensures), t .enum-told .given .1, c .departed .ensures) (refl, (refl, refl))
+    departure-taken _ _ _ _ _ _ (t .enum-told .given .1) (t .before .before .check-departure .ensures) (c .departed .ensures)
 
 pub departure-spec : {M : Type 1} → statement M
 departure-spec =

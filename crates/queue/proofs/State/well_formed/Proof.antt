@@ -2,13 +2,13 @@
 use borrow.Author.Needs.{needs}
 use borrow.Author.Tests.{le-leb, leb-true, lt-ltb, not-false, not-true}
 use mathlib.Core.Path.{_≡_, ap, sym, _∙_}
-use mathlib.Core.Bool.{Bool, true, false, not, _&&_, and-true, false≢true}
+use mathlib.Core.Bool.{Bool, true, false, not, _&&_, _||_, and-true, false≢true}
 use mathlib.Core.List.{List, [], _∷_, foldl}
-use Prim.Native.Nat.{_*_}
+use Prim.Native.Nat.{_*_, _≤_}
 use native.Mathlib.Omega.{arith}
-use lib.Dec.{leb, ltb}
+use lib.Dec.{eqb, leb, ltb}
 use Rattle.units.specs.Kinds.{whole}
-use Rattle.pie.specs.Constants.{fullAllowance, largest, latest, longest, mostVerdicts}
+use Rattle.pie.specs.Constants.{fullAllowance, largest, latest, longest, mostVerdicts, threshold}
 use Rattle.pie.specs.Verdicts.{total}
 use Rattle.queue.specs.State.{all, settingsConditions, wellFormed}
 use Rattle.queue.specs.declared.State.{State}
@@ -31,6 +31,12 @@ tests s =
     ∷ leb (s .backlog .count) (s .backlog .bytes .0)
     ∷ leb (s .backlog .bytes .0) (s .settings .buffer .0)
     ∷ []
+
+-- what `measurement_fits` tests
+abbrev measured : State → Bool
+measured s =
+    let rate = s .pie .rate in
+    leb (rate .start .0) (s .clock .0) && ltb (rate .counted .0) threshold && (rate .measuring || eqb (rate .start .0) 0) && (rate .measuring || eqb (rate .counted .0) 0)
 
 module _ (s : State) where
   settings-pass : Facts s → all (settingsConditions (s .settings)) ≡ true
@@ -64,10 +70,34 @@ module _ (s : State) where
 part : (s : State) (b p : Bool) → (Facts s → p ≡ true) → b ≡ p → not b ≡ true → false ≡ wellFormed s
 part s b p h e f = false-of (wellFormed s) (λ w. false≢true (sym (not-true b f) ∙ e ∙ h (facts s w)))
 
--- the tests with what `in_range` answered
-tested : (s : State) (r : Bool) → r ≡ all (settingsConditions (s .settings)) →
-    foldl _&&_ r (tests s) ≡ foldl _&&_ (all (settingsConditions (s .settings))) (tests s)
-tested s r e = ap (λ q. foldl _&&_ q (tests s)) e
+-- where one of the tests fails, with what `in_range` answered
+tests-fail : (s : State) (r : Bool) → r ≡ all (settingsConditions (s .settings)) → not (foldl _&&_ r (tests s)) ≡ true → false ≡ wellFormed s
+tests-fail s r e = part s _ _ (tests-pass s) (ap (λ q. foldl _&&_ q (tests s)) e)
+
+-- where all of them pass, the measurement decides
+tests-hold : (s : State) (r m : Bool) → r ≡ all (settingsConditions (s .settings)) → foldl _&&_ r (tests s) ≡ true →
+    s .backlog .bytes .0 ≤ largest * s .backlog .count → leb (total (s .verdicts)) mostVerdicts ≡ true →
+    m ≡ measured s → m ≡ wellFormed s
+unfolding wellFormed
+tests-hold s r m e passed h counted k =
+    let b = at-from r (tests s) passed in
+    simp (
+      ← e,
+      first-of r (tests s) passed,
+      b 0,
+      b 1,
+      b 2,
+      b 3,
+      b 4,
+      b 5,
+      b 6,
+      b 7,
+      b 8,
+      b 9,
+      le-leb (s .backlog .bytes .0) (largest * s .backlog .count) h,
+      counted,
+      and-true,
+    ) k
 
 counts-fit-requires : tie.Need-counts-fit-requires
 counts-fit-requires c κs = search needs
@@ -82,7 +112,7 @@ returns-2 : tie.Need-returns-2
 returns-2 c =
     let r = c .before .before .before .before .before .before .before .before .before .before .before .before .before .before .before in
     let s = r .before .before .before .before .before .before .before .args .self in
-    part s _ _ (tests-pass s) (tested s _ (r .in-range .ensures)) (c .if2 .taken)
+    tests-fail s (r .in-range .result) (r .in-range .ensures) (c .if2 .taken)
 
 mul-if3 : tie.Need-mul-if3
 mul-if3 c =
@@ -104,33 +134,20 @@ measurement-fits-requires : tie.Need-measurement-fits-requires
 measurement-fits-requires c κs = search needs
 
 returns-4 : tie.Need-returns-4
-unfolding wellFormed
 returns-4 c =
     let e3 = c .before in
     let e2 = e3 .before .before .before in
     let r = e2 .before .before .before .before .before .before .before .before .before .before .before .before .before .before .before in
     let e1 = r .before .before .before .before in
-    let s = e1 .before .before .before .args .self in
-    let passed = not-false (foldl _&&_ (r .in-range .result) (tests s)) (e2 .if2 .left) in
-    let b = at-from (r .in-range .result) (tests s) passed in
-    let counted : leb (total (s .verdicts)) mostVerdicts ≡ true = sym (e1 .before .counts-fit .ensures) ∙ not-false _ (e1 .if1 .left) in
-    simp (
-      ← (r .in-range .ensures),
-      first-of (r .in-range .result) (tests s) passed,
-      b 0,
-      b 1,
-      b 2,
-      b 3,
-      b 4,
-      b 5,
-      b 6,
-      b 7,
-      b 8,
-      b 9,
-      le-leb (s .backlog .bytes .0) (largest * s .backlog .count) (e3 .if3 .left),
-      counted,
-      and-true,
-    ) (c .measurement-fits .ensures)
+    tests-hold
+    (e1 .before .before .before .args .self)
+    (r .in-range .result)
+    (c .measurement-fits .result)
+    (r .in-range .ensures)
+    (not-false _ (e2 .if2 .left))
+    (e3 .if3 .left)
+    (sym (e1 .before .counts-fit .ensures) ∙ not-false _ (e1 .if1 .left))
+    (c .measurement-fits .ensures)
 
 pub well-formed-spec : {M : Type 1} → statement M
 well-formed-spec =
