@@ -2,7 +2,7 @@
 pub mod Replies
 pub mod Traces
 pub mod Refusals
-pub mod EarlyVerdicts
+pub mod WhichVerdict
 pub mod Fall
 pub mod Bound
 pub mod Fading
