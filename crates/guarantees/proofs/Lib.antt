@@ -6,7 +6,7 @@ pub mod WhichVerdict
 pub mod Fall
 pub mod Bound
 pub mod Fading
-pub mod Lasting
+pub mod AllowanceLasts
 pub mod Grace
 pub mod Tallies
 pub mod Recovery
