@@ -1,4 +1,5 @@
--- The most that the probability can be after so many ticks in succession that each found the queue empty, with a target of at least `least`.
+-- The most that the probability can be after so many ticks in succession that each found the queue empty, with a target of at least
+-- `least`.
 use mathlib.Core.Path.{_≡_, refl}
 use mathlib.Core.Bool.{cond}
 use mathlib.Core.List.{List, [], _∷_}

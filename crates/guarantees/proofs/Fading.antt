@@ -24,7 +24,8 @@ pub no-delay : (average : ℕ) → delayOf 0 average ≡ 0
 unfolding delayOf
 no-delay average = rw zero-mul
 
-next-within : (least target n p old : ℕ) → least ≤ target → p ≤ bound least n → (0 < n → old ≡ 0) → nextProb p 0 old target ≤ bound least (suc n)
+next-within : (least target n p old : ℕ) → least ≤ target → p ≤ bound least n → (0 < n → old ≡ 0) →
+    nextProb p 0 old target ≤ bound least (suc n)
 unfolding bound
 next-within least target zero p old h l o = next-prob-le p 0 old target
 next-within least target (suc n) p old h l o = rw (o (omega arith)) (bound-next least target n p h l)
@@ -43,10 +44,12 @@ one-more least target n pie h w =
       old-none = λ _. none;
     }
 
-all-within : (least target n : ℕ) (pie : Pie) → least ≤ target → pie .prob .0 ≤ whole → Within least n (times n (λ q. updated q target 0) pie)
+all-within : (least target n : ℕ) (pie : Pie) → least ≤ target → pie .prob .0 ≤ whole →
+    Within least n (times n (λ q. updated q target 0) pie)
 unfolding times
 all-within least target zero pie h l = none-yet least pie l
-all-within least target (suc n) pie h l = one-more least target n (times n (λ q. updated q target 0) pie) h (all-within least target n pie h l)
+all-within least target (suc n) pie h l =
+    one-more least target n (times n (λ q. updated q target 0) pie) h (all-within least target n pie h l)
 
 -- where the bound is 0, so is the probability
 pub faded : (least ticks n : ℕ) (pie : Pie) → bound least ticks ≡ 0 → ticks ≤ n → Within least n pie → pie .prob .0 ≡ 0

@@ -2,11 +2,11 @@
 pub mod Replies
 pub mod Traces
 pub mod Refusals
-pub mod EarlyVerdicts
+pub mod WhichVerdict
 pub mod Fall
 pub mod Bound
 pub mod Fading
-pub mod Lasting
+pub mod AllowanceLasts
 pub mod Grace
 pub mod Tallies
 pub mod Recovery

@@ -14,7 +14,8 @@ use Rattle.queue.specs.Tick.{tickedState}
 use Rattle.queue.proofs.Admitted.{admitted-room}
 use Rattle.queue.proofs.WhenAccepted.{ArrivalAccepted, DepartureAccepted}
 use Rattle.guarantees.specs.Conservation.{bytesOf}
-use Rattle.guarantees.specs.Handed.{Packet, Queue, Request, admittedBy, after, answerOf, askArrival, askDeparture, askTick, callOf, departedBy, queued, returned}
+use Rattle.guarantees.specs.Handed.{Packet, Queue, Request, admittedBy, after, answerOf, callOf, departedBy, queued, returned}
+use Rattle.guarantees.specs.Handed.{askArrival, askDeparture, askTick}
 use Rattle.guarantees.proofs.Packets.{Sized}
 use Rattle.guarantees.proofs.Replies.{Accepted, acceptance, at-one-reply, refusalOf}
 use Rattle.guarantees.proofs.Ring.{enters, leaves, slot}
@@ -44,7 +45,8 @@ module _ (q : Queue) (clock handle size : ℕ) (ecn : Bool) (u : ℕ) where
   abbrev packet : Packet
   packet = record { handle = handle; size = size }
 
-  arrives : ArrivalAccepted (q .state) (length (q .handles)) (length (q .sizes)) clock size → Moved q arrived (cond (admitted v) (packet ∷ []) []) []
+  arrives : ArrivalAccepted (q .state) (length (q .handles)) (length (q .sizes)) clock size →
+      Moved q arrived (cond (admitted v) (packet ∷ []) []) []
   unfolding arrivedState
   arrives a = go (admitted v) refl
     where
@@ -71,7 +73,9 @@ departs q clock a =
     let s = q .state in
     let fits = a .head-fits in
     record {
-      order = append-nil (queued q) ∙ leaves (s .first) (s .settings .slots) (q .handles) (q .sizes) (a .known .first-high) (s .backlog .count) (a .some);
+      order =
+          append-nil (queued q)
+          ∙ leaves (s .first) (s .settings .slots) (q .handles) (q .sizes) (a .known .first-high) (s .backlog .count) (a .some);
       bytes = omega arith;
       sized = tt;
     }

@@ -1,11 +1,11 @@
--- A queue that is handed back untouched is never refused by 2 or 9: its state is well formed, and its head has a size that may leave.
+-- Numbers that are not given to a queue that is handed back untouched: its state is well formed, and its head has a size that may leave.
 use mathlib.Core.Path.{_≡_, refl, sym, ap, _∙_}
-use mathlib.Core.Bool.{Bool, true, false, _&&_, _||_, or-true, false≢true}
+use mathlib.Core.Bool.{Bool, true, false, _&&_, _||_, and-false, or-true, false≢true}
 use mathlib.Core.Logic.{_≢_}
 use mathlib.Core.List.{List, [], _∷_, List·Memᴰ, List·Memᴰ·head, List·Memᴰ·tail}
-use Prim.Native.Nat.{ℕ, _+_, _-_, _*_, _%_}
+use Prim.Native.Nat.{ℕ, _+_, _-_, _*_, _%_, _<_}
 use native.Mathlib.Omega.{arith}
-use borrow.Author.Tests.{eq-eqb, eqb-false, le-ltb, ne-eqb}
+use borrow.Author.Tests.{eq-eqb, le-ltb, ne-eqb}
 use lib.Dec.{eqb}
 use lib.ListN.{length}
 use Rattle.pie.specs.Constants.{largest}
@@ -17,7 +17,7 @@ use Rattle.queue.specs.State.{wellFormed}
 use Rattle.queue.proofs.Facts.{facts}
 use Rattle.guarantees.specs.Calls.{Call, arrive, depart, update, reply}
 use Rattle.guarantees.specs.Conservation.{bytesOf}
-use Rattle.guarantees.specs.Handed.{Packet, Request, Run, answerOf, askArrival, askDeparture, askTick, callOf, queued}
+use Rattle.guarantees.specs.Handed.{Packet, Request, Run, askArrival, askDeparture, askTick, queued}
 use Rattle.guarantees.specs.Refusals.{Applies, rowsOf}
 use Rattle.guarantees.proofs.Packets.{Sized, sized-bytes}
 use Rattle.guarantees.proofs.Refusals.{calls-refused}
@@ -25,7 +25,7 @@ use Rattle.guarantees.proofs.Ring.{leaves, length-listed, ring, slot}
 use Rattle.guarantees.proofs.RunKept.{Kept}
 
 -- whether a test of this number holds
-abbrev testOf : (n : ℕ) → List (ℕ × Bool) → Bool
+abbrev pub testOf : (n : ℕ) → List (ℕ × Bool) → Bool
 testOf n [] = false
 testOf n ((number, test) ∷ rows) = (eqb n number && test) || testOf n rows
 
@@ -35,22 +35,56 @@ applies-test n ((number, test) ∷ rows) (List·Memᴰ·head e) =
 applies-test n ((number, test) ∷ rows) (List·Memᴰ·tail m) = rw (applies-test n rows m, or-true)
 
 -- a number whose test fails is not given
-not-given : (s : State) (c : Call) (n : ℕ) → testOf n (rowsOf s c) ≡ false → (reply s c) .answer ≢ refused n
+pub not-given : (s : State) (c : Call) (n : ℕ) → testOf n (rowsOf s c) ≡ false → (reply s c) .answer ≢ refused n
 not-given s c n fails e = false≢true (sym fails ∙ applies-test n (rowsOf s c) (calls-refused s c .lowest n e .0))
 
--- ── 2 ──
+-- of a call's rows: the first one's test, and the others
+abbrev firstTest : List (ℕ × Bool) → Bool
+firstTest [] = false
+firstTest ((number, test) ∷ rows) = test
 
-well-formed-not-2 : (s : State) (c : Call) → wellFormed s ≡ true → (reply s c) .answer ≢ refused 2
-well-formed-not-2 s (arrive handles sizes clock handle size ecn u) w = not-given s (arrive handles sizes clock handle size ecn u) 2 (rw w)
-well-formed-not-2 s (depart handles sizes clock) w = not-given s (depart handles sizes clock) 2 (rw w)
-well-formed-not-2 s (update clock) w = not-given s (update clock) 2 (rw w)
+abbrev pub afterFirst : List (ℕ × Bool) → List (ℕ × Bool)
+afterFirst [] = []
+afterFirst (row ∷ rows) = rows
 
-pub never-2 : (r : Run) → Kept r → (q : Request) → answerOf (r .queue) q ≢ refused 2
-never-2 r k q = well-formed-not-2 (r .queue .state) (callOf (r .queue) q) (k .formed)
+past-first : (n : ℕ) (rows : List (ℕ × Bool)) → firstTest rows ≡ false → testOf n (afterFirst rows) ≡ false → testOf n rows ≡ false
+past-first n [] e f = refl
+past-first n ((number, test) ∷ rows) e f = rw (e, f, and-false)
 
--- ── 9 ──
+well-formed-first : (s : State) (c : Call) → wellFormed s ≡ true → firstTest (rowsOf s c) ≡ false
+well-formed-first s (arrive handles sizes clock handle size ecn u) w = rw w
+well-formed-first s (depart handles sizes clock) w = rw w
+well-formed-first s (update clock) w = rw w
 
-head-leaves : (r : Run) → Kept r → r .queue .state .backlog .count ≢ 0 →
+-- nor is one that no row but the first has, where the state is well formed
+pub not-given-first : (s : State) (c : Call) (n : ℕ) → wellFormed s ≡ true → testOf n (afterFirst (rowsOf s c)) ≡ false →
+    (reply s c) .answer ≢ refused n
+not-given-first s c n w f = not-given s c n (past-first n (rowsOf s c) (well-formed-first s c w) f)
+
+-- nor is a number above 6 whose test fails where a packet is queued: a departure from an empty queue is refused by 6
+pub not-given-past-6 : (s : State) (handles sizes : List ℕ) (clock n : ℕ) → 6 < n →
+    (emptyRefused s ≡ false → testOf n (rowsOf s (depart handles sizes clock)) ≡ false) →
+    (reply s (depart handles sizes clock)) .answer ≢ refused n
+not-given-past-6 s handles sizes clock n above fails e = go (emptyRefused s) refl
+  where
+    c : Call
+    c = depart handles sizes clock
+
+    go : (b : Bool) → emptyRefused s ≡ b → ⊥
+    go true empty =
+        let row : _≡_ {A = ℕ × Bool} (6, true) (6, emptyRefused s) = rw empty in
+        let six : Applies s c 6 = List·Memᴰ·tail (List·Memᴰ·tail (List·Memᴰ·tail (List·Memᴰ·head row))) in
+        omega (arith, calls-refused s c .lowest n e .1 6 six)
+    go false some = not-given s c n (fails some) e
+
+pub at-request : (P : Request → Type 0) → ((clock handle size : ℕ) (ecn : Bool) (u : ℕ) → P (askArrival clock handle size ecn u)) →
+    ((clock : ℕ) → P (askDeparture clock)) → ((clock : ℕ) → P (askTick clock)) → (q : Request) → P q
+at-request P a d t (askArrival clock handle size ecn u) = a clock handle size ecn u
+at-request P a d t (askDeparture clock) = d clock
+at-request P a d t (askTick clock) = t clock
+
+-- the head of a queue that is handed back untouched may leave
+pub head-leaves : (r : Run) → Kept r → r .queue .state .backlog .count ≢ 0 →
     headRefused (r .queue .state .backlog) (headOf (r .queue .state) (r .queue .sizes)) ≡ false
 unfolding headRefused
 head-leaves r k some =
@@ -74,25 +108,3 @@ head-leaves r k some =
       le-ltb (b - size) (n - 1) (omega arith),
       le-ltb (largest * (n - 1)) (b - size) (omega arith),
     )
-
--- a departure from an empty queue is refused by 6, before 9 is tried
-departure-not-9 : (r : Run) → Kept r → (clock : ℕ) → answerOf (r .queue) (askDeparture clock) ≢ refused 9
-departure-not-9 r k clock e = go (emptyRefused s) refl
-  where
-    s : State
-    s = r .queue .state
-
-    c : Call
-    c = callOf (r .queue) (askDeparture clock)
-
-    go : (b : Bool) → emptyRefused s ≡ b → ⊥
-    go true empty =
-        let row : _≡_ {A = ℕ × Bool} (6, true) (6, emptyRefused s) = rw empty in
-        let six : Applies s c 6 = List·Memᴰ·tail (List·Memᴰ·tail (List·Memᴰ·tail (List·Memᴰ·head row))) in
-        omega (arith, calls-refused s c .lowest 9 e .1 6 six)
-    go false some = not-given s c 9 (rw (head-leaves r k (eqb-false (s .backlog .count) 0 some))) e
-
-pub never-9 : (r : Run) → Kept r → (q : Request) → answerOf (r .queue) q ≢ refused 9
-never-9 r k (askArrival clock handle size ecn u) = not-given (r .queue .state) (callOf (r .queue) (askArrival clock handle size ecn u)) 9 refl
-never-9 r k (askDeparture clock) = departure-not-9 r k clock
-never-9 r k (askTick clock) = not-given (r .queue .state) (update clock) 9 refl

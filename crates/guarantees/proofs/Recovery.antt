@@ -58,8 +58,8 @@ module _ (ticks least : ℕ) (reached : bound least ticks ≡ 0) (n : ℕ) (t : 
       (λ clock₁ a clock e f h. ticked-clear clock₁ a h)
 
 -- with a target of at least `least`, once the bound is 0 after so many ticks
-pub recovers-after : (ticks least : ℕ) → bound least ticks ≡ 0 → (start : State) → wellFormed start ≡ true → least ≤ start .settings .target .0 →
-    RecoversAfter ticks start
+pub recovers-after : (ticks least : ℕ) → bound least ticks ≡ 0 →
+    (start : State) → wellFormed start ≡ true → least ≤ start .settings .target .0 → RecoversAfter ticks start
 recovers-after ticks least reached start w h calls before e later q =
     let n = start .backlog .count in
     let note : Tally → Entry → Tally = λ t a. noted n t (a .answer) in

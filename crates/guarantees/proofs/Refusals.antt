@@ -1,5 +1,5 @@
 -- Demand 1: the number that a call's rows give is the lowest whose test holds.
-use mathlib.Core.Path.{_≡_, refl, sym, ap, subst}
+use mathlib.Core.Path.{_≡_, refl, ap, subst}
 use mathlib.Core.Bool.{Bool, true, false}
 use mathlib.Core.Logic.{_≢_}
 use mathlib.Core.List.{List, [], _∷_, List·Memᴰ, List·Memᴰ·head, List·Memᴰ·tail}
@@ -10,13 +10,13 @@ use Rattle.queue.specs.declared.Settings.{Settings}
 use Rattle.queue.specs.declared.State.{State}
 use Rattle.queue.specs.State.{wellFormed}
 use Rattle.queue.specs.Fresh.{fresh}
-use Rattle.queue.specs.Answer.{Answer}
-use Rattle.queue.specs.Arrival.{stored}
+use Rattle.queue.specs.Answer.{refused}
 use Rattle.queue.specs.Refusals.{firstRefusal}
 use Rattle.queue.proofs.Kept.{fresh-well-formed}
 use Rattle.guarantees.specs.Calls.{Call, arrive, depart, update}
+use Rattle.guarantees.specs.Handed.{Queue, Request, after, answerOf, askArrival, askDeparture, askTick, callOf, returned}
 use Rattle.guarantees.specs.Refusals.{Applies, FreshInOrder, RefusedInOrder, Refusals, rowsOf}
-use Rattle.guarantees.proofs.Replies.{number-refuses, refused-by-number}
+use Rattle.guarantees.proofs.Replies.{by-number, acceptance-not-refused, number-refuses, refusalOf, refused-by-number}
 
 -- the rows' numbers go up, from above `low`
 abbrev Ascending : (low : ℕ) → List (ℕ × Bool) → Type 0
@@ -58,8 +58,18 @@ calls-refused s c =
           let f = first-lowest 0 (rowsOf s c) m (ascending s c) a in
           (firstRefusal (rowsOf s c), number-refuses s c (omega arith));
       unchanged = λ n e. cc (refused-by-number s c n e .2);
-      unwritten = λ n e table element. subst (λ (a : Answer). stored s a table element ≡ table) (sym e) refl;
     }
+
+refusal-returns : (q : Queue) (r : Request) (n : ℕ) → returned q r (refusalOf (q .state) n) ≡ q
+refusal-returns q (askArrival clock handle size ecn u) n = refl
+refusal-returns q (askDeparture clock) n = refl
+refusal-returns q (askTick clock) n = refl
+
+refused-untouched : (q : Queue) (r : Request) (n : ℕ) → answerOf q r ≡ refused n → after q r ≡ q
+refused-untouched q r n =
+    by-number (λ reply. reply .answer ≡ refused n → returned q r reply ≡ q) (q .state) (callOf q r)
+    (λ k some given e. refusal-returns q r k)
+    (λ none e. absurd (acceptance-not-refused (q .state) (callOf q r) n e))
 
 fresh-refused : (settings : Settings) (clock : ℕ) → FreshInOrder settings clock
 unfolding fresh wellFormed
@@ -72,4 +82,4 @@ fresh-refused settings clock =
     }
 
 pub refusals : Refusals
-refusals = record { calls = calls-refused; starts = fresh-refused }
+refusals = record { calls = calls-refused; untouched = refused-untouched; starts = fresh-refused }

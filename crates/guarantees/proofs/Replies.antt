@@ -60,7 +60,7 @@ by-number P s c some none = rw (reply-unless-refused s c) (go (numberGiven s c) 
     go zero e = none e
     go (suc n) e = some (suc n) (omega arith) e
 
-acceptance-not-refused : (s : State) (c : Call) (n : ℕ) → (acceptance s c) .answer ≢ refused n
+pub acceptance-not-refused : (s : State) (c : Call) (n : ℕ) → (acceptance s c) .answer ≢ refused n
 acceptance-not-refused s (arrive handles sizes clock handle size ecn u) n e = let z : _≡_ {A = ℕ} 0 1 = cc in omega arith
 acceptance-not-refused s (depart handles sizes clock) n e = let z : _≡_ {A = ℕ} 0 1 = cc in omega arith
 acceptance-not-refused s (update clock) n e = let z : _≡_ {A = ℕ} 0 1 = cc in omega arith
@@ -97,9 +97,11 @@ at-one-reply P s c r a = by-number P s c (λ n some given. r n) (λ none. a (non
 pub at-reply : (s : State) (P : Call → Reply → Type 0) →
     ((c : Call) (number : ℕ) → P c (refusalOf s number)) →
     ((handles sizes : List ℕ) (clock handle size : ℕ) (ecn : Bool) (u : ℕ) →
-    ArrivalAccepted s (length handles) (length sizes) clock size → P (arrive handles sizes clock handle size ecn u) (arrivalOf s clock size ecn u)) →
+    ArrivalAccepted s (length handles) (length sizes) clock size →
+    P (arrive handles sizes clock handle size ecn u) (arrivalOf s clock size ecn u)) →
     ((handles sizes : List ℕ) (clock : ℕ) →
-    DepartureAccepted s (length handles) (length sizes) clock (headOf s sizes) → P (depart handles sizes clock) (departureOf s handles sizes clock)) →
+    DepartureAccepted s (length handles) (length sizes) clock (headOf s sizes) →
+    P (depart handles sizes clock) (departureOf s handles sizes clock)) →
     ((clock : ℕ) → TickAccepted s clock → P (update clock) (tickOf s clock)) →
     (c : Call) → P c (reply s c)
 at-reply s P r a d t c = at-one-reply (P c) s c (r c) (go c)

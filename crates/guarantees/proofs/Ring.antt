@@ -101,13 +101,16 @@ module _ (first slots : ℕ) (handles sizes : List ℕ) (inside : first < slots)
 
   pub leaves : (count : ℕ) → 1 ≤ count →
       ring first slots handles sizes count ≡ slot handles sizes first ∷ ring ((first + 1) % slots) slots handles sizes (count - 1)
-  leaves count some = listed-first count at some ∙ cc (head, listed-ext (count - 1) (λ i. at (suc i)) (λ i. slot handles sizes (((first + 1) % slots + i) % slots)) rest)
+  leaves count some = listed-first count at some ∙ cc (head, listed-ext (count - 1) (λ i. at (suc i)) next rest)
     where
       at : ℕ → Packet
       at i = slot handles sizes ((first + i) % slots)
 
+      next : ℕ → Packet
+      next i = slot handles sizes (((first + 1) % slots + i) % slots)
+
       head : at 0 ≡ slot handles sizes first
       head = let e : first + 0 ≡ first = omega arith in rw (e, mod-eq-of-lt inside)
 
-      rest : (i : ℕ) → i < count - 1 → at (suc i) ≡ slot handles sizes (((first + 1) % slots + i) % slots)
+      rest : (i : ℕ) → i < count - 1 → at (suc i) ≡ next i
       rest i h = let e : first + suc i ≡ first + 1 + i = omega arith in rw (e, mod-add-mod (first + 1) slots i)

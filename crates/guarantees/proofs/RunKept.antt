@@ -11,7 +11,8 @@ use Rattle.queue.specs.State.{wellFormed}
 use Rattle.queue.proofs.Kept.{fresh-well-formed, made-accepted}
 use Rattle.guarantees.specs.Calls.{reply}
 use Rattle.guarantees.specs.Conservation.{bytesOf}
-use Rattle.guarantees.specs.Handed.{Queue, Request, Run, admittedBy, after, answerOf, askArrival, askDeparture, askTick, begin, callOf, departedBy, queued, run, step}
+use Rattle.guarantees.specs.Handed.{Queue, Request, Run, admittedBy, after, answerOf, begin, callOf, departedBy, queued, run, step}
+use Rattle.guarantees.specs.Handed.{askArrival, askDeparture, askTick}
 use Rattle.guarantees.proofs.Answers.{Counted, none-counted, reply-counted}
 use Rattle.guarantees.proofs.Moves.{moved}
 use Rattle.guarantees.proofs.Packets.{Sized, bytes-append, sized-append, sized-rest}
@@ -24,7 +25,8 @@ pub record Kept (r : Run) : Type 0 where
   pub sized : Sized (queued (r .queue))
   pub counted : Counted (r .queue .state .verdicts) (r .answers)
 
-begin-kept : (settings : Settings) (clock : ℕ) (handles sizes : List ℕ) → (fresh settings clock) .answer ≡ made → Kept (begin settings clock handles sizes)
+begin-kept : (settings : Settings) (clock : ℕ) (handles sizes : List ℕ) → (fresh settings clock) .answer ≡ made →
+    Kept (begin settings clock handles sizes)
 unfolding fresh
 begin-kept settings clock handles sizes e =
     let formed = fresh-well-formed settings clock e in

@@ -28,7 +28,8 @@ same-rest e = cc
 
 -- ── where a trace is cut ──
 
--- an entry of a trace with the entries after it: its call got a state of which P holds, and the later entries are the trace from what it returned
+-- an entry of a trace with the entries after it: its call got a state of which P holds, and the later entries are the trace from what it
+-- returned
 pub record Cut (P : State → Type 0) (e : Entry) (later : List Entry) : Type 0 where
   pub holds : P (e .given)
   pub calls : List Call

@@ -1,4 +1,5 @@
--- A queue whose state and tables are handed back untouched at each call, from a fresh one, and what its calls admitted, handed out and answered.
+-- A queue whose state and tables are handed back untouched at each call, from a fresh one, and what its calls admitted, handed out and
+-- answered.
 use mathlib.Core.Bool.{Bool, cond}
 use mathlib.Core.List.{List, [], _∷_, _++_, foldl}
 use Prim.Native.Nat.{ℕ, zero, suc, _+_, _%_}

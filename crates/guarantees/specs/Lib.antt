@@ -3,8 +3,9 @@
 --   demand 1     Refusals          any call on any state: refused by the lowest number that applies, and then nothing changes
 --   demand 2     FirstInFirstOut   from fresh: admitted = departed, then queued, in order
 --   demand 3     Recovery          1,000 ticks on an empty queue: probability 0, and 150 ms with no early verdict
---   question 1   EarlyVerdicts     a packet is dropped early or marked exactly when the rules require it
---   question 2   Grace             a refilled allowance lasts 150 ms, whatever ticks are tried
+--   question 1   WhichVerdict      each of the five verdicts is given exactly when the rules ask for it
+--   question 2   AllowanceLasts    an allowance lasts its tick periods, rounded up, from the last tick on, whatever ticks are tried
+--   question 2   Grace             so a full one lasts 150 ms: after a tick that fills it, and after fresh
 --   question 3   Conservation      queued bytes = bytes admitted − bytes departed; refusals 2 and 9 are never given
 --   question 4   Recovery          how long the queue goes on dropping once a crowd has left
 --
@@ -12,8 +13,9 @@
 pub mod Calls
 pub mod Handed
 pub mod Refusals
-pub mod EarlyVerdicts
+pub mod WhichVerdict
 pub mod Fading
+pub mod AllowanceLasts
 pub mod Grace
 pub mod Recovery
 pub mod FirstInFirstOut

@@ -1,7 +1,7 @@
--- Demand 3 and question 4: once a crowd has left, how long does the queue go on dropping? Any list of calls, from any well-formed state, with
--- any tables lent to each call (document 01, 'The list of calls in demand 3').
+-- Demand 3 and question 4: once a crowd has left, how long does the queue go on dropping? Any list of calls, from any well-formed state,
+-- with any tables lent to each call (document 01, 'The list of calls in demand 3').
 use mathlib.Core.Path.{_≡_}
-use mathlib.Core.Bool.{Bool, true, cond}
+use mathlib.Core.Bool.{true, cond}
 use mathlib.Core.List.{List, [], _∷_, _++_, foldl, List·Memᴰ}
 use Prim.Native.Nat.{ℕ, _+_, _-_, _≤_}
 use lib.Dec.{eqb}

@@ -11,10 +11,11 @@ use Rattle.queue.specs.State.{wellFormed}
 use Rattle.queue.specs.Answer.{made, refused}
 use Rattle.queue.specs.Fresh.{fresh, zeroState}
 use Rattle.queue.specs.Refusals.{settingsRefused}
-use Rattle.queue.specs.Arrival.{arrivalRefusals, stored}
+use Rattle.queue.specs.Arrival.{arrivalRefusals}
 use Rattle.queue.specs.Departure.{departureRefusals, headOf}
 use Rattle.queue.specs.Tick.{tickRefusals}
 use Rattle.guarantees.specs.Calls.{Call, arrive, depart, update, reply}
+use Rattle.guarantees.specs.Handed.{Queue, Request, after, answerOf}
 
 -- the call's rows of the table of refusals: each number with its test
 abbrev pub rowsOf : State → Call → List (ℕ × Bool)
@@ -31,9 +32,8 @@ pub record RefusedInOrder (s : State) (c : Call) : Type 0 where
   pub lowest : (n : ℕ) → (reply s c) .answer ≡ refused n → Applies s c n × ((m : ℕ) → Applies s c m → n ≤ m)
   -- where a number applies, the call is refused
   pub refuses : (m : ℕ) → Applies s c m → (n : ℕ) × ((reply s c) .answer ≡ refused n)
-  -- a refused call returns the state that it was given, and writes to neither table
+  -- a refused call returns the state that it was given
   pub unchanged : (n : ℕ) → (reply s c) .answer ≡ refused n → (reply s c) .state ≡ s
-  pub unwritten : (n : ℕ) → (reply s c) .answer ≡ refused n → (table : List ℕ) (element : ℕ) → stored s ((reply s c) .answer) table element ≡ table
 
 -- a fresh call is refused, by 1, exactly when its settings or its clock are out of range: it returns the all-zero record then, which is not
 -- well formed, and else a state that is
@@ -45,4 +45,6 @@ pub record FreshInOrder (settings : Settings) (clock : ℕ) : Type 0 where
 
 pub record Refusals : Type 0 where
   pub calls : (s : State) (c : Call) → RefusedInOrder s c
+  -- a refused request leaves the whole queue as it was, the state and both tables
+  pub untouched : (q : Queue) (r : Request) (n : ℕ) → answerOf q r ≡ refused n → after q r ≡ q
   pub starts : (settings : Settings) (clock : ℕ) → FreshInOrder settings clock

@@ -1,4 +1,4 @@
--- Allowance + last tick never falls, whatever is called: below that clock allowance is left, and rules 1 and 2 alone decide.
+-- Question 2 in general: the clock until which the allowance lasts never falls, whatever is called.
 use mathlib.Core.Path.{_≡_, _∙_}
 use mathlib.Core.Bool.{Bool}
 use mathlib.Core.List.{List, List·Memᴰ}
@@ -15,6 +15,7 @@ use Rattle.queue.specs.Departure.{departedState}
 use Rattle.queue.specs.Tick.{tickedState}
 use Rattle.queue.specs.declared.State.{State}
 use Rattle.queue.proofs.WhenAccepted.{TickAccepted}
+use Rattle.guarantees.specs.AllowanceLasts.{AllowanceLasts, lastsUntil}
 use Rattle.guarantees.specs.Calls.{ByLimitsBefore, Call, Entry, entry, limitsVerdict, reply, trace}
 use Rattle.guarantees.proofs.Replies.{at-reply}
 use Rattle.guarantees.proofs.Traces.{along}
@@ -30,9 +31,9 @@ takes-at-most-a-period pie target bytes h =
     (λ e. omega arith)
     (λ e. omega arith)
 
--- allowance is left up to the clock `end`
-abbrev pub Lasting : (end : ℕ) → State → Type 0
-Lasting end s = end ≤ s .pie .allowance .0 + s .last .0
+-- the allowance lasts until the clock `end` at least
+abbrev Lasting : (end : ℕ) → State → Type 0
+Lasting end s = end ≤ lastsUntil s
 
 ticked-lasts : (end : ℕ) (s : State) (clock : ℕ) → TickAccepted s clock → Lasting end s → Lasting end (tickedState s clock)
 unfolding tickedState
@@ -65,6 +66,13 @@ lasting-by-limits end s l =
     (λ handles₁ sizes₁ clock₁ a handles sizes clock handle size ecn u v e f h. cc)
     (λ clock₁ a handles sizes clock handle size ecn u v e f h. cc)
 
--- all along a trace
-pub by-limits : (end : ℕ) (s : State) (calls : List Call) → Lasting end s → (a : Entry) → List·Memᴰ a (trace s calls) → ByLimitsBefore end a
-by-limits end = along (Lasting end) (ByLimitsBefore end) (reply-lasts end) (lasting-by-limits end)
+pub allowance-lasts : AllowanceLasts
+allowance-lasts start calls =
+    let end = lastsUntil start in
+    along (Lasting end) (ByLimitsBefore end) (reply-lasts end) (lasting-by-limits end) start calls (omega arith)
+
+-- and below any earlier clock
+pub lasts-before : (end : ℕ) (start : State) (calls : List Call) → end ≤ lastsUntil start →
+    (a : Entry) → List·Memᴰ a (trace start calls) → ByLimitsBefore end a
+lasts-before end start calls h a m handles sizes clock handle size ecn u v e f l =
+    allowance-lasts start calls a m handles sizes clock handle size ecn u v e f (omega arith)
