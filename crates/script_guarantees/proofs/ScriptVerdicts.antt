@@ -2,12 +2,13 @@
 use mathlib.Core.Path.{_≡_, sym, ap, _∙_}
 use mathlib.Core.Bool.{Bool}
 use mathlib.Core.List.{List, List·Memᴰ}
+use mathlib.Core.Logic.{_↔_}
 use Prim.Native.Nat.{ℕ}
 use Rattle.pie.specs.declared.Verdict.{Verdict}
 use Rattle.queue.specs.Answer.{verdict}
 use Rattle.guarantees.specs.Calls.{Call, Entry, arrive, reply}
-use Rattle.guarantees.specs.EarlyVerdicts.{EarlyExactly}
-use Rattle.guarantees.proofs.EarlyVerdicts.{early-verdicts}
+use Rattle.guarantees.specs.WhichVerdict.{Grounds}
+use Rattle.guarantees.proofs.WhichVerdict.{which-verdict}
 use Rattle.guarantees.proofs.Traces.{along}
 use Rattle.script_guarantees.specs.Asked.{asked}
 use Rattle.script_guarantees.specs.Entries.{callsOf, opened}
@@ -17,7 +18,8 @@ use Rattle.script_guarantees.proofs.Sound.{by-entries}
 abbrev Exact : Entry → Type 0
 Exact e =
     (handles sizes : List ℕ) (clock handle size : ℕ) (ecn : Bool) (u : ℕ) (v : Verdict) →
-    e .call ≡ arrive handles sizes clock handle size ecn u → e .answer ≡ verdict v → EarlyExactly (e .given) size u ecn v
+    e .call ≡ arrive handles sizes clock handle size ecn u → e .answer ≡ verdict v →
+    (w : Verdict) → (v ≡ w) ↔ Grounds (e .given) size ecn u w
 
 pub script-verdicts : ScriptVerdicts
 script-verdicts input =
@@ -26,6 +28,6 @@ script-verdicts input =
     let q = opened target buffer slots in
     along (λ s. Unit {0}) Exact (λ s h c. tt)
     (λ s h c handles sizes clock handle size ecn u v call answer.
-    early-verdicts s handles sizes clock handle size ecn u v (ap (λ (k : Call). (reply s k) .answer) (sym call) ∙ answer))
+    which-verdict s handles sizes clock handle size ecn u v (ap (λ (k : Call). (reply s k) .answer) (sym call) ∙ answer))
     (q .state) (callsOf q requests) tt)
     (asked input)
