@@ -16,15 +16,9 @@ use Rattle.script.specs.Answering.{continued, laterLine}
 use Rattle.script.specs.Done.{Did}
 use Rattle.script.specs.declared.Session.{Session}
 use Rattle.script.proofs.Lent.{joined-up, least-le, lent-count, lent-drop, lent-take}
+use Rattle.script.proofs.Room.{state-room, word-room}
 use Rattle.script.proofs.answering.arrival_line.Statement.{statement}
 use Rattle.script.proofs.answering.arrival_line.Tie as tie
-
--- a word of at most 40 bytes has room, and the state's 43 behind it
-word-room : (at n : ℕ) → at + 128 ≤ n → at + 40 ≤ n
-word-room at n h = omega arith
-
-state-room : (at end n m : ℕ) → at + 128 ≤ n → end ≤ at + 40 → m ≡ n → end + 43 ≤ m
-state-room at end n m h k e = omega arith
 
 -- the line's outcome, from what the calls return
 module _ (s : Session) (handles sizes : List ℕ) (clock handle size : ℕ) (ecn : Bool) (u n m : ℕ) where
