@@ -12,6 +12,9 @@ use lib.Seq.{length-take-le, take-all}
 pub joined-up : {a b c d : List ℕ} → a ≡ b → c ≡ d → a ++ c ≡ b ++ d
 joined-up p q = λ i. p i ++ q i
 
+pub least-le : (n k l : ℕ) → n ≡ min k l → n ≤ l
+least-le n k l e = omega arith
+
 module _ (n k : ℕ) (l : List ℕ) (e : n ≡ min k (length l)) where
   pub lent-count : n ≡ length (take n l)
   lent-count = sym (length-take-le n l (omega arith))

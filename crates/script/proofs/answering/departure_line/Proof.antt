@@ -1,16 +1,17 @@
 -- `departure_line`: the queue is lent the first `slots` of each table.
+use mathlib.Core.Path.{_∙_}
 use native.Mathlib.Omega.{arith}
 use Rattle.answers.proofs.Joins.{then}
 use Rattle.script.proofs.Lent.{lent-count, lent-take}
-use borrow.Author.Needs.{needs}
+use Rattle.script.proofs.Room.{state-room, word-room}
 use Rattle.script.proofs.answering.departure_line.Statement.{statement}
 use Rattle.script.proofs.answering.departure_line.Tie as tie
 
 least-requires : tie.Need-least-requires
-least-requires c κs = search needs
+least-requires c κs = tt
 
 least-requires-2 : tie.Need-least-requires-2
-least-requires-2 c κs = search needs
+least-requires-2 c κs = tt
 
 slice-aggregate-departure : tie.Need-slice-aggregate-departure
 slice-aggregate-departure c = lent-count _ _ _ (c .before .before .least .ensures)
@@ -19,19 +20,20 @@ slice-aggregate-departure-2 : tie.Need-slice-aggregate-departure-2
 slice-aggregate-departure-2 c = lent-count _ _ _ (c .before .before .least2 .ensures)
 
 departure-requires : tie.Need-departure-requires
-departure-requires c κs = search needs
+departure-requires c κs = tt
 
 put-departure-requires : tie.Need-put-departure-requires
-put-departure-requires c κs = search needs
+put-departure-requires c κs = word-room _ _ (c .before .before .before .before .before .before .before .before .before .before .before .pre)
 
 put-state-requires : tie.Need-put-state-requires
-put-state-requires c κs = search needs
+put-state-requires c κs =
+    let w = c .before .before .before .put-departure in state-room _ _ _ _ (c .before .before .before .before .before .before .before .before .before .before .before .before .before .before .before .pre) (w .ensures .1) (w .kept .1 .1 .0)
 
 returned-requires : tie.Need-returned-requires
-returned-requires c κs = search needs
+returned-requires c κs = tt
 
 same-length : tie.Need-same-length
-same-length c = search needs
+same-length c = c .before .before .before .put-state .kept .1 .0 ∙ c .before .before .before .before .before .before .before .put-departure .kept .1 .1 .0
 
 returns : tie.Need-returns
 returns c =

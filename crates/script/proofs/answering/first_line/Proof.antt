@@ -35,35 +35,35 @@ bad-line-requires-4 : tie.Need-bad-line-requires-4
 bad-line-requires-4 c κs = search needs
 
 same-length : tie.Need-same-length
-same-length c = search needs
+same-length c = c .before .before .bad-line .kept .1 .0
 
 returns : tie.Need-returns
 unfolding firstLine
 returns c = λ handles sizes. rw (c .before .before .before .before .enum-told .given .1) (c .before .before .bad-line .ensures handles sizes)
 
 same-length-2 : tie.Need-same-length-2
-same-length-2 c = search needs
+same-length-2 c = c .before .before .start-line .kept .1 .1 .1 .1 .0
 
 returns-2 : tie.Need-returns-2
 unfolding firstLine
 returns-2 c = λ handles sizes. rw (c .before .before .before .before .before .command .given .1) (c .before .before .start-line .ensures handles sizes)
 
 same-length-3 : tie.Need-same-length-3
-same-length-3 c = search needs
+same-length-3 c = c .before .before .bad-line2 .kept .1 .0
 
 returns-3 : tie.Need-returns-3
 unfolding firstLine
 returns-3 c = λ handles sizes. rw (c .before .before .before .before .enum-told2 .given .1) (c .before .before .bad-line2 .ensures handles sizes)
 
 same-length-4 : tie.Need-same-length-4
-same-length-4 c = search needs
+same-length-4 c = c .before .before .bad-line3 .kept .1 .0
 
 returns-4 : tie.Need-returns-4
 unfolding firstLine
 returns-4 c = λ handles sizes. rw (c .before .before .before .before .enum-told3 .given .1) (c .before .before .bad-line3 .ensures handles sizes)
 
 same-length-5 : tie.Need-same-length-5
-same-length-5 c = search needs
+same-length-5 c = c .before .before .bad-line4 .kept .1 .0
 
 returns-5 : tie.Need-returns-5
 unfolding firstLine

@@ -1,24 +1,26 @@
 -- `start_line`: the reply is the queue's, and its text is written behind the word.
+use mathlib.Core.Path.{_∙_}
 use native.Mathlib.Omega.{arith}
 use Rattle.answers.proofs.Joins.{then}
-use borrow.Author.Needs.{needs}
+use Rattle.script.proofs.Room.{state-room, word-room}
 use Rattle.script.proofs.answering.start_line.Statement.{statement}
 use Rattle.script.proofs.answering.start_line.Tie as tie
 
 fresh-requires : tie.Need-fresh-requires
-fresh-requires c κs = search needs
+fresh-requires c κs = tt
 
 put-started-requires : tie.Need-put-started-requires
-put-started-requires c κs = search needs
+put-started-requires c κs = word-room _ _ (c .before .before .before .before .pre)
 
 put-state-requires : tie.Need-put-state-requires
-put-state-requires c κs = search needs
+put-state-requires c κs =
+    let w = c .before .before .before .put-started in state-room _ _ _ _ (c .before .before .before .before .before .before .before .before .pre) (w .ensures .1) (w .kept .1 .0)
 
 returned-requires : tie.Need-returned-requires
-returned-requires c κs = search needs
+returned-requires c κs = tt
 
 same-length : tie.Need-same-length
-same-length c = search needs
+same-length c = c .before .before .before .put-state .kept .1 .0 ∙ c .before .before .before .before .before .before .before .put-started .kept .1 .0
 
 returns : tie.Need-returns
 returns c = λ handles sizes.

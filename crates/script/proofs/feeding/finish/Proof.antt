@@ -17,7 +17,7 @@ returns c =
     (rw (lt-leb 128 n (c .if1 .taken)), (refl, omega arith))
 
 is-empty-requires : tie.Need-is-empty-requires
-is-empty-requires c κs = search needs
+is-empty-requires c κs = tt
 
 returns-2 : tie.Need-returns-2
 unfolding endFed
@@ -27,22 +27,22 @@ returns-2 c =
     (rw (le-leb 128 n (c .before .before .before .if1 .left), ← e, c .if2 .taken), (refl, omega arith))
 
 finish-requires : tie.Need-finish-requires
-finish-requires c κs = search needs
+finish-requires c κs = tt
 
 answer-requires : tie.Need-answer-requires
 answer-requires c κs = search needs
 
 begin-requires : tie.Need-begin-requires
-begin-requires c κs = search needs
+begin-requires c κs = tt
 
 same-length : tie.Need-same-length
-same-length c = search needs
+same-length c = c .before .before .before .before .before .before .before .before .answer .kept .1 .1 .0
 
 same-length-2 : tie.Need-same-length-2
-same-length-2 c = search needs
+same-length-2 c = c .before .before .before .before .before .before .before .before .answer .kept .1 .1 .1 .0
 
 same-length-3 : tie.Need-same-length-3
-same-length-3 c = search needs
+same-length-3 c = c .before .before .before .before .before .before .before .before .answer .kept .1 .1 .1 .1 .0
 
 returns-3 : tie.Need-returns-3
 unfolding endFed
