@@ -33,25 +33,25 @@ clear-digit byte value e =
       small = ltb-true value 1844674407370955161 (and-right (isDigit byte) (ltb value 1844674407370955161) e);
     }
 
--- the fields that passed their tests
-abbrev pub configureTests : Reader → Bool
-configureTests r = leb (r .third) word && leb (r .fourth) word && leb (r .value) 4096
+-- the fields that passed their tests, whatever the largest slots and ecn are
+abbrev pub configureTests : Reader → (slots : ℕ) → Bool
+configureTests r slots = leb (r .third) word && leb (r .fourth) word && leb (r .value) slots
 
-pub configure-fits : (r : Reader) → configureTests r ≡ true → (r .third ≤ word) × (r .fourth ≤ word) × (r .value ≤ 4096)
-configure-fits r e =
+pub configure-fits : (r : Reader) (slots : ℕ) → configureTests r slots ≡ true → (r .third ≤ word) × (r .fourth ≤ word) × (r .value ≤ slots)
+configure-fits r slots e =
     let one = leb (r .third) word in
     let two = leb (r .fourth) word in
-    let both = and-left (one && two) (leb (r .value) 4096) e in
-    (leb-true _ _ (and-left one two both), leb-true _ _ (and-right one two both), leb-true _ _ (and-right (one && two) (leb (r .value) 4096) e))
+    let both = and-left (one && two) (leb (r .value) slots) e in
+    (leb-true _ _ (and-left one two both), leb-true _ _ (and-right one two both), leb-true _ _ (and-right (one && two) (leb (r .value) slots) e))
 
-abbrev pub arrivalTests : Reader → Bool
-arrivalTests r = leb (r .second) word && leb (r .third) word && leb (r .fourth) 1 && leb (r .value) word
+abbrev pub arrivalTests : Reader → (most : ℕ) → Bool
+arrivalTests r most = leb (r .second) word && leb (r .third) word && leb (r .fourth) most && leb (r .value) word
 
-pub arrival-fits : (r : Reader) → arrivalTests r ≡ true → (r .second ≤ word) × (r .third ≤ word) × (r .value ≤ word)
-arrival-fits r e =
+pub arrival-fits : (r : Reader) (most : ℕ) → arrivalTests r most ≡ true → (r .second ≤ word) × (r .third ≤ word) × (r .value ≤ word)
+arrival-fits r most e =
     let one = leb (r .second) word in
     let two = leb (r .third) word in
-    let ecn = leb (r .fourth) 1 in
+    let ecn = leb (r .fourth) most in
     let three = and-left (one && two && ecn) (leb (r .value) word) e in
     let both = and-left (one && two) ecn three in
     (leb-true _ _ (and-left one two both), leb-true _ _ (and-right one two both), leb-true _ _ (and-right (one && two && ecn) (leb (r .value) word) e))

@@ -14,13 +14,13 @@ unfolding commandOf
 returns c = rw (count-below (c .before .before .args .self) (c .if1 .taken))
 
 cast-t9 : tie.Need-cast-t9
-cast-t9 c = let k = c .before in omega (arith, arrival-fits (k .before .before .before .before .before .before .before .args .self) (k .if2 .taken) .0)
+cast-t9 c = let k = c .before in omega (arith, arrival-fits (k .before .before .before .before .before .before .before .args .self) _ (k .if2 .taken) .0)
 
 cast-t10 : tie.Need-cast-t10
-cast-t10 c = let k = c .before .before in omega (arith, arrival-fits (k .before .before .before .before .before .before .before .args .self) (k .if2 .taken) .1)
+cast-t10 c = let k = c .before .before in omega (arith, arrival-fits (k .before .before .before .before .before .before .before .args .self) _ (k .if2 .taken) .1)
 
 cast-t12 : tie.Need-cast-t12
-cast-t12 c = let k = c .before .before .before .before in omega (arith, arrival-fits (k .before .before .before .before .before .before .before .args .self) (k .if2 .taken) .2)
+cast-t12 c = let k = c .before .before .before .before in omega (arith, arrival-fits (k .before .before .before .before .before .before .before .args .self) _ (k .if2 .taken) .2)
 
 returns-2 : tie.Need-returns-2
 unfolding commandOf

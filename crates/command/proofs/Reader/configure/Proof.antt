@@ -11,13 +11,13 @@ unfolding commandOf
 returns c = rw (count-not (c .before .before .args .self) 2 (omega arith) (c .if1 .taken))
 
 cast-t7 : tie.Need-cast-t7
-cast-t7 c = let k = c .before in omega (arith, configure-fits (k .before .before .before .before .before .before .args .self) (k .if2 .taken) .0)
+cast-t7 c = let k = c .before in omega (arith, configure-fits (k .before .before .before .before .before .before .args .self) _ (k .if2 .taken) .0)
 
 cast-t8 : tie.Need-cast-t8
-cast-t8 c = let k = c .before .before in omega (arith, configure-fits (k .before .before .before .before .before .before .args .self) (k .if2 .taken) .1)
+cast-t8 c = let k = c .before .before in omega (arith, configure-fits (k .before .before .before .before .before .before .args .self) _ (k .if2 .taken) .1)
 
 cast-t9 : tie.Need-cast-t9
-cast-t9 c = let k = c .before .before .before in omega (arith, configure-fits (k .before .before .before .before .before .before .args .self) (k .if2 .taken) .2)
+cast-t9 c = let k = c .before .before .before in omega (arith, configure-fits (k .before .before .before .before .before .before .args .self) _ (k .if2 .taken) .2)
 
 returns-2 : tie.Need-returns-2
 unfolding commandOf
