@@ -1,12 +1,35 @@
 -- `State::departed`: the head leaves, within a well-formed state's ranges.
 use borrow.Author.Needs.{needs}
-use Prim.Native.Nat.{_+_}
+use mathlib.Core.Path.{_≡_}
+use Prim.Native.Nat.{ℕ, _+_, _%_}
 use native.Mathlib.Nat.{mod-lt}
 use native.Mathlib.Omega.{arith}
+use Rattle.units.specs.Kinds.{micros}
+use Rattle.pie.specs.Backlog.{left}
+use Rattle.pie.specs.DepartureRate.{rateAfter}
+use Rattle.pie.specs.declared.Backlog.{Backlog}
+use Rattle.pie.specs.declared.Rate.{Rate}
 use Rattle.queue.specs.Departure.{departedState}
+use Rattle.queue.specs.declared.State.{State}
 use Rattle.queue.proofs.Facts.{facts}
 use Rattle.queue.proofs.State.departed.Statement.{statement}
 use Rattle.queue.proofs.State.departed.Tie as tie
+
+-- the new state, from what the calls return
+departed-is : (s : State) (clock size : ℕ) (b : Backlog) (r : Rate) →
+    b ≡ left (s .backlog) size →
+    r ≡ rateAfter (s .pie .rate) clock size (b .bytes .0) →
+    record {
+      settings = s .settings;
+      clock = micros clock;
+      last = s .last;
+      pie = record { prob = s .pie .prob; old = s .pie .old; allowance = s .pie .allowance; rate = r };
+      backlog = b;
+      first = (s .first + 1) % s .settings .slots;
+      verdicts = s .verdicts;
+    } ≡ departedState s clock size
+unfolding departedState
+departed-is s clock size b r eb er = rw (er, eb)
 
 leave-requires : tie.Need-leave-requires
 leave-requires c κs = search needs
@@ -42,10 +65,11 @@ cast-first-3 c =
     let f = facts s (c .before .before .before .before .before .before .before .before .before .before .pre .0) in omega (arith, mod-lt (s .first + 1) (f .slots-low))
 
 returns : tie.Need-returns
-unfolding departedState
 returns c =
     let d = c .before .before .before .before .before .before .before .before in
-    simp (d .depart .ensures, d .before .before .before .leave .ensures)
+    let l = d .before .before .before in
+    let a = l .before .before .args in
+    departed-is (a .self) (a .clock .0) (a .size .0) (l .leave .result) (d .depart .result) (l .leave .ensures) (d .depart .ensures)
 
 pub departed-spec : {M : Type 1} → statement M
 departed-spec = tie.close (tie.spec leave-requires depart-requires add-first cast-first cast-first-2 rem-first cast-first-3 returns)
