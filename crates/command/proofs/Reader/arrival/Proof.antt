@@ -11,7 +11,7 @@ use Rattle.command.proofs.Reader.arrival.Tie as tie
 
 returns : tie.Need-returns
 unfolding commandOf
-returns c = rw (count-below (c .before .before .args .self) (c .if1 .taken))
+returns c = rw (count-below (c .before .before .args .self) (omega arith))
 
 cast-t9 : tie.Need-cast-t9
 cast-t9 c = let k = c .before in omega (arith, arrival-fits (k .before .before .before .before .before .before .before .args .self) _ (k .if2 .taken) .0)

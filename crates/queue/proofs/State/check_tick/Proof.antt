@@ -1,6 +1,8 @@
 -- `State::check_tick`: each test in turn is the definition's own.
 use borrow.Author.Needs.{needs}
-use borrow.Author.Tests.{not-false}
+use Prim.Native.Nat.{_+_}
+use borrow.Author.Tests.{lt-ltb, ltb-true, not-false}
+use Rattle.pie.specs.Constants.{period}
 use mathlib.Core.Path.{sym, _∙_}
 use native.Mathlib.Omega.{arith}
 use Rattle.queue.specs.Tick.{tickRefusal}
@@ -30,7 +32,10 @@ returns-3 : tie.Need-returns-3
 unfolding tickRefusal
 returns-3 c =
     let e2 = c .before .before .before in
-    let e1 = e2 .before .before .before .before in simp (← (e1 .before .well-formed .ensures), e1 .if1 .left, e2 .if2 .left, c .if3 .taken)
+    let e1 = e2 .before .before .before .before in
+    let a = e1 .before .before .args in
+    let soon = lt-ltb (a .clock .0) (a .self .last .0 + period) (omega (arith, ltb-true)) in
+    simp (← (e1 .before .well-formed .ensures), e1 .if1 .left, e2 .if2 .left, soon)
 
 returns-4 : tie.Need-returns-4
 unfolding tickRefusal
