@@ -6,8 +6,8 @@ use Prim.Native.Nat.{ℕ, _*_}
 use native.Mathlib.Omega.{arith}
 use borrow.Author.Tests.{eqb-false, eqb-true, leb-false, leb-true, lt-ltb, ltb-false, ltb-true}
 use lib.Dec.{ltb}
-use Rattle.units.specs.Kinds.{whole}
-use Rattle.pie.specs.DropDecision.{dropDecision, early, earlyVerdict, inAllowance, isSmall, lightlyLoaded}
+use Rattle.units.specs.Kinds.{tenth, whole}
+use Rattle.pie.specs.DropDecision.{dropDecision, early, earlyVerdict, inAllowance, isSmall, lightlyLoaded, marks}
 use Rattle.pie.specs.declared.Verdict.{Verdict}
 use Rattle.pie.specs.declared.Verdict.the-variants.{Enqueued, Marked, DroppedBytes, DroppedSlots, DroppedEarly}
 use Rattle.laws.proofs.Tests.{and-left, and-right}
@@ -69,8 +69,15 @@ module _ (s : State) (size : ℕ) (ecn : Bool) (u : ℕ) where
   rule-6 : Says (early (s .pie .prob .0) u) (Rule6 s u)
   rule-6 = omega (arith, ltb-true, ltb-false)
 
-  marks : Says ecn (Marks ecn)
-  marks = (λ e. e, λ e m. false≢true (sym e ∙ m))
+  tests-marks : Marks s ecn → marks (s .pie .prob .0) ecn ≡ true
+  tests-marks h = rw (h .0, lt-ltb (s .pie .prob .0) tenth (h .1))
+
+  rule-6-marks : Says (marks (s .pie .prob .0) ecn) (Marks s ecn)
+  rule-6-marks =
+      let low = ltb (s .pie .prob .0) tenth in (
+        λ e. (and-left ecn low e, ltb-true _ _ (and-right ecn low e)),
+        λ e h. false≢true (sym e ∙ tests-marks h),
+      )
 
   -- ── the first that holds decides ──
 
@@ -86,8 +93,8 @@ module _ (s : State) (size : ℕ) (ecn : Bool) (u : ℕ) where
       (λ f2. by-test Q Enqueued _ rule-3 (λ h3. search inl)
       (λ f3. by-test Q Enqueued _ rule-4 (λ h4. search (inl, inr))
       (λ f4. by-test Q Enqueued _ rule-5 (λ h5. search (inl, inr))
-      (λ f5. by-test Q (earlyVerdict ecn) Enqueued rule-6
-      (λ h6. by-test Q Marked DroppedEarly marks (λ m. search) (λ n. search))
+      (λ f5. by-test Q (earlyVerdict (s .pie .prob .0) ecn) Enqueued rule-6
+      (λ h6. by-test Q Marked DroppedEarly rule-6-marks (λ m. search) (λ n. search))
       (λ f6. search inr))))))
 
   -- where a verdict has its grounds, it is given
@@ -101,7 +108,7 @@ module _ (s : State) (size : ℕ) (ecn : Bool) (u : ℕ) where
       (by-test E Enqueued _ rule-3 (λ h3. refl)
       (λ f3. by-test E Enqueued _ rule-4 (λ h4. refl)
       (λ f4. by-test E Enqueued _ rule-5 (λ h5. refl)
-      (λ f5. by-test E (earlyVerdict ecn) Enqueued rule-6
+      (λ f5. by-test E (earlyVerdict (s .pie .prob .0) ecn) Enqueued rule-6
       (λ h6. absurd (none-of-four f3 f4 f5 (λ (f6 : ¬ Rule6 s u). f6 h6) (search)))
       (λ f6. refl)))))
   given Marked g =
@@ -112,7 +119,7 @@ module _ (s : State) (size : ℕ) (ecn : Bool) (u : ℕ) where
         fails rule-4 (search),
         fails rule-5 (search),
         holds rule-6 (search),
-        holds marks (search),
+        holds rule-6-marks (search),
       )
   given DroppedEarly g =
       rw (
@@ -122,7 +129,7 @@ module _ (s : State) (size : ℕ) (ecn : Bool) (u : ℕ) where
         fails rule-4 (search),
         fails rule-5 (search),
         holds rule-6 (search),
-        fails marks (search),
+        fails rule-6-marks (search),
       )
 
 pub which-verdict : WhichVerdict

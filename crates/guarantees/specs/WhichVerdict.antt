@@ -5,7 +5,7 @@ use mathlib.Core.Bool.{Bool, true}
 use mathlib.Core.List.{List}
 use mathlib.Core.Logic.{_⊎_, _↔_}
 use Prim.Native.Nat.{ℕ, _+_, _*_, _≤_, _<_}
-use Rattle.units.specs.Kinds.{whole}
+use Rattle.units.specs.Kinds.{tenth, whole}
 use Rattle.pie.specs.Constants.{smallQueue}
 use Rattle.pie.specs.declared.Verdict.{Verdict}
 use Rattle.pie.specs.declared.Verdict.the-variants.{Enqueued, Marked, DroppedBytes, DroppedSlots, DroppedEarly}
@@ -32,9 +32,9 @@ Rule5 s = s .backlog .bytes .0 ≤ smallQueue
 abbrev pub Rule6 : State → (u : ℕ) → Type 0
 Rule6 s u = u < s .pie .prob .0
 
--- the packets that rule 6 marks; any other it drops
-abbrev pub Marks : (ecn : Bool) → Type 0
-Marks ecn = ecn ≡ true
+-- rule 6 marks an ECN-capable packet while the probability is below one tenth (Q-2); any other it drops
+abbrev pub Marks : State → (ecn : Bool) → Type 0
+Marks s ecn = (ecn ≡ true) × (s .pie .prob .0 < tenth)
 
 -- rules 1 to 5 fail, and rule 6 holds
 abbrev pub EarlyGrounds : State → (size u : ℕ) → Type 0
@@ -45,8 +45,8 @@ abbrev pub Grounds : State → (size : ℕ) (ecn : Bool) (u : ℕ) → Verdict �
 Grounds s size ecn u DroppedBytes = Rule1 s size
 Grounds s size ecn u DroppedSlots = ¬ Rule1 s size × Rule2 s
 Grounds s size ecn u Enqueued = ¬ Rule1 s size × ¬ Rule2 s × (Rule3 s ⊎ Rule4 s ⊎ Rule5 s ⊎ ¬ Rule6 s u)
-Grounds s size ecn u Marked = EarlyGrounds s size u × Marks ecn
-Grounds s size ecn u DroppedEarly = EarlyGrounds s size u × ¬ Marks ecn
+Grounds s size ecn u Marked = EarlyGrounds s size u × Marks s ecn
+Grounds s size ecn u DroppedEarly = EarlyGrounds s size u × ¬ Marks s ecn
 
 -- where an arrival is answered with the verdict v, v is w exactly when the rules ask for w
 abbrev pub WhichVerdict : Type 0
