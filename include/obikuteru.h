@@ -114,7 +114,8 @@ struct obikuteru_packet {
 #define OBIKUTERU_MARKED 1u        /* at the tail; set the packet's ECN mark */
 #define OBIKUTERU_DROPPED_BYTES 2u /* dropped: the buffer would overflow */
 #define OBIKUTERU_DROPPED_SLOTS 3u /* dropped: every slot is taken */
-#define OBIKUTERU_DROPPED_EARLY 4u /* dropped: the drop probability decided so */
+#define OBIKUTERU_DROPPED_EARLY 4u /* dropped: the drop probability decided so, and the packet is
+                                      not ECN-capable or the probability is one tenth or more */
 
 /* Answer of any other accepted call. */
 #define OBIKUTERU_ACCEPTED 0u

@@ -1,6 +1,6 @@
 -- Question 1: each rule's test says whether the rule holds, and the first that holds decides.
 use mathlib.Core.Path.{_≡_, refl, sym, subst, _∙_}
-use mathlib.Core.Bool.{Bool, true, false, cond, false≢true}
+use mathlib.Core.Bool.{Bool, true, false, cond, _&&_, false≢true}
 use mathlib.Core.Logic.{_⊎_, inl, inr, ⊎-elim}
 use Prim.Native.Nat.{ℕ, _*_}
 use native.Mathlib.Omega.{arith}
@@ -33,6 +33,9 @@ fails {t = false} says f = refl
 by-test : {t : Bool} {P : Type 0} (Q : Verdict → Type 0) (x y : Verdict) → Says t P → (P → Q x) → (¬ P → Q y) → Q (cond t x y)
 by-test {t = true} Q x y says h k = h (says .0 refl)
 by-test {t = false} Q x y says h k = k (says .1 refl)
+
+both : (a b : Bool) → a ≡ true → b ≡ true → a && b ≡ true
+both a b e f = rw (e, f)
 
 none-of-four : {A B C D : Type 0} → ¬ A → ¬ B → ¬ C → ¬ D → ¬ (A ⊎ B ⊎ C ⊎ D)
 none-of-four a b c d = ⊎-elim a (⊎-elim b (⊎-elim c d))
@@ -70,7 +73,7 @@ module _ (s : State) (size : ℕ) (ecn : Bool) (u : ℕ) where
   rule-6 = omega (arith, ltb-true, ltb-false)
 
   tests-marks : Marks s ecn → marks (s .pie .prob .0) ecn ≡ true
-  tests-marks h = rw (h .0, lt-ltb (s .pie .prob .0) tenth (h .1))
+  tests-marks h = both ecn _ (h .0) (lt-ltb (s .pie .prob .0) tenth (h .1))
 
   rule-6-marks : Says (marks (s .pie .prob .0) ecn) (Marks s ecn)
   rule-6-marks =
