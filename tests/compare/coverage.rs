@@ -104,6 +104,7 @@ impl Coverage {
         coverage.add("event of single calls", single, owned(&events::SINGLE_EVENTS));
         coverage.add("end of a range", single, owned(&events::ENDS));
         coverage.add("tables of whole pages", both, owned(&events::WHOLE_PAGES));
+        coverage.add("early packet beside one tenth", single, owned(&events::EARLY));
         coverage
     }
 

@@ -15,7 +15,7 @@ pub const MEASUREMENT: [&str; 5] = [
     "ends and another starts",
 ];
 
-pub const EVENTS: [&str; 20] = [
+pub const EVENTS: [&str; 21] = [
     "fresh accepted",
     "allowance loses 15,000",
     "allowance stays at 0",
@@ -36,6 +36,7 @@ pub const EVENTS: [&str; 20] = [
     "queue of 65,536 slots",
     "tick exactly when due",
     "clock 2^48 accepted",
+    "ECN-capable packet dropped early",
 ];
 
 pub const RUN_EVENTS: [&str; 1] = ["arrival after 1,000 ticks with an empty queue"];
@@ -50,6 +51,14 @@ pub const SINGLE_EVENTS: [&str; 9] = [
     "head refused: bytes would be above 65,535 x count",
     "head leaves bytes = count",
     "head leaves bytes = 65,535 x count",
+];
+
+/// What became of early packets on both sides of one tenth.
+pub const EARLY: [&str; 4] = [
+    "marked at probability 429,496,729",
+    "ECN-capable and dropped at probability 429,496,730",
+    "not ECN-capable and dropped at probability 429,496,729",
+    "not ECN-capable and dropped at probability 429,496,730",
 ];
 
 pub const ENDS: [&str; 32] = [
@@ -92,14 +101,18 @@ pub const WHOLE_PAGES: [&str; 4] =
     ["first element written", "last element written", "first element read", "last element read"];
 
 /// Adds each thing found as a pair: its list (0 is `MEASUREMENT`, 1 `EVENTS`, 2 `RUN_EVENTS`,
-/// 3 `SINGLE_EVENTS`, 4 `ENDS`, 5 `WHOLE_PAGES`) and its place in that list.
+/// 3 `SINGLE_EVENTS`, 4 `ENDS`, 5 `WHOLE_PAGES`, 6 `EARLY`) and its place in that list.
 pub fn found(before: &Side, call: &Call, after: &Side, hits: &mut Vec<(usize, usize)>) {
     let accepted = after.answer < 100;
     let mut events = Vec::new();
     let mut singles = Vec::new();
     match call {
         Call::Fresh { .. } if accepted => events.push((true, 0)),
-        Call::Arrival { .. } if accepted => arrival(&before.state, &after.state, &mut events),
+        Call::Arrival { packet, .. } if accepted => {
+            arrival(&before.state, &after.state, &mut events);
+            events.push((packet.ecn && after.answer == 4, 20));
+            early(before.state.probability, packet.ecn, after.answer, hits);
+        }
         Call::Departure { .. } if accepted => {
             hits.push((0, measurement(&before.state, &after.state)));
             departure(&before.state, &after.state, &mut events);
@@ -137,6 +150,17 @@ fn arrival(before: &State, after: &State, events: &mut Found) {
     events.push((after.slots == 1, 16));
     events.push((after.slots == 65_536, 17));
     events.push((after.clock == model::CLOCK_MAX, 19));
+}
+
+fn early(probability: u64, ecn: bool, answer: u32, hits: &mut Vec<(usize, usize)>) {
+    let label = match (probability, ecn, answer) {
+        (429_496_729, true, 1) => 0,
+        (429_496_730, true, 4) => 1,
+        (429_496_729, false, 4) => 2,
+        (429_496_730, false, 4) => 3,
+        _ => return,
+    };
+    hits.push((6, label));
 }
 
 fn departure(before: &State, after: &State, events: &mut Found) {

@@ -34,6 +34,16 @@ const ARRIVALS: [(u64, u64, u64, u32, bool); 9] = [
     (858_993_460, 7_499, 3_000, 0, false),
 ];
 
+/// Probability of an early arrival, whether it is ECN-capable, and the verdict.
+const MARKS: [(u64, bool, u64); 6] = [
+    (429_496_729, true, 1),
+    (429_496_730, true, 4),
+    (429_496_729, false, 4),
+    (429_496_730, false, 4),
+    (1, true, 1),
+    (WHOLE, true, 4),
+];
+
 fn state() -> State {
     State {
         target: 15_000,
@@ -83,6 +93,12 @@ fn arrivals(lender: &mut dyn Lender) -> Result<(), Failure> {
         let packet = Arriving { handle: 7, size: 1_000, ecn: false, u };
         let after = one(lender, before, Call::Arrival { lent, clock: 1_000_000, packet })?;
         let figure = if early { 4 } else { 0 };
+        expect("the verdict", u64::from(after.answer), figure)?;
+    }
+    for (probability, ecn, figure) in MARKS {
+        let before = State { probability, old_delay: 7_500, bytes: 3_001, ..state() };
+        let packet = Arriving { handle: 7, size: 1_000, ecn, u: 0 };
+        let after = one(lender, before, Call::Arrival { lent, clock: 1_000_000, packet })?;
         expect("the verdict", u64::from(after.answer), figure)?;
     }
     Ok(())

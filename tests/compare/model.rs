@@ -1,4 +1,4 @@
-//! A plain model of the queue, written from the document of rules alone.
+//! A plain model of the queue, written from the document of rules and its change requests alone.
 //!
 //! A state may hold any number in any field: the refusals are found with wide arithmetic, and the
 //! rules run only on a well-formed state. A refused call changes nothing.
@@ -14,6 +14,8 @@ pub const TICK_PERIOD: u64 = 15_000;
 pub const FULL_ALLOWANCE: u64 = 150_000;
 pub const RATE_THRESHOLD: u64 = 16_384;
 pub const SMALL_QUEUE: u64 = 3_000;
+/// The first drop probability not below one tenth: from here on nothing is marked.
+pub const TENTH: u64 = 429_496_730;
 
 /// Each band of the drop probability: its last value, and the divisor k.
 pub const BANDS: [(u64, i64); 7] = [
@@ -229,11 +231,12 @@ pub fn deciding_rule(s: &State, packet: &Arriving) -> usize {
     rules.iter().position(|&holds| holds).map_or(7, |i| i + 1)
 }
 
-fn verdict(rule: usize, ecn: bool) -> usize {
-    match rule {
+/// An early packet is marked if it is ECN-capable and the drop probability is below one tenth.
+fn verdict(s: &State, packet: &Arriving) -> usize {
+    match deciding_rule(s, packet) {
         1 => DROPPED_BYTES,
         2 => DROPPED_SLOTS,
-        6 if ecn => MARKED,
+        6 if packet.ecn && s.probability < TENTH => MARKED,
         6 => DROPPED_EARLY,
         _ => ENQUEUED,
     }
@@ -249,7 +252,7 @@ pub fn arrival(
 ) -> Result<usize, u32> {
     lowest(arrival_refusals(s, (handles.len(), sizes.len()), clock, packet.size))?;
     accept(s, clock);
-    let verdict = verdict(deciding_rule(s, packet), packet.ecn);
+    let verdict = verdict(s, packet);
     s.verdicts[verdict] += 1;
     if verdict == ENQUEUED || verdict == MARKED {
         let tail = ((s.first + s.count) % s.slots) as usize;

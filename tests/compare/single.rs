@@ -90,6 +90,7 @@ fn case(r: &mut Random) -> (Side, Call) {
     let mut s = states::well_formed(r);
     match kind {
         Kind::Arrival if r.one_in(3) => states::aim_at_late_rules(r, &mut s),
+        Kind::Arrival if r.one_in(3) => states::aim_at_early_verdicts(r, &mut s),
         Kind::Tick if r.one_in(3) => states::aim_at_refill(r, &mut s),
         _ => {}
     }

@@ -1,6 +1,6 @@
 //! Random states: well formed, near the ends of every range, or with one condition broken.
 
-use crate::model::{self, State, BANDS, CLOCK_MAX, TIME_MAX, WHOLE};
+use crate::model::{self, State, BANDS, CLOCK_MAX, TENTH, TIME_MAX, WHOLE};
 use crate::random::Random;
 use crate::side::{state_of, words};
 
@@ -110,6 +110,17 @@ pub fn aim_at_late_rules(r: &mut Random, s: &mut State) {
     s.old_delay = s.target / 2 - 1 + r.range(0, 3);
     let any = probability(r);
     s.probability = r.pick(&[858_993_458, 858_993_459, 858_993_460, any, any]);
+}
+
+/// Changes a well-formed state so that none of arrival rules 1 to 5 decides on a small packet,
+/// with a probability near the one from which nothing is marked.
+pub fn aim_at_early_verdicts(r: &mut Random, s: &mut State) {
+    (s.slots, s.buffer) = (s.slots.max(2), model::BUFFER.1);
+    (s.count, s.bytes) = (1, r.pick(&[3_001, 3_001, 60_000]));
+    s.allowance = 0;
+    s.old_delay = s.target.div_ceil(2) + r.pick(&[0, 0, 1, TIME_MAX / 2]);
+    let any = probability(r);
+    s.probability = r.pick(&[TENTH - 1, TENTH - 1, TENTH, TENTH, TENTH - 2, TENTH + 1, any]);
 }
 
 /// Changes a well-formed state so that a tick fills the allowance or just does not.
