@@ -203,6 +203,19 @@ static void run_departures(void)
     expect_state("a departure while measuring", &wanted);
 }
 
+/* Marks end at one tenth. */
+static void run_marks(void)
+{
+    restore();
+    state.allowance = 0;
+    state.probability = 429496729;
+    expect("below one tenth", arrive(1000000, 85, 100, true), OBIKUTERU_MARKED);
+    restore();
+    state.allowance = 0;
+    state.probability = 429496730;
+    expect("from one tenth on", arrive(1000000, 86, 100, true), OBIKUTERU_DROPPED_EARLY);
+}
+
 /* One arrival of each verdict. With no allowance left, u = 0 is early. */
 static void run_arrivals(void)
 {
@@ -233,6 +246,7 @@ static void run_arrivals(void)
     restore();
     expect("an arrival", arrive(1000005, 84, 100, false), OBIKUTERU_ENQUEUED);
     expect("the count of enqueued", state.verdicts[0], 12);
+    run_marks();
 }
 
 /* Each refusal by a call to which no other applies. */
