@@ -1,10 +1,12 @@
-/* The rules of document 01 in plain C. Numbers in comments are the rules' and refusals' own. */
+/* The rules of document 01, as changed by the requests that have landed, in plain C. Numbers in
+ * comments are the rules' and refusals' own. */
 #include "plain.h"
 
 #include <string.h>
 
 #define LIMIT (UINT64_C(1) << 48) /* latest clock, and most arrivals counted */
 #define WHOLE (UINT64_C(1) << 32) /* probability one */
+#define TENTH 429496730u          /* the first probability not below one tenth */
 #define LONGEST 10000000u         /* longest delay and rate sample */
 #define PERIOD 15000u
 #define ALLOWANCE 150000u
@@ -80,7 +82,7 @@ static uint32_t decide(const struct plain_state *s, uint32_t size, bool ecn, uin
     if (s->bytes <= SMALL) /* 5 */
         return PLAIN_ENQUEUED;
     if (u < s->probability) /* 6 */
-        return ecn ? PLAIN_MARKED : PLAIN_DROPPED_EARLY;
+        return ecn && s->probability < TENTH ? PLAIN_MARKED : PLAIN_DROPPED_EARLY;
     return PLAIN_ENQUEUED; /* 7 */
 }
 

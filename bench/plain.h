@@ -1,5 +1,6 @@
 /*
- * The rules of document 01 in plain C: what the library is measured against.
+ * The rules of document 01, as changed by the requests that have landed, in plain C: what the
+ * library is measured against.
  * State by pointer, tables by pointer and length, every refusal checked in the stated order.
  */
 #ifndef PLAIN_H

@@ -1,10 +1,11 @@
-//! The rules of document 01 in idiomatic Rust, for comparison with the library and plain C.
-//! Numbers in comments are the rules' and refusals' own.
+//! The rules of document 01, as changed by the requests that have landed, in idiomatic Rust, for
+//! comparison with the library and plain C. Numbers in comments are the rules' and refusals' own.
 
 use std::slice;
 
 const LIMIT: u64 = 1 << 48; // latest clock, and most arrivals counted
 const WHOLE: u64 = 1 << 32; // probability one
+const TENTH: u64 = 429_496_730; // the first probability not below one tenth
 const LONGEST: u32 = 10_000_000; // longest delay and rate sample
 const PERIOD: u32 = 15_000;
 const ALLOWANCE: u32 = 150_000;
@@ -175,7 +176,7 @@ impl State {
             || u64::from(u) >= self.probability
         {
             Verdict::Enqueued // 7
-        } else if ecn {
+        } else if ecn && self.probability < TENTH {
             Verdict::Marked // 6
         } else {
             Verdict::DroppedEarly // 6
