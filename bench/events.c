@@ -1,8 +1,8 @@
 /*
- * Mixed events in phases: overload, draining, balanced, idle, and again. The clock goes on by a
- * random gap from event to event; a tick comes as soon as its period has passed. A link sends
+ * Mixed events in phases: overload, draining, idle, balanced, idle, and again. The clock goes on
+ * by a random gap from event to event; a tick comes as soon as its period has passed. A link sends
  * only what is queued: the queue is followed in plain C, and few departures find it empty.
- * So about 48 % are arrivals, 48 % departures and 4 % ticks, and every verdict occurs.
+ * So about 51 % are arrivals, 45 % departures and 4 % ticks, and every verdict occurs.
  */
 #include "events.h"
 
@@ -21,15 +21,19 @@ struct phase {
     uint32_t length;
 };
 
+/* Overload comes fast and after an idle phase: what arrives is then covered by the burst allowance
+ * and fills the queue before anything is dropped early. Balanced phases begin with probability 0. */
 static const struct phase phases[] = {
-    {70, 1000, 64, 600, 90, 4000},   /* overload by small packets: the slots are filled */
+    {80, 100, 64, 600, 90, 4000},    /* overload by small packets: the slots are filled */
     {35, 1000, 64, 1500, 80, 4000},  /* draining */
-    {46, 1000, 64, 1500, 80, 16000}, /* balanced */
-    {30, 4000, 64, 1500, 50, 2700},  /* idle */
-    {70, 1000, 900, 1500, 90, 4000}, /* overload by large packets: the buffer is filled */
+    {30, 4000, 64, 1500, 50, 2500},  /* idle */
+    {50, 1000, 64, 1500, 90, 16000}, /* balanced: early packets on both sides of one tenth */
+    {30, 4000, 64, 1500, 50, 1500},  /* idle */
+    {80, 100, 900, 1500, 90, 4000},  /* overload by large packets: the buffer is filled */
     {35, 1000, 64, 1500, 80, 4000},  /* draining */
-    {46, 1000, 64, 1500, 80, 16000}, /* balanced */
-    {30, 4000, 64, 1500, 50, 2700},  /* idle */
+    {30, 4000, 64, 1500, 50, 2500},  /* idle */
+    {50, 1000, 64, 1500, 90, 16000}, /* balanced */
+    {30, 4000, 64, 1500, 50, 1500},  /* idle */
 };
 
 struct generator {
