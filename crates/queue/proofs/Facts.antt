@@ -1,6 +1,6 @@
 -- What a well-formed state's numbers are, as facts that `omega` reads.
 use mathlib.Core.Path.{_≡_}
-use mathlib.Core.Bool.{true, _||_}
+use mathlib.Core.Bool.{true, not, _&&_, _||_}
 use mathlib.Core.List.{_++_}
 use Prim.Native.Nat.{ℕ, _*_, _≤_, _<_}
 use lib.Dec.{eqb}
@@ -36,6 +36,8 @@ pub record Facts (s : State) : Type 0 where
   -- a measurement that does not run has no start and nothing counted
   pub idle-start : s .pie .rate .measuring || eqb (s .pie .rate .start .0) 0 ≡ true
   pub idle-counted : s .pie .rate .measuring || eqb (s .pie .rate .counted .0) 0 ≡ true
+  -- none runs on an empty queue
+  pub busy : not (s .pie .rate .measuring && eqb (s .backlog .count) 0) ≡ true
   pub total-high : total (s .verdicts) ≤ mostVerdicts
 
 pub facts : (s : State) → wellFormed s ≡ true → Facts s
@@ -65,7 +67,8 @@ facts s w =
       counted-high = ltb-true _ _ (at 18);
       idle-start = at 19;
       idle-counted = at 20;
-      total-high = leb-true _ _ (at 21);
+      busy = at 21;
+      total-high = leb-true _ _ (at 22);
     }
 
 pub well-formed : (s : State) → Facts s → wellFormed s ≡ true
@@ -93,5 +96,6 @@ well-formed s f =
       lt-ltb _ _ (f .counted-high),
       f .idle-start,
       f .idle-counted,
+      f .busy,
       le-leb _ _ (f .total-high),
     )

@@ -1,12 +1,12 @@
 -- Every accepted call returns a well-formed state where it is given one, and a fresh state is well formed.
 use mathlib.Core.Path.{_≡_, refl}
-use mathlib.Core.Bool.{Bool, true, false, cond, _&&_, _||_}
+use mathlib.Core.Bool.{Bool, true, false, cond, not, _&&_, _||_, and-false}
 use Prim.Native.Nat.{ℕ, _+_, _-_, _*_, _≤_, _<_}
 use native.Mathlib.Nat.{mod-lt}
 use native.Mathlib.Omega.{arith}
 use lib.Dec.{eqb, leb}
 use lib.ListN.{getD}
-use borrow.Author.Tests.{leb-false, leb-true, not-false}
+use borrow.Author.Tests.{eqb-true, leb-false, leb-true, ne-eqb, not-false}
 use Rattle.laws.proofs.Choice.{at-cond}
 use Rattle.laws.proofs.Tests.{and-left, and-right}
 use Rattle.units.specs.Kinds.{whole}
@@ -61,6 +61,10 @@ record BacklogFits (s : Settings) (b : Backlog) : Type 0 where
   bytes-high : b .bytes .0 ≤ largest * b .count
   bytes-fit : b .bytes .0 ≤ s .buffer .0
 
+-- no measurement runs on an empty queue
+abbrev Busy : Rate → Backlog → Type 0
+Busy r b = not (r .measuring && eqb (b .count) 0) ≡ true
+
 record Fits (s : State) : Type 0 where
   settings : SettingsFit (s .settings)
   last-high : s .last .0 ≤ s .clock .0
@@ -68,6 +72,7 @@ record Fits (s : State) : Type 0 where
   pie : PieFits (s .pie)
   rate : RateFits (s .clock .0) (s .pie .rate)
   backlog : BacklogFits (s .settings) (s .backlog)
+  busy : Busy (s .pie .rate) (s .backlog)
   first-high : s .first < s .settings .slots
   total-high : total (s .verdicts) ≤ mostVerdicts
 
@@ -90,6 +95,9 @@ later-fits clock later r h f =
 
 -- ── an arrival ──
 
+entered-busy : (r : Rate) (count : ℕ) → not (r .measuring && eqb (count + 1) 0) ≡ true
+entered-busy r count = rw (ne-eqb (count + 1) 0 (λ e. omega arith), and-false)
+
 pub arrived-well-formed : (s : State) (handlesLength sizesLength clock size : ℕ) (ecn : Bool) (u : ℕ) →
     ArrivalAccepted s handlesLength sizesLength clock size → wellFormed (arrivedState s clock size (verdictOf s size ecn u)) ≡ true
 unfolding arrivedState
@@ -106,6 +114,7 @@ arrived-well-formed s handlesLength sizesLength clock size ecn u a =
           at-cond (BacklogFits (s .settings)) (admitted v)
           (λ e. let room = admitted-room s size ecn u (f .backlog .count-high) e in omega arith)
           (λ e. f .backlog);
+      busy = at-cond (Busy (s .pie .rate)) (admitted v) (λ e. entered-busy (s .pie .rate) (s .backlog .count)) (λ e. f .busy);
       first-high = f .first-high;
       total-high = omega (arith, total-raised (s .verdicts) v);
     })
@@ -120,11 +129,14 @@ run-fits : (average start counted clock : ℕ) → average ≤ longest → start
 run-fits average start counted clock h k l =
     record { average-high = h; start-high = k; counted-high = l; idle-start = refl; idle-counted = refl }
 
-counting-fits : (r : Rate) (clock size : ℕ) → RateFits clock r → RateFits clock (counting r clock size)
-counting-fits r clock size f =
+counting-fits : (r : Rate) (clock size countLeft : ℕ) → RateFits clock r → RateFits clock (counting r clock size countLeft)
+counting-fits r clock size countLeft f =
     at-cond (RateFits clock) (leb threshold (r .counted .0 + size))
     (λ e. rest-fits _ clock (average-le (r .average .0) (sampleOf clock (r .start .0)) (f .average-high) (sample-le clock (r .start .0))))
-    (λ e. run-fits (r .average .0) (r .start .0) _ clock (f .average-high) (f .start-high) (leb-false _ _ e))
+    (λ e.
+    at-cond (RateFits clock) (eqb countLeft 0)
+    (λ none. rest-fits (r .average .0) clock (f .average-high))
+    (λ some. run-fits (r .average .0) (r .start .0) _ clock (f .average-high) (f .start-high) (leb-false _ _ e)))
 
 starting-fits : (r : Rate) (clock bytesLeft : ℕ) → RateFits clock r → RateFits clock (starting r clock bytesLeft)
 starting-fits r clock bytesLeft f =
@@ -132,11 +144,40 @@ starting-fits r clock bytesLeft f =
     (λ e. f)
     (λ e. at-cond (RateFits clock) (leb threshold bytesLeft) (λ e. run-fits (r .average .0) clock 0 clock (f .average-high) (omega arith) (omega arith)) (λ e. f))
 
-rate-after-fits : (r : Rate) (clock size bytesLeft : ℕ) → RateFits clock r → RateFits clock (rateAfter r clock size bytesLeft)
+rate-after-fits : (r : Rate) (clock size countLeft bytesLeft : ℕ) → RateFits clock r →
+    RateFits clock (rateAfter r clock size countLeft bytesLeft)
 unfolding rateAfter
-rate-after-fits r clock size bytesLeft f =
-    starting-fits (cond (r .measuring) (counting r clock size) r) clock bytesLeft
-    (at-cond (RateFits clock) (r .measuring) (λ e. counting-fits r clock size f) (λ e. f))
+rate-after-fits r clock size countLeft bytesLeft f =
+    starting-fits (cond (r .measuring) (counting r clock size countLeft) r) clock bytesLeft
+    (at-cond (RateFits clock) (r .measuring) (λ e. counting-fits r clock size countLeft f) (λ e. f))
+
+abbrev Rests : Rate → Type 0
+Rests r = r .measuring ≡ false
+
+given-up : (r : Rate) (clock size countLeft : ℕ) → eqb countLeft 0 ≡ true → Rests (cond (r .measuring) (counting r clock size countLeft) r)
+given-up r clock size countLeft none =
+    at-cond Rests (r .measuring)
+    (λ runs. at-cond Rests (leb threshold (r .counted .0 + size)) (λ ends. refl) (λ goes-on. rw none))
+    (λ rests. rests)
+
+none-starts : (r : Rate) (clock bytesLeft : ℕ) → Rests r → bytesLeft < threshold → Rests (starting r clock bytesLeft)
+none-starts r clock bytesLeft rests h =
+    at-cond Rests (r .measuring)
+    (λ runs. rests)
+    (λ rests. at-cond Rests (leb threshold bytesLeft) (λ e. absurd (omega (arith, leb-true threshold bytesLeft e))) (λ e. rests))
+
+-- where no packets are left, none runs
+rate-after-busy : (r : Rate) (clock size countLeft bytesLeft : ℕ) → bytesLeft ≤ largest * countLeft →
+    not ((rateAfter r clock size countLeft bytesLeft) .measuring && eqb countLeft 0) ≡ true
+unfolding rateAfter
+rate-after-busy r clock size countLeft bytesLeft h = go (eqb countLeft 0) refl
+  where
+    go : (b : Bool) → eqb countLeft 0 ≡ b → not ((rateAfter r clock size countLeft bytesLeft) .measuring && b) ≡ true
+    go true e =
+        let none : countLeft ≡ 0 = eqb-true countLeft 0 e in
+        let counted = cond (r .measuring) (counting r clock size countLeft) r in
+        rw (none-starts counted clock bytesLeft (given-up r clock size countLeft e) (omega arith))
+    go false e = rw and-false
 
 pub departed-well-formed : (s : State) (handlesLength sizesLength clock headSize : ℕ) →
     DepartureAccepted s handlesLength sizesLength clock headSize → wellFormed (departedState s clock headSize) ≡ true
@@ -149,9 +190,10 @@ departed-well-formed s handlesLength sizesLength clock headSize a =
       clock-high = a .clock-high;
       pie = record { prob-high = f .pie .prob-high; old-high = f .pie .old-high; allowance-high = f .pie .allowance-high };
       rate =
-          rate-after-fits (s .pie .rate) clock headSize (s .backlog .bytes .0 - headSize)
+          rate-after-fits (s .pie .rate) clock headSize (s .backlog .count - 1) (s .backlog .bytes .0 - headSize)
           (later-fits (s .clock .0) clock (s .pie .rate) (a .clock-low) (f .rate));
       backlog = omega arith;
+      busy = rate-after-busy (s .pie .rate) clock headSize (s .backlog .count - 1) (s .backlog .bytes .0 - headSize) (omega arith);
       first-high = mod-lt (s .first + 1) (f .settings .slots-low);
       total-high = f .total-high;
     })
@@ -178,6 +220,7 @@ ticked-well-formed s clock a =
           };
       rate = later-fits (s .clock .0) clock (s .pie .rate) (a .clock-low) (f .rate);
       backlog = f .backlog;
+      busy = f .busy;
       first-high = f .first-high;
       total-high = f .total-high;
     })
@@ -216,6 +259,7 @@ fresh-well-formed settings clock e =
       pie = omega arith;
       rate = rest-fits 0 clock (omega arith);
       backlog = omega arith;
+      busy = refl;
       first-high = fit .slots-low;
       total-high = omega arith;
     }))

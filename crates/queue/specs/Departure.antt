@@ -28,9 +28,9 @@ unfoldable pub departureRefusal : State → (handlesLength sizesLength clock hea
 departureRefusal s handlesLength sizesLength clock headSize = firstRefusal (departureRefusals s handlesLength sizesLength clock headSize)
 
 -- the departure rate moves on; probability, old delay and allowance stay
-abbrev pub departedPie : Pie → (clock size bytesLeft : ℕ) → Pie
-departedPie pie clock size bytesLeft =
-    record { prob = pie .prob; old = pie .old; allowance = pie .allowance; rate = rateAfter (pie .rate) clock size bytesLeft }
+abbrev pub departedPie : Pie → (clock size countLeft bytesLeft : ℕ) → Pie
+departedPie pie clock size countLeft bytesLeft =
+    record { prob = pie .prob; old = pie .old; allowance = pie .allowance; rate = rateAfter (pie .rate) clock size countLeft bytesLeft }
 
 -- the head, of this size, leaves; first place goes up by one modulo slots
 unfoldable pub departedState : State → (clock size : ℕ) → State
@@ -39,7 +39,7 @@ departedState s clock size =
       settings = s .settings;
       clock = micros clock;
       last = s .last;
-      pie = departedPie (s .pie) clock size (s .backlog .bytes .0 - size);
+      pie = departedPie (s .pie) clock size (s .backlog .count - 1) (s .backlog .bytes .0 - size);
       backlog = left (s .backlog) size;
       first = (s .first + 1) % s .settings .slots;
       verdicts = s .verdicts;

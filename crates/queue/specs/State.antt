@@ -1,5 +1,5 @@
 -- Which state records are well formed (document 01, 'The state record').
-use mathlib.Core.Bool.{Bool, true, _&&_, _||_}
+use mathlib.Core.Bool.{Bool, true, not, _&&_, _||_}
 use mathlib.Core.List.{List, [], _∷_, _++_, foldl}
 use Prim.Native.Nat.{ℕ, _*_, _^_}
 use lib.Dec.{leb, ltb, eqb}
@@ -42,6 +42,8 @@ stateConditions s =
     ∷ ltb (s .pie .rate .counted .0) threshold
     ∷ (s .pie .rate .measuring || eqb (s .pie .rate .start .0) 0)
     ∷ (s .pie .rate .measuring || eqb (s .pie .rate .counted .0) 0)
+    -- no measurement runs on an empty queue (Q-6)
+    ∷ not (s .pie .rate .measuring && eqb (s .backlog .count) 0)
     ∷ leb (total (s .verdicts)) mostVerdicts
     ∷ []
 

@@ -77,7 +77,7 @@ impl State {
         let backlog = queued.leave(size);
         let before = self.pie;
         let measured = before.rate;
-        let rate = measured.depart(clock, size, backlog.bytes);
+        let rate = measured.depart(clock, size, backlog);
         let pie = Pie { rate, ..before };
         let first = ((self.first + 1) as u32 % self.settings.slots as u32) as u64;
         State {

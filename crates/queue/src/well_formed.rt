@@ -11,7 +11,7 @@ use pie::THRESHOLD;
 use units::Micros;
 use units::Prob;
 ghost use mathlib.Core.Path.{_≡_};
-ghost use mathlib.Core.Bool.{_&&_, _||_};
+ghost use mathlib.Core.Bool.{_&&_, _||_, not};
 ghost use lib.Dec.{eqb, leb, ltb};
 ghost use Rattle.pie.specs.Constants.{mostVerdicts, threshold};
 ghost use Rattle.pie.specs.Verdicts.{total};
@@ -54,14 +54,18 @@ impl Settings {
     }
 }
 
-// The measurement: start and counted bytes are 0 if none runs.
-fn measurement_fits(rate: Rate, clock: Micros) -> bool
+// The measurement: start and counted bytes are 0 if none runs, and none runs on an empty queue.
+fn measurement_fits(rate: Rate, clock: Micros, count: u64) -> bool
     ensures { λ r. ⌜ r ≡ (leb (rate .start .0) (clock .0) && ltb (rate .counted .0) threshold
-        && (rate .measuring || eqb (rate .start .0) 0) && (rate .measuring || eqb (rate .counted .0) 0)) ⌝ }
+        && (rate .measuring || eqb (rate .start .0) 0) && (rate .measuring || eqb (rate .counted .0) 0)
+        && not (rate .measuring && eqb count 0)) ⌝ }
 {
     let runs = rate.measuring;
     if runs {
         if clock.0 < rate.start.0 {
+            return false;
+        }
+        if count == 0 {
             return false;
         }
         return rate.counted.0 < THRESHOLD;
@@ -101,6 +105,6 @@ impl State {
         if LARGEST * backlog.count < backlog.bytes.0 {
             return false;
         }
-        measurement_fits(pie.rate, self.clock)
+        measurement_fits(pie.rate, self.clock, backlog.count)
     }
 }

@@ -18,7 +18,7 @@ use Rattle.queue.proofs.State.departed.Tie as tie
 -- the new state, from what the calls return
 departed-is : (s : State) (clock size : ℕ) (b : Backlog) (r : Rate) →
     b ≡ left (s .backlog) size →
-    r ≡ rateAfter (s .pie .rate) clock size (b .bytes .0) →
+    r ≡ rateAfter (s .pie .rate) clock size (b .count) (b .bytes .0) →
     record {
       settings = s .settings;
       clock = micros clock;

@@ -36,7 +36,9 @@ tests s =
 abbrev measured : State → Bool
 measured s =
     let rate = s .pie .rate in
-    leb (rate .start .0) (s .clock .0) && ltb (rate .counted .0) threshold && (rate .measuring || eqb (rate .start .0) 0) && (rate .measuring || eqb (rate .counted .0) 0)
+    leb (rate .start .0) (s .clock .0) && ltb (rate .counted .0) threshold
+    && (rate .measuring || eqb (rate .start .0) 0) && (rate .measuring || eqb (rate .counted .0) 0)
+    && not (rate .measuring && eqb (s .backlog .count) 0)
 
 module _ (s : State) where
   settings-pass : Facts s → all (settingsConditions (s .settings)) ≡ true
