@@ -18,3 +18,5 @@ pub mod RunKept
 pub mod NeverRefused
 pub mod FirstInFirstOut
 pub mod Conservation
+pub mod MeasuredWhileQueued
+pub mod NeverGivenUp

@@ -20,3 +20,5 @@ pub mod Grace
 pub mod Recovery
 pub mod FirstInFirstOut
 pub mod Conservation
+pub mod MeasuredWhileQueued
+pub mod NeverGivenUp
