@@ -105,6 +105,7 @@ impl Coverage {
         coverage.add("end of a range", single, owned(&events::ENDS));
         coverage.add("tables of whole pages", both, owned(&events::WHOLE_PAGES));
         coverage.add("early packet beside one tenth", single, owned(&events::EARLY));
+        coverage.add("measurement, few packets left", single, owned(&events::GIVEN_UP));
         coverage
     }
 

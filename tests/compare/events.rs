@@ -15,6 +15,21 @@ pub const MEASUREMENT: [&str; 5] = [
     "ends and another starts",
 ];
 
+/// What became of a measurement where few packets were left. From fresh none is given up: what is
+/// counted and what is queued come to 16,384 at least.
+pub const GIVEN_UP: [&str; 10] = [
+    "given up",
+    "given up at 16,383",
+    "given up with the average 0",
+    "given up with an average above 0",
+    "given up with measuring other than 0 and 1",
+    "last packet ends it at 16,384",
+    "last packet ends it above 16,384",
+    "one packet left: goes on",
+    "one packet left: goes on at 16,383",
+    "one packet left: ends at 16,384",
+];
+
 pub const EVENTS: [&str; 21] = [
     "fresh accepted",
     "allowance loses 15,000",
@@ -101,7 +116,8 @@ pub const WHOLE_PAGES: [&str; 4] =
     ["first element written", "last element written", "first element read", "last element read"];
 
 /// Adds each thing found as a pair: its list (0 is `MEASUREMENT`, 1 `EVENTS`, 2 `RUN_EVENTS`,
-/// 3 `SINGLE_EVENTS`, 4 `ENDS`, 5 `WHOLE_PAGES`, 6 `EARLY`) and its place in that list.
+/// 3 `SINGLE_EVENTS`, 4 `ENDS`, 5 `WHOLE_PAGES`, 6 `EARLY`, 7 `GIVEN_UP`) and its place in that
+/// list.
 pub fn found(before: &Side, call: &Call, after: &Side, hits: &mut Vec<(usize, usize)>) {
     let accepted = after.answer < 100;
     let mut events = Vec::new();
@@ -114,7 +130,10 @@ pub fn found(before: &Side, call: &Call, after: &Side, hits: &mut Vec<(usize, us
             early(before.state.probability, packet.ecn, after.answer, hits);
         }
         Call::Departure { .. } if accepted => {
-            hits.push((0, measurement(&before.state, &after.state)));
+            if let Some(label) = measurement(&before.state, &after.state) {
+                hits.push((0, label));
+            }
+            given_up(&before.state, &after.state, hits);
             departure(&before.state, &after.state, &mut events);
             departed(&after.state, &mut singles);
         }
@@ -166,7 +185,7 @@ fn early(probability: u64, ecn: bool, answer: u32, hits: &mut Vec<(usize, usize)
 fn departure(before: &State, after: &State, events: &mut Found) {
     events.push((after.first == 0, 13));
     events.push((after.count == 0, 14));
-    if measurement(before, after) >= 3 {
+    if matches!(measurement(before, after), Some(3 | 4)) {
         let time = after.clock - before.start;
         events.push((time == 0, 8));
         events.push((time > model::TIME_MAX, 9));
@@ -189,15 +208,41 @@ fn whole_pages(call: &Call, before: &State, after: &State, hits: &mut Vec<(usize
     }
 }
 
-/// What happened to the measurement at an accepted departure.
-fn measurement(before: &State, after: &State) -> usize {
+/// What happened to the measurement at an accepted departure; nothing of `MEASUREMENT` where it was
+/// given up.
+fn measurement(before: &State, after: &State) -> Option<usize> {
     match (before.measuring != 0, after.measuring != 0) {
-        (false, false) => 0,
-        (false, true) => 1,
-        (true, true) if after.counted > 0 => 2,
-        (true, false) => 3,
-        (true, true) => 4,
+        (false, false) => Some(0),
+        (false, true) => Some(1),
+        (true, true) if after.counted > 0 => Some(2),
+        (true, false) if counted_now(before, after) < 16_384 => None,
+        (true, false) => Some(3),
+        (true, true) => Some(4),
     }
+}
+
+/// The counted bytes with the packet that left.
+fn counted_now(before: &State, after: &State) -> u64 {
+    before.counted + (before.bytes - after.bytes)
+}
+
+fn given_up(before: &State, after: &State, hits: &mut Vec<(usize, usize)>) {
+    if before.measuring == 0 || after.count > 1 {
+        return;
+    }
+    let (last, goes_on) = (after.count == 0, after.counted > 0);
+    let counted = counted_now(before, after);
+    let given_up = measurement(before, after).is_none();
+    #[rustfmt::skip]
+    let at = [
+        given_up, given_up && counted == 16_383,
+        given_up && before.average == 0, given_up && before.average > 0,
+        given_up && before.measuring > 1,
+        last && counted == 16_384, last && counted > 16_384,
+        !last && goes_on, !last && goes_on && counted == 16_383,
+        !last && counted == 16_384,
+    ];
+    hits.extend(at.iter().enumerate().filter(|(_, &at)| at).map(|(label, _)| (7, label)));
 }
 
 fn departed(after: &State, singles: &mut Found) {

@@ -83,7 +83,8 @@ pub fn run(lender: &mut dyn Lender) -> Result<(), Failure> {
     let before = State { allowance: 15_000, probability: 1_000_000, ..state() };
     expect("the allowance", one(lender, before, tick)?.state.allowance, 0)?;
     arrivals(lender)?;
-    average(lender)
+    average(lender)?;
+    last_packet(lender)
 }
 
 fn arrivals(lender: &mut dyn Lender) -> Result<(), Failure> {
@@ -111,4 +112,24 @@ fn average(lender: &mut dyn Lender) -> Result<(), Failure> {
     let before = State { average: 2_000, ..running };
     let after = one(lender, before, Call::Departure { lent, clock: 1_001_000 })?;
     expect("the average", after.state.average, 1_750)
+}
+
+/// Packets queued and counted bytes before a head of 8,192 bytes leaves; then the average, which
+/// was 2,000, and the counted bytes.
+const HEADS: [(u64, u64, u64, u64); 4] =
+    [(1, 8_191, 2_000, 0), (1, 8_192, 1_750, 0), (2, 8_191, 2_000, 16_383), (2, 8_192, 1_750, 0)];
+
+/// A measurement that the last packet does not bring to its end is given up.
+fn last_packet(lender: &mut dyn Lender) -> Result<(), Failure> {
+    let lent = Lent { handles: SLOTS, sizes: SLOTS };
+    for (count, counted, average, left) in HEADS {
+        let queue = State { count, bytes: 8_192 * count, average: 2_000, ..state() };
+        let before = State { measuring: 1, start: 1_000_000, counted, ..queue };
+        let after = one(lender, before, Call::Departure { lent, clock: 1_001_000 })?.state;
+        expect("the average", after.average, average)?;
+        expect("the counted bytes", after.counted, left)?;
+        expect("the measurement", after.measuring, u64::from(left > 0))?;
+        expect("its start", after.start, if left > 0 { 1_000_000 } else { 0 })?;
+    }
+    Ok(())
 }

@@ -69,7 +69,7 @@ pub const DROPPED_EARLY: usize = 4;
 pub type Refusals = [bool; 10];
 
 /// The conditions that make a state well formed, in the order of `conditions`.
-pub const CONDITIONS: [&str; 19] = [
+pub const CONDITIONS: [&str; 20] = [
     "target in range",
     "buffer in range",
     "slots in range",
@@ -88,6 +88,7 @@ pub const CONDITIONS: [&str; 19] = [
     "counted < 16,384",
     "start 0 if none runs",
     "counted 0 if none runs",
+    "none runs on an empty queue",
     "sum of counts <= 2^48",
 ];
 
@@ -100,7 +101,7 @@ pub fn verdict_sum(s: &State) -> u128 {
 }
 
 /// Whether each of `CONDITIONS` holds.
-pub fn conditions(s: &State) -> [bool; 19] {
+pub fn conditions(s: &State) -> [bool; 20] {
     let runs = s.measuring != 0;
     [
         within(s.target, TARGET),
@@ -121,6 +122,7 @@ pub fn conditions(s: &State) -> [bool; 19] {
         s.counted < RATE_THRESHOLD,
         runs || s.start == 0,
         runs || s.counted == 0,
+        !runs || s.count > 0,
         verdict_sum(s) <= u128::from(CLOCK_MAX),
     ]
 }
@@ -283,6 +285,8 @@ pub fn departure(
         s.counted += size;
         if s.counted >= RATE_THRESHOLD {
             end_measurement(s);
+        } else if s.count == 0 {
+            stop_measurement(s); // given up: no sample across an empty queue
         }
     }
     if s.measuring == 0 && s.bytes >= RATE_THRESHOLD {
@@ -302,6 +306,11 @@ fn end_measurement(s: &mut State) {
     let sample = sample(s);
     let mixed = (sample + 3 * s.average) / 4;
     s.average = if s.average == 0 { sample } else { mixed };
+    stop_measurement(s);
+}
+
+/// None runs now.
+fn stop_measurement(s: &mut State) {
     s.measuring = 0;
     s.start = 0;
     s.counted = 0;

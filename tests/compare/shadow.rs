@@ -38,6 +38,10 @@ impl Shadow {
         if after.answer == 102 || after.answer == 109 {
             return Err(format!("refusal {} in a run from fresh", after.answer - 100));
         }
+        let state = &after.state;
+        if state.measuring != 0 && state.counted + state.bytes < 16_384 {
+            return Err("a measurement runs that the queued bytes cannot bring to its end".into());
+        }
         if after.answer >= 100 {
             return self.agrees(&after.state);
         }

@@ -91,6 +91,7 @@ fn case(r: &mut Random) -> (Side, Call) {
     match kind {
         Kind::Arrival if r.one_in(3) => states::aim_at_late_rules(r, &mut s),
         Kind::Arrival if r.one_in(3) => states::aim_at_early_verdicts(r, &mut s),
+        Kind::Departure if r.one_in(4) => states::aim_at_last_packet(r, &mut s),
         Kind::Tick if r.one_in(3) => states::aim_at_refill(r, &mut s),
         _ => {}
     }
@@ -98,9 +99,10 @@ fn case(r: &mut Random) -> (Side, Call) {
         s.last = s.clock.saturating_sub(r.pick(&[0, 1, 14_998, 14_999]));
     }
     if wanted[6] {
-        (s.count, s.bytes) = (0, 0);
+        states::empty(&mut s);
     } else if kind == Kind::Departure && s.count == 0 {
         (s.count, s.bytes) = (1, s.buffer.min(r.spread(1, 65_535)));
+        states::measurement(r, &mut s);
     }
     if wanted[8] || (kind != Kind::Arrival && r.one_in(8)) {
         s.verdicts = states::split(r, CLOCK_MAX);
@@ -112,7 +114,7 @@ fn case(r: &mut Random) -> (Side, Call) {
     if wanted[2] && r.one_in(6) {
         states::scramble(r, &mut s);
     } else if wanted[2] {
-        let last = if wanted[8] { 17 } else { 18 };
+        let last = if wanted[8] { 18 } else { 19 };
         let condition = r.range(0, last) as usize;
         states::break_one(r, &mut s, condition);
     }

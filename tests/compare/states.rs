@@ -90,8 +90,9 @@ fn delay(r: &mut Random, target: u64, near: u64) -> u64 {
     r.pick(&[0, 0, 1, half, half, whole, beside, beside, end, any]).min(TIME_MAX)
 }
 
-fn measurement(r: &mut Random, s: &mut State) {
-    if r.one_in(3) {
+/// A measurement that runs, two times of three; none on an empty queue.
+pub fn measurement(r: &mut Random, s: &mut State) {
+    if s.count == 0 || r.one_in(3) {
         return;
     }
     s.measuring = r.pick(&[1, 1, 1, 1, 2, 256, 1 << 32, 1 << 63, u64::MAX]);
@@ -121,6 +122,28 @@ pub fn aim_at_early_verdicts(r: &mut Random, s: &mut State) {
     s.old_delay = s.target.div_ceil(2) + r.pick(&[0, 0, 1, TIME_MAX / 2]);
     let any = probability(r);
     s.probability = r.pick(&[TENTH - 1, TENTH - 1, TENTH, TENTH, TENTH - 2, TENTH + 1, any]);
+}
+
+/// Changes a well-formed state so that a measurement runs with one packet queued or two, and the
+/// head takes it to its end or just does not.
+pub fn aim_at_last_packet(r: &mut Random, s: &mut State) {
+    (s.slots, s.buffer) = (s.slots.max(2), model::BUFFER.1);
+    s.count = 1;
+    while s.measuring == 0 {
+        measurement(r, s);
+    }
+    let to_end = model::RATE_THRESHOLD - s.counted;
+    let any = r.range(1, to_end);
+    s.bytes = r.pick(&[to_end - 1, to_end, to_end + 1, any]).max(1);
+    if r.one_in(3) {
+        (s.count, s.bytes) = (2, s.bytes + r.pick(&[1, 1_500, 20_000]));
+    }
+}
+
+/// Changes a state so that its queue is empty and no measurement runs.
+pub fn empty(s: &mut State) {
+    (s.count, s.bytes) = (0, 0);
+    (s.measuring, s.start, s.counted) = (0, 0, 0);
 }
 
 /// Changes a well-formed state so that a tick fills the allowance or just does not.
@@ -193,11 +216,12 @@ pub fn break_one(r: &mut Random, s: &mut State, condition: usize) {
         8 => s.average = above(r, s.average, TIME_MAX),
         9 => s.first = above(r, s.first, s.slots - 1),
         10..=13 => break_queue(r, s, condition),
-        14..=17 => break_measurement(r, s, condition),
+        14..=18 => break_measurement(r, s, condition),
         _ => break_sum(r, s),
     }
     if condition == 1 && r.one_in(4) {
-        (s.buffer, s.count, s.bytes) = (0, 0, 0);
+        s.buffer = 0;
+        empty(s);
     }
 }
 
@@ -237,6 +261,9 @@ fn break_measurement(r: &mut Random, s: &mut State, condition: usize) {
     if !runs {
         (s.start, s.counted) = (0, 0);
     }
+    if runs && s.count == 0 {
+        (s.count, s.bytes) = (1, 1);
+    }
     match condition {
         14 => s.start = above(r, s.start, s.clock),
         15 => s.counted = above(r, s.counted, 16_383),
@@ -245,7 +272,14 @@ fn break_measurement(r: &mut Random, s: &mut State, condition: usize) {
             let any = r.spread(1, s.clock);
             s.start = r.pick(&[1, s.clock, any]);
         }
-        _ => s.counted = r.pick(&[1, 16_383, 16_384 / 2]),
+        17 => s.counted = r.pick(&[1, 16_383, 16_384 / 2]),
+        _ => {
+            s.count = 1;
+            while s.measuring == 0 {
+                measurement(r, s);
+            }
+            (s.count, s.bytes) = (0, 0);
+        }
     }
 }
 
