@@ -201,6 +201,17 @@ static void run_departures(void)
     state.counted = 300;
     expect("a departure while measuring", depart(1000000, &packet), OBIKUTERU_ACCEPTED);
     expect_state("a departure while measuring", &wanted);
+
+    wanted = start_state; /* the last packet leaves: the measurement is given up */
+    wanted.measuring = wanted.start = wanted.counted = 0;
+    wanted.count = wanted.bytes = 0;
+    wanted.first = 3;
+    restore();
+    state.counted = 300;
+    state.count = 1;
+    state.bytes = 5000;
+    expect("the last departure", depart(1000000, &packet), OBIKUTERU_ACCEPTED);
+    expect_state("the last departure", &wanted);
 }
 
 /* Marks end at one tenth. */
@@ -268,6 +279,8 @@ static void run_refusals(void)
     expect("2^48 arrivals", arrive(1000000, 1, 1, false), OBIKUTERU_REFUSED_COUNTS);
     expect("the record with them", obikuteru_well_formed(&state), true);
     state.count = state.bytes = 0;
+    expect("a measurement on an empty queue", obikuteru_well_formed(&state), false);
+    state.measuring = state.start = state.counted = 0;
     expect("an empty queue", depart(1000000, &packet), OBIKUTERU_REFUSED_EMPTY);
     expect("wrong settings", obikuteru_fresh(&state, 0, 64000, SLOTS, 0), OBIKUTERU_REFUSED_SETTINGS);
     expect("the record of wrong settings", obikuteru_well_formed(&state), false);
