@@ -49,7 +49,7 @@ static bool well_formed(const struct plain_state *s)
         && s->bytes <= s->buffer
         && s->start <= s->clock
         && s->counted < THRESHOLD
-        && (s->measuring || (s->start == 0 && s->counted == 0))
+        && (s->measuring ? 0 < s->count : s->start == 0 && s->counted == 0)
         && counts_fit(s);
 }
 
@@ -114,15 +114,20 @@ uint32_t plain_arrival(struct plain_state *s, uint32_t *handles, size_t handles_
     return verdict;
 }
 
+static void stop_measurement(struct plain_state *s)
+{
+    s->measuring = false;
+    s->start = 0;
+    s->counted = 0;
+}
+
 /* The measurement has reached its threshold: take the sample into the average. */
 static void end_measurement(struct plain_state *s, uint64_t clock)
 {
     uint64_t took = clock - s->start;
     uint32_t sample = took < 1 ? 1 : LONGEST < took ? LONGEST : (uint32_t)took;
     s->average = s->average == 0 ? sample : (sample + 3 * s->average) / 4;
-    s->measuring = false;
-    s->start = 0;
-    s->counted = 0;
+    stop_measurement(s);
 }
 
 uint32_t plain_departure(struct plain_state *s, const uint32_t *handles, size_t handles_len,
@@ -157,6 +162,8 @@ uint32_t plain_departure(struct plain_state *s, const uint32_t *handles, size_t 
         s->counted += size;
         if (THRESHOLD <= s->counted)
             end_measurement(s, clock);
+        else if (count == 0)
+            stop_measurement(s); /* no sample across an empty queue */
     }
     if (!s->measuring && THRESHOLD <= bytes) {
         s->measuring = true;

@@ -134,7 +134,10 @@ impl State {
             && self.bytes <= self.buffer
             && self.start <= self.clock
             && self.counted < THRESHOLD
-            && (self.measuring || (self.start == 0 && self.counted == 0))
+            && match self.measuring {
+                true => self.count > 0,
+                false => self.start == 0 && self.counted == 0,
+            }
             && self.counts_fit()
     }
 
@@ -251,15 +254,21 @@ impl State {
                     0 => sample,
                     average => (sample + 3 * average) / 4,
                 };
-                self.measuring = false;
-                self.start = 0;
-                self.counted = 0;
+                self.stop_measurement();
+            } else if self.count == 0 {
+                self.stop_measurement(); // no sample across an empty queue
             }
         }
         if !self.measuring && self.bytes >= THRESHOLD {
             self.measuring = true;
             self.start = self.clock;
         }
+    }
+
+    fn stop_measurement(&mut self) {
+        self.measuring = false;
+        self.start = 0;
+        self.counted = 0;
     }
 
     fn tick(&mut self, clock: u64) -> Result<(), Refusal> {
