@@ -94,7 +94,7 @@ struct obikuteru_state {
     uint64_t old_delay;   /* queueing delay at the last tick, at most 10,000,000 */
     uint64_t allowance;   /* burst allowance that is left, at most 150,000 */
     uint64_t average;     /* average time for 16,384 bytes to leave; 0: none measured yet */
-    uint64_t measuring;   /* not 0: a measurement of the departure rate runs */
+    uint64_t measuring;   /* not 0: a measurement of the departure rate runs; 0 where count is 0 */
     uint64_t start;       /* clock at which it started; 0 if none runs */
     uint64_t counted;     /* bytes that have left since, below 16,384; 0 if none runs */
     uint64_t count;       /* packets queued */

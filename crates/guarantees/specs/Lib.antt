@@ -8,6 +8,8 @@
 --   question 2   Grace             so a full one lasts 150 ms: after a tick that fills it, and after fresh
 --   question 3   Conservation      queued bytes = bytes admitted − bytes departed; refusals 2 and 9 are never given
 --   question 4   Recovery          how long the queue goes on dropping once a crowd has left
+--   Q-6          MeasuredWhileQueued   wherever a measurement runs, a packet is queued
+--   Q-6          NeverGivenUp      from fresh, a measurement ends before the queue empties, or as it does
 --
 -- That the library's calls give these answers, states and tables is promised by the functions themselves (crate queue).
 pub mod Calls
