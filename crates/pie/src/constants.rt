@@ -21,5 +21,8 @@ pub const FULL_ALLOWANCE: u64 = 150_000;
 // The rate threshold: how many bytes a rate sample counts.
 pub const THRESHOLD: u64 = 16_384;
 
+// The accumulated probability stays below this: 8.5.
+pub const MOST_ACCUMULATED: u64 = 36_507_222_016;
+
 // A small queue: two mean packets of 1,500 bytes.
 pub const SMALL_QUEUE: u64 = 3_000;

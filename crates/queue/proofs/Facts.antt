@@ -7,7 +7,7 @@ use lib.Dec.{eqb}
 use lib.ListN.{getD}
 use borrow.Author.Tests.{le-leb, leb-true, lt-ltb, ltb-true}
 use Rattle.units.specs.Kinds.{whole}
-use Rattle.pie.specs.Constants.{fullAllowance, largest, latest, longest, mostVerdicts, threshold}
+use Rattle.pie.specs.Constants.{fullAllowance, largest, latest, longest, mostAccumulated, mostVerdicts, threshold}
 use Rattle.pie.specs.Verdicts.{total}
 use Rattle.queue.specs.State.{settingsConditions, stateConditions, wellFormed}
 use Rattle.queue.specs.declared.State.{State}
@@ -25,6 +25,7 @@ pub record Facts (s : State) : Type 0 where
   pub prob-high : s .pie .prob .0 ≤ whole
   pub old-high : s .pie .old .0 ≤ longest
   pub allowance-high : s .pie .allowance .0 ≤ fullAllowance
+  pub accumulated-high : s .pie .accumulated .0 < mostAccumulated
   pub average-high : s .pie .rate .average .0 ≤ longest
   pub first-high : s .first < s .settings .slots
   pub count-high : s .backlog .count ≤ s .settings .slots
@@ -57,18 +58,19 @@ facts s w =
       prob-high = leb-true _ _ (at 8);
       old-high = leb-true _ _ (at 9);
       allowance-high = leb-true _ _ (at 10);
-      average-high = leb-true _ _ (at 11);
-      first-high = ltb-true _ _ (at 12);
-      count-high = leb-true _ _ (at 13);
-      bytes-low = leb-true _ _ (at 14);
-      bytes-high = leb-true _ _ (at 15);
-      bytes-fit = leb-true _ _ (at 16);
-      start-high = leb-true _ _ (at 17);
-      counted-high = ltb-true _ _ (at 18);
-      idle-start = at 19;
-      idle-counted = at 20;
-      busy = at 21;
-      total-high = leb-true _ _ (at 22);
+      accumulated-high = ltb-true _ _ (at 11);
+      average-high = leb-true _ _ (at 12);
+      first-high = ltb-true _ _ (at 13);
+      count-high = leb-true _ _ (at 14);
+      bytes-low = leb-true _ _ (at 15);
+      bytes-high = leb-true _ _ (at 16);
+      bytes-fit = leb-true _ _ (at 17);
+      start-high = leb-true _ _ (at 18);
+      counted-high = ltb-true _ _ (at 19);
+      idle-start = at 20;
+      idle-counted = at 21;
+      busy = at 22;
+      total-high = leb-true _ _ (at 23);
     }
 
 pub well-formed : (s : State) → Facts s → wellFormed s ≡ true
@@ -86,6 +88,7 @@ well-formed s f =
       le-leb _ _ (f .prob-high),
       le-leb _ _ (f .old-high),
       le-leb _ _ (f .allowance-high),
+      lt-ltb _ _ (f .accumulated-high),
       le-leb _ _ (f .average-high),
       lt-ltb _ _ (f .first-high),
       le-leb _ _ (f .count-high),

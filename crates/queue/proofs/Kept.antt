@@ -7,20 +7,23 @@ use native.Mathlib.Omega.{arith}
 use lib.Dec.{eqb, leb}
 use lib.ListN.{getD}
 use borrow.Author.Tests.{eqb-true, leb-false, leb-true, ne-eqb, not-false}
-use Rattle.laws.proofs.Choice.{at-cond}
+use Rattle.laws.proofs.Choice.{at-cond, either}
 use Rattle.laws.proofs.Tests.{and-left, and-right}
 use Rattle.units.specs.Kinds.{whole}
-use Rattle.pie.specs.Constants.{fullAllowance, largest, latest, longest, mostVerdicts, threshold}
+use Rattle.pie.specs.Constants.{fullAllowance, largest, latest, longest, mostAccumulated, mostVerdicts, threshold}
 use Rattle.pie.specs.DepartureRate.{counting, rateAfter, resting, running, sampleOf, starting}
+use Rattle.pie.specs.DropDecision.{accumulatedAfter, dropDecision}
 use Rattle.pie.specs.Update.{delayOf, nextProb, updated}
 use Rattle.pie.specs.Verdicts.{admitted, total}
 use Rattle.pie.specs.declared.Backlog.{Backlog}
 use Rattle.pie.specs.declared.Pie.{Pie}
 use Rattle.pie.specs.declared.Rate.{Rate}
+use Rattle.pie.specs.declared.Verdict.{Verdict}
+use Rattle.pie.specs.declared.Verdict.the-variants.{DroppedBytes, DroppedSlots}
 use Rattle.pie.proofs.Counts.{total-raised}
-use Rattle.pie.proofs.Ranges.{average-le, delay-le, next-allowance-le, next-prob-le, sample-le}
+use Rattle.pie.proofs.Ranges.{accumulated-lt, average-le, delay-le, next-allowance-le, next-prob-le, sample-le}
 use Rattle.queue.specs.Answer.{Reply, made}
-use Rattle.queue.specs.Arrival.{arrivedState, verdictOf}
+use Rattle.queue.specs.Arrival.{arrivedPie, arrivedState, bytesFull, slotsFull, verdictOf}
 use Rattle.queue.specs.Departure.{departedState}
 use Rattle.queue.specs.Fresh.{fresh, freshState}
 use Rattle.queue.specs.Refusals.{settingsRefused}
@@ -47,6 +50,7 @@ record PieFits (pie : Pie) : Type 0 where
   prob-high : pie .prob .0 ≤ whole
   old-high : pie .old .0 ≤ longest
   allowance-high : pie .allowance .0 ≤ fullAllowance
+  accumulated-high : pie .accumulated .0 < mostAccumulated
 
 record RateFits (clock : ℕ) (r : Rate) : Type 0 where
   average-high : r .average .0 ≤ longest
@@ -98,6 +102,23 @@ later-fits clock later r h f =
 entered-busy : (r : Rate) (count : ℕ) → not (r .measuring && eqb (count + 1) 0) ≡ true
 entered-busy r count = rw (ne-eqb (count + 1) 0 (λ e. omega arith), and-false)
 
+-- rules 1 and 2 leave what is accumulated, and rules 3 to 7 keep it in range
+accumulated-fits : (s : State) (size : ℕ) (ecn : Bool) (u : ℕ) → s .pie .accumulated .0 < mostAccumulated →
+    (arrivedPie s (verdictOf s size ecn u)) .accumulated .0 < mostAccumulated
+unfolding verdictOf accumulatedAfter
+accumulated-fits s size ecn u h =
+    either P (bytesFull s size) DroppedBytes _ h
+    (either P (slotsFull s) DroppedSlots (dropDecision (s .pie) target bytes ecn u) h (accumulated-lt (s .pie) target bytes ecn u h))
+  where
+    target : ℕ
+    target = s .settings .target .0
+
+    bytes : ℕ
+    bytes = s .backlog .bytes .0
+
+    P : Verdict → Type 0
+    P v = (arrivedPie s v) .accumulated .0 < mostAccumulated
+
 pub arrived-well-formed : (s : State) (handlesLength sizesLength clock size : ℕ) (ecn : Bool) (u : ℕ) →
     ArrivalAccepted s handlesLength sizesLength clock size → wellFormed (arrivedState s clock size (verdictOf s size ecn u)) ≡ true
 unfolding arrivedState
@@ -108,7 +129,13 @@ arrived-well-formed s handlesLength sizesLength clock size ecn u a =
       settings = f .settings;
       last-high = omega arith;
       clock-high = a .clock-high;
-      pie = f .pie;
+      pie =
+          record {
+            prob-high = f .pie .prob-high;
+            old-high = f .pie .old-high;
+            allowance-high = f .pie .allowance-high;
+            accumulated-high = accumulated-fits s size ecn u (f .pie .accumulated-high);
+          };
       rate = later-fits (s .clock .0) clock (s .pie .rate) (a .clock-low) (f .rate);
       backlog =
           at-cond (BacklogFits (s .settings)) (admitted v)
@@ -188,7 +215,7 @@ departed-well-formed s handlesLength sizesLength clock headSize a =
       settings = f .settings;
       last-high = omega arith;
       clock-high = a .clock-high;
-      pie = record { prob-high = f .pie .prob-high; old-high = f .pie .old-high; allowance-high = f .pie .allowance-high };
+      pie = omega arith;
       rate =
           rate-after-fits (s .pie .rate) clock headSize (s .backlog .count - 1) (s .backlog .bytes .0 - headSize)
           (later-fits (s .clock .0) clock (s .pie .rate) (a .clock-low) (f .rate));
@@ -217,6 +244,7 @@ ticked-well-formed s clock a =
             prob-high = next-prob-le (s .pie .prob .0) delay old target;
             old-high = delay-le (s .backlog .bytes .0) (s .pie .rate .average .0);
             allowance-high = next-allowance-le (s .pie .allowance .0) p delay old target (f .pie .allowance-high);
+            accumulated-high = f .pie .accumulated-high;
           };
       rate = later-fits (s .clock .0) clock (s .pie .rate) (a .clock-low) (f .rate);
       backlog = f .backlog;

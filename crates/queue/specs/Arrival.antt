@@ -4,10 +4,11 @@ use mathlib.Core.List.{List, [], _∷_}
 use Prim.Native.Nat.{ℕ, _+_, _%_}
 use lib.Dec.{ltb, eqb}
 use lib.ListN.{length, set}
-use Rattle.units.specs.Kinds.{micros}
+use Rattle.units.specs.Kinds.{micros, prob}
 use Rattle.pie.specs.Backlog.{entered}
-use Rattle.pie.specs.DropDecision.{dropDecision}
+use Rattle.pie.specs.DropDecision.{accumulatedAfter, dropDecision}
 use Rattle.pie.specs.Verdicts.{admitted, raised}
+use Rattle.pie.specs.declared.Pie.{Pie}
 use Rattle.pie.specs.declared.Verdict.{Verdict}
 use Rattle.pie.specs.declared.Verdict.the-variants.{DroppedBytes, DroppedSlots}
 use Rattle.queue.specs.Answer.{Answer, Reply, admits, unlessRefused, verdict}
@@ -41,6 +42,18 @@ verdictOf s size ecn u =
     (cond (slotsFull s) DroppedSlots
     (dropDecision (s .pie) (s .settings .target .0) (s .backlog .bytes .0) ecn u))
 
+-- the accumulated probability moves on (Q-3); probability, delays and allowance don't change
+abbrev pub arrivedPie : State → Verdict → Pie
+arrivedPie s v =
+    let pie = s .pie in
+    record {
+      prob = pie .prob;
+      old = pie .old;
+      allowance = pie .allowance;
+      accumulated = prob (accumulatedAfter pie (s .settings .target .0) (s .backlog .bytes .0) v);
+      rate = pie .rate;
+    }
+
 -- enqueued and marked packets go to the tail; the verdict's count rises by one; the rest stays
 unfoldable pub arrivedState : State → (clock size : ℕ) → Verdict → State
 arrivedState s clock size v =
@@ -48,7 +61,7 @@ arrivedState s clock size v =
       settings = s .settings;
       clock = micros clock;
       last = s .last;
-      pie = s .pie;
+      pie = arrivedPie s v;
       backlog = cond (admitted v) (entered (s .backlog) size) (s .backlog);
       first = s .first;
       verdicts = raised (s .verdicts) v;

@@ -27,10 +27,16 @@ departureRefusals s handlesLength sizesLength clock headSize =
 unfoldable pub departureRefusal : State → (handlesLength sizesLength clock headSize : ℕ) → ℕ
 departureRefusal s handlesLength sizesLength clock headSize = firstRefusal (departureRefusals s handlesLength sizesLength clock headSize)
 
--- the departure rate moves on; probability, old delay and allowance stay
+-- the departure rate moves on; probability, old delay, allowance and accumulated probability stay
 abbrev pub departedPie : Pie → (clock size countLeft bytesLeft : ℕ) → Pie
 departedPie pie clock size countLeft bytesLeft =
-    record { prob = pie .prob; old = pie .old; allowance = pie .allowance; rate = rateAfter (pie .rate) clock size countLeft bytesLeft }
+    record {
+      prob = pie .prob;
+      old = pie .old;
+      allowance = pie .allowance;
+      accumulated = pie .accumulated;
+      rate = rateAfter (pie .rate) clock size countLeft bytesLeft;
+    }
 
 -- the head, of this size, leaves; first place goes up by one modulo slots
 unfoldable pub departedState : State → (clock size : ℕ) → State

@@ -22,7 +22,7 @@ emptyState settings clock allowance =
       settings = settings;
       clock = micros clock;
       last = micros clock;
-      pie = record { prob = prob none; old = micros 0; allowance = micros allowance; rate = resting 0 };
+      pie = record { prob = prob none; old = micros 0; allowance = micros allowance; accumulated = prob none; rate = resting 0 };
       backlog = record { count = 0; bytes = bytes 0 };
       first = 0;
       verdicts = 0 ∷ 0 ∷ 0 ∷ 0 ∷ 0 ∷ [];

@@ -4,7 +4,7 @@ use mathlib.Core.List.{List, [], _∷_, _++_, foldl}
 use Prim.Native.Nat.{ℕ, _*_, _^_}
 use lib.Dec.{leb, ltb, eqb}
 use Rattle.units.specs.Kinds.{whole}
-use Rattle.pie.specs.Constants.{fullAllowance, largest, latest, longest, mostVerdicts, threshold}
+use Rattle.pie.specs.Constants.{fullAllowance, largest, latest, longest, mostAccumulated, mostVerdicts, threshold}
 use Rattle.pie.specs.Verdicts.{total}
 use Rattle.queue.specs.declared.Settings.{Settings}
 use Rattle.queue.specs.declared.State.{State}
@@ -32,6 +32,8 @@ stateConditions s =
     ∷ leb (s .pie .prob .0) whole
     ∷ leb (s .pie .old .0) longest
     ∷ leb (s .pie .allowance .0) fullAllowance
+    -- (Q-3)
+    ∷ ltb (s .pie .accumulated .0) mostAccumulated
     ∷ leb (s .pie .rate .average .0) longest
     ∷ ltb (s .first) (s .settings .slots)
     ∷ leb (s .backlog .count) (s .settings .slots)

@@ -4,13 +4,16 @@ use crate::ArrivalAnswer;
 use crate::Arrived;
 use crate::Refusal;
 use crate::State;
+use pie::Decided;
 use pie::LARGEST;
 use pie::LATEST;
 use pie::MOST_VERDICTS;
+use pie::Pie;
 use pie::Verdict;
 use pie::raise;
 use units::Bytes;
 use units::Micros;
+use units::Prob;
 ghost use mathlib.Core.Path.{_≡_};
 ghost use mathlib.Core.Bool.{cond, true};
 ghost use Prim.Native.Nat.{_≤_, _<_};
@@ -20,7 +23,7 @@ ghost use Rattle.pie.specs.Constants.{largest, mostVerdicts};
 ghost use Rattle.pie.specs.Verdicts.{admitted, total};
 ghost use Rattle.queue.specs.State.{wellFormed};
 ghost use Rattle.queue.specs.Answer.{arrivalReply, refusalIn};
-ghost use Rattle.queue.specs.Arrival.{arrival, arrivalRefusal, arrivedState, stored, tailPlace, verdictOf};
+ghost use Rattle.queue.specs.Arrival.{arrival, arrivalRefusal, arrivedPie, arrivedState, stored, tailPlace, verdictOf};
 
 // Whether the five counts, whose sum is in range, sum to 2^48.
 fn counts_full(counts: [u64; 5]) -> bool
@@ -66,38 +69,53 @@ impl State {
     }
 
     // Rules 1 to 7.
-    fn verdict(self, size: Bytes, ecn: bool, u: u32) -> Verdict
+    fn decide(self, size: Bytes, ecn: bool, u: u32) -> Decided
         requires { ⌜ wellFormed self ≡ true ⌝ }
         requires { ⌜ size .0 ≤ largest ⌝ }
-        ensures { λ r. ⌜ r ≡ verdictOf self (size .0) ecn u ⌝ }
+        ensures { λ r. ⌜ r .verdict ≡ verdictOf self (size .0) ecn u ⌝ }
+        ensures { λ r. ⌜ r .accumulated ≡ arrivedPie self (r .verdict) .accumulated ⌝ }
     {
         let settings = self.settings;
+        let pie = self.pie;
+        let accumulated = pie.accumulated;
         let bytes_full = settings.buffer.0 < self.backlog.bytes.0 + size.0;
         if bytes_full {
-            return Verdict::DroppedBytes;
+            return Decided {
+                verdict: Verdict::DroppedBytes,
+                accumulated,
+            };
         }
         let slots_full = self.backlog.count == settings.slots;
         if slots_full {
-            return Verdict::DroppedSlots;
+            return Decided {
+                verdict: Verdict::DroppedSlots,
+                accumulated,
+            };
         }
-        let pie = self.pie;
         pie.decide(settings.target, self.backlog.bytes, ecn, u)
     }
 
     // The state after an arrival with this verdict.
-    fn arrived(self, clock: Micros, size: Bytes, v: Verdict) -> State
+    fn arrived(self, clock: Micros, size: Bytes, v: Verdict, accumulated: Prob) -> State
         requires { ⌜ wellFormed self ≡ true ⌝ }
         requires { ⌜ (total (self .verdicts) < mostVerdicts) × (size .0 ≤ largest) ⌝ }
+        requires { ⌜ accumulated ≡ arrivedPie self v .accumulated ⌝ }
         ensures { λ r. ⌜ r ≡ arrivedState self (clock .0) (size .0) v ⌝ }
     {
         let counts = self.verdicts;
         let verdicts = raise(counts, v);
+        let before = self.pie;
+        let pie = Pie {
+            accumulated,
+            ..before
+        };
         let admits = v.admits();
         if admits {
             let queued = self.backlog;
             let backlog = queued.enter(size);
             return State {
                 clock,
+                pie,
                 backlog,
                 verdicts,
                 ..self
@@ -105,6 +123,7 @@ impl State {
         }
         State {
             clock,
+            pie,
             verdicts,
             ..self
         }
@@ -151,9 +170,11 @@ impl State {
                 state: self,
             },
             Accepted::Yes => {
-                let v = self.verdict(size, ecn, u);
+                let decided = self.decide(size, ecn, u);
+                let v = decided.verdict;
+                let accumulated = decided.accumulated;
                 self.store(handles, sizes, v, handle, size.0 as u32);
-                let state = self.arrived(clock, size, v);
+                let state = self.arrived(clock, size, v, accumulated);
                 Arrived {
                     answer: ArrivalAnswer::Decided(v),
                     state,

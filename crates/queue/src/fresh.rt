@@ -30,6 +30,7 @@ fn empty(settings: Settings, clock: Micros, allowance: Micros) -> State
         prob: Prob::NONE,
         old: Micros(0),
         allowance,
+        accumulated: Prob::NONE,
         rate,
     };
     let backlog = Backlog {

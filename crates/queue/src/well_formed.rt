@@ -5,6 +5,7 @@ use pie::FULL_ALLOWANCE;
 use pie::LARGEST;
 use pie::LATEST;
 use pie::LONGEST;
+use pie::MOST_ACCUMULATED;
 use pie::MOST_VERDICTS;
 use pie::Rate;
 use pie::THRESHOLD;
@@ -94,6 +95,7 @@ impl State {
             & (pie.prob.0 <= Prob::WHOLE.0)
             & (pie.old.0 <= LONGEST)
             & (pie.allowance.0 <= FULL_ALLOWANCE)
+            & (pie.accumulated.0 < MOST_ACCUMULATED)
             & (pie.rate.average.0 <= LONGEST)
             & (self.first < settings.slots)
             & (backlog.count <= settings.slots)

@@ -32,18 +32,19 @@ known : (c : tie.After-enum-told) →
     (at-start c .args .size .0)
 known c = arrival-accepted _ _ _ _ _ (sym (c .before .before .check-arrival .ensures) ∙ ap refusalIn (c .enum-told .given .1))
 
-verdict-requires : tie.Need-verdict-requires
-verdict-requires c κs = let k = known c in (k .formed, k .size-high)
+decide-requires : tie.Need-decide-requires
+decide-requires c κs = let k = known c in (k .formed, k .size-high)
 
 cast-store : tie.Need-cast-store
-cast-store c = let k = known (c .before .before .before .before) in omega arith
+cast-store c = let k = known (c .before .before .before .before .before) in omega arith
 
 store-requires : tie.Need-store-requires
-store-requires c κs = let k = known (c .before .before .before .before) in (k .formed, (k .handles, k .sizes))
+store-requires c κs = let k = known (c .before .before .before .before .before) in (k .formed, (k .handles, k .sizes))
 
 arrived-requires : tie.Need-arrived-requires
 arrived-requires c κs =
-    let k = known (c .before .before .before .before .before .before .before .before .before) in (k .formed, (k .total-low, k .size-high))
+    let d = c .before .before .before .before .before .before .before .before .before in
+    let k = known (d .before) in (k .formed, ((k .total-low, k .size-high), d .decide .ensures .1))
 
 returns : tie.Need-returns
 returns c =
@@ -59,13 +60,13 @@ same-length-2 c = search needs
 returns-2 : tie.Need-returns-2
 returns-2 c =
     let p = c .before .before .before .before .before in
-    let r = p .before .before .before .before in
+    let r = p .before .before .before .before .before in
     let e = r .before in
     let w = e .before .before in
     arrival-decided _ _ _ _ _ _ _ _ _ _ _ _ _
     (e .enum-told .given .1)
     (w .check-arrival .ensures)
-    (r .verdict .ensures)
+    (r .decide .ensures .0)
     (c .arrived .ensures)
     (p .store .ensures)
 
@@ -76,7 +77,7 @@ arrival-spec =
     check-arrival-requires
     enum-known-checked
     enum-told
-    verdict-requires
+    decide-requires
     cast-store
     store-requires
     arrived-requires

@@ -14,21 +14,23 @@ admits-requires c κs = search needs
 
 enter-requires : tie.Need-enter-requires
 enter-requires c κs =
-    let a = c .before .before .before .before .before in
+    let a = c .before .before .before .before .before .before .before .before .before .before in
     let f = facts (a .args .self) (a .pre .0) in omega arith
 
 returns : tie.Need-returns
 unfolding arrivedState
 returns c =
-    let n = c .before .before .before in
+    let n = c .before .before in
     let e = n .before .before in
-    simp (n .enter .ensures, e .before .before .raise .ensures, ← (e .before .admits .ensures), e .if1 .taken)
+    let r = e .before .before .before .before .before .before .before in
+    simp (n .enter .ensures, r .raise .ensures, r .before .before .pre .1 .1, ← (e .before .admits .ensures), e .if1 .taken)
 
 returns-2 : tie.Need-returns-2
 unfolding arrivedState
 returns-2 c =
-    let e = c .before .before .before .before in
-    simp (e .before .before .raise .ensures, ← (e .before .admits .ensures), e .if1 .left)
+    let e = c .before .before .before in
+    let r = e .before .before .before .before .before .before .before in
+    simp (r .raise .ensures, r .before .before .pre .1 .1, ← (e .before .admits .ensures), e .if1 .left)
 
 pub arrived-spec : {M : Type 1} → statement M
 arrived-spec = tie.close (tie.spec raise-requires admits-requires enter-requires returns returns-2)

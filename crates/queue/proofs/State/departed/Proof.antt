@@ -23,7 +23,14 @@ departed-is : (s : State) (clock size : ℕ) (b : Backlog) (r : Rate) →
       settings = s .settings;
       clock = micros clock;
       last = s .last;
-      pie = record { prob = s .pie .prob; old = s .pie .old; allowance = s .pie .allowance; rate = r };
+      pie =
+          record {
+            prob = s .pie .prob;
+            old = s .pie .old;
+            allowance = s .pie .allowance;
+            accumulated = s .pie .accumulated;
+            rate = r;
+          };
       backlog = b;
       first = (s .first + 1) % s .settings .slots;
       verdicts = s .verdicts;
@@ -41,32 +48,32 @@ depart-requires c κs =
 
 add-first : tie.Need-add-first
 add-first c =
-    let a = c .before .before .before .before .before .before .before .before .before in
+    let a = c .before .before .before .before .before .before .before .before .before .before in
     let f = facts (a .args .self) (a .pre .0) in omega arith
 
 cast-first : tie.Need-cast-first
 cast-first c =
-    let a = c .before .before .before .before .before .before .before .before .before in
+    let a = c .before .before .before .before .before .before .before .before .before .before in
     let f = facts (a .args .self) (a .pre .0) in omega arith
 
 cast-first-2 : tie.Need-cast-first-2
 cast-first-2 c =
-    let a = c .before .before .before .before .before .before .before .before .before .before in
+    let a = c .before .before .before .before .before .before .before .before .before .before .before in
     let f = facts (a .args .self) (a .pre .0) in omega arith
 
 rem-first : tie.Need-rem-first
 rem-first c =
-    let a = c .before .before .before .before .before .before .before .before .before .before in
+    let a = c .before .before .before .before .before .before .before .before .before .before .before in
     facts (a .args .self) (a .pre .0) .slots-low
 
 cast-first-3 : tie.Need-cast-first-3
 cast-first-3 c =
-    let s = c .before .before .before .before .before .before .before .before .before .before .args .self in
-    let f = facts s (c .before .before .before .before .before .before .before .before .before .before .pre .0) in omega (arith, mod-lt (s .first + 1) (f .slots-low))
+    let s = c .before .before .before .before .before .before .before .before .before .before .before .args .self in
+    let f = facts s (c .before .before .before .before .before .before .before .before .before .before .before .pre .0) in omega (arith, mod-lt (s .first + 1) (f .slots-low))
 
 returns : tie.Need-returns
 returns c =
-    let d = c .before .before .before .before .before .before .before .before in
+    let d = c .before .before .before .before .before .before .before .before .before in
     let l = d .before .before .before in
     let a = l .before .before .args in
     departed-is (a .self) (a .clock .0) (a .size .0) (l .leave .result) (d .depart .result) (l .leave .ensures) (d .depart .ensures)

@@ -8,7 +8,7 @@ use Prim.Native.Nat.{_*_, _≤_}
 use native.Mathlib.Omega.{arith}
 use lib.Dec.{eqb, leb, ltb}
 use Rattle.units.specs.Kinds.{whole}
-use Rattle.pie.specs.Constants.{fullAllowance, largest, latest, longest, mostVerdicts, threshold}
+use Rattle.pie.specs.Constants.{fullAllowance, largest, latest, longest, mostAccumulated, mostVerdicts, threshold}
 use Rattle.pie.specs.Verdicts.{total}
 use Rattle.queue.specs.State.{all, settingsConditions, wellFormed}
 use Rattle.queue.specs.declared.State.{State}
@@ -25,6 +25,7 @@ tests s =
     ∷ leb (s .pie .prob .0) whole
     ∷ leb (s .pie .old .0) longest
     ∷ leb (s .pie .allowance .0) fullAllowance
+    ∷ ltb (s .pie .accumulated .0) mostAccumulated
     ∷ leb (s .pie .rate .average .0) longest
     ∷ ltb (s .first) (s .settings .slots)
     ∷ leb (s .backlog .count) (s .settings .slots)
@@ -61,6 +62,7 @@ module _ (s : State) where
         le-leb (s .pie .prob .0) whole (f .prob-high),
         le-leb (s .pie .old .0) longest (f .old-high),
         le-leb (s .pie .allowance .0) fullAllowance (f .allowance-high),
+        lt-ltb (s .pie .accumulated .0) mostAccumulated (f .accumulated-high),
         le-leb (s .pie .rate .average .0) longest (f .average-high),
         lt-ltb (s .first) (s .settings .slots) (f .first-high),
         le-leb (s .backlog .count) (s .settings .slots) (f .count-high),
@@ -96,6 +98,7 @@ tests-hold s r m e passed h counted k =
       b 7,
       b 8,
       b 9,
+      b 10,
       le-leb (s .backlog .bytes .0) (largest * s .backlog .count) h,
       counted,
       and-true,
@@ -112,20 +115,20 @@ in-range-requires c κs = search needs
 
 returns-2 : tie.Need-returns-2
 returns-2 c =
-    let r = c .before .before .before .before .before .before .before .before .before .before .before .before .before .before .before in
+    let r = c .before .before .before .before .before .before .before .before .before .before .before .before .before .before .before .before in
     let s = r .before .before .before .before .before .before .before .args .self in
     tests-fail s (r .in-range .result) (r .in-range .ensures) (c .if2 .taken)
 
 mul-if3 : tie.Need-mul-if3
 mul-if3 c =
     let e2 = c .before in
-    let r = e2 .before .before .before .before .before .before .before .before .before .before .before .before .before .before .before in
+    let r = e2 .before .before .before .before .before .before .before .before .before .before .before .before .before .before .before .before in
     let s = r .before .before .before .before .before .before .before .args .self in
     let passed = not-false (foldl _&&_ (r .in-range .result) (tests s)) (e2 .if2 .left) in
     let settings = sym (r .in-range .ensures) ∙ first-of (r .in-range .result) (tests s) passed in
     omega (
       arith,
-      leb-true (s .backlog .count) (s .settings .slots) (at-from (r .in-range .result) (tests s) passed 7),
+      leb-true (s .backlog .count) (s .settings .slots) (at-from (r .in-range .result) (tests s) passed 8),
       leb-true (s .settings .slots) 65536 (all-at (settingsConditions (s .settings)) settings 5),
     )
 
@@ -139,7 +142,7 @@ returns-4 : tie.Need-returns-4
 returns-4 c =
     let e3 = c .before in
     let e2 = e3 .before .before .before in
-    let r = e2 .before .before .before .before .before .before .before .before .before .before .before .before .before .before .before in
+    let r = e2 .before .before .before .before .before .before .before .before .before .before .before .before .before .before .before .before in
     let e1 = r .before .before .before .before in
     tests-hold
     (e1 .before .before .before .args .self)
