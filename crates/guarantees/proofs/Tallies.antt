@@ -57,7 +57,7 @@ module _ (least n : ℕ) (t : Tally) (s : State) (told : Told least n t s) where
         target-high = told .target-high;
         counted = arrived-count size v .0;
         covered = arrived-count size v .1;
-        within = told .within;
+        within = record { prob-high = told .within .prob-high; old-none = told .within .old-none };
       }
 
   departed-told : (handlesLength sizesLength clock handle headSize : ℕ) → DepartureAccepted s handlesLength sizesLength clock headSize →

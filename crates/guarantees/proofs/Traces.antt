@@ -17,13 +17,13 @@ along P Q keep give s (c ∷ cs) p a m =
 
 -- ── equal lists ──
 
-nil-not-cons : {A : Type 0} {y : A} {ys : List A} → [] ≡ y ∷ ys → ⊥
+pub nil-not-cons : {A : Type 0} {y : A} {ys : List A} → [] ≡ y ∷ ys → ⊥
 nil-not-cons e = let z : _≡_ {A = ℕ} 0 1 = cc in omega arith
 
-same-head : {A : Type 0} {x y : A} {xs ys : List A} → x ∷ xs ≡ y ∷ ys → x ≡ y
+pub same-head : {A : Type 0} {x y : A} {xs ys : List A} → x ∷ xs ≡ y ∷ ys → x ≡ y
 same-head e = cc
 
-same-rest : {A : Type 0} {x y : A} {xs ys : List A} → x ∷ xs ≡ y ∷ ys → xs ≡ ys
+pub same-rest : {A : Type 0} {x y : A} {xs ys : List A} → x ∷ xs ≡ y ∷ ys → xs ≡ ys
 same-rest e = cc
 
 -- ── where a trace is cut ──

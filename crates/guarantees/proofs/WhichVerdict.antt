@@ -1,19 +1,21 @@
 -- Question 1: each rule's test says whether the rule holds, and the first that holds decides.
 use mathlib.Core.Path.{_≡_, refl, sym, subst, _∙_}
-use mathlib.Core.Bool.{Bool, true, false, cond, _&&_, false≢true}
+use mathlib.Core.Bool.{Bool, true, false, cond, _&&_, _||_, false≢true, true≢false}
 use mathlib.Core.Logic.{_⊎_, inl, inr, ⊎-elim}
-use Prim.Native.Nat.{ℕ, _*_}
+use Prim.Native.Nat.{ℕ, _*_, _<_}
 use native.Mathlib.Omega.{arith}
 use borrow.Author.Tests.{eqb-false, eqb-true, leb-false, leb-true, lt-ltb, ltb-false, ltb-true}
 use lib.Dec.{ltb}
 use Rattle.units.specs.Kinds.{tenth, whole}
-use Rattle.pie.specs.DropDecision.{dropDecision, early, earlyVerdict, inAllowance, isSmall, lightlyLoaded, marks}
+use Rattle.pie.specs.DropDecision.{drawn, dropDecision, early, earlyVerdict, inAllowance, isSmall, lightlyLoaded, marks, spared}
+use Rattle.pie.specs.DropDecision.{sumIsHigh, sumIsLow, sumOf}
 use Rattle.pie.specs.declared.Verdict.{Verdict}
 use Rattle.pie.specs.declared.Verdict.the-variants.{Enqueued, Marked, DroppedBytes, DroppedSlots, DroppedEarly}
 use Rattle.laws.proofs.Tests.{and-left, and-right}
 use Rattle.queue.specs.declared.State.{State}
 use Rattle.queue.specs.Arrival.{bytesFull, slotsFull, verdictOf}
-use Rattle.guarantees.specs.WhichVerdict.{Grounds, Marks, Rule1, Rule2, Rule3, Rule4, Rule5, Rule6, WhichVerdict}
+use Rattle.guarantees.specs.WhichVerdict.{EarlyGrounds, Grounds, HighSum, LowSum, Marks, WhichVerdict}
+use Rattle.guarantees.specs.WhichVerdict.{Rule1, Rule2, Rule3, Rule4, Rule5, Rule6}
 use Rattle.guarantees.proofs.Replies.{decided-verdict}
 
 -- ── tests ──
@@ -37,8 +39,9 @@ by-test {t = false} Q x y says h k = k (says .1 refl)
 both : (a b : Bool) → a ≡ true → b ≡ true → a && b ≡ true
 both a b e f = rw (e, f)
 
-none-of-four : {A B C D : Type 0} → ¬ A → ¬ B → ¬ C → ¬ D → ¬ (A ⊎ B ⊎ C ⊎ D)
-none-of-four a b c d = ⊎-elim a (⊎-elim b (⊎-elim c d))
+either-says : {a b : Bool} {P Q : Type 0} → Says a P → Says b Q → Says (a || b) (P ⊎ Q)
+either-says {a = true} says also = (λ e. inl (says .0 refl), λ e. absurd (true≢false e))
+either-says {a = false} says also = (λ e. inr (also .0 e), λ e. ⊎-elim (says .1 refl) (also .1 e))
 
 module _ (s : State) (size : ℕ) (ecn : Bool) (u : ℕ) where
   -- ── what the test of each rule says ──
@@ -69,8 +72,17 @@ module _ (s : State) (size : ℕ) (ecn : Bool) (u : ℕ) where
   rule-5 : Says (isSmall (s .backlog .bytes .0)) (Rule5 s)
   rule-5 = omega (arith, leb-true, leb-false)
 
-  rule-6 : Says (early (s .pie .prob .0) u) (Rule6 s u)
-  rule-6 = omega (arith, ltb-true, ltb-false)
+  rules-3-to-5 : Says (spared (s .pie) (s .settings .target .0) (s .backlog .bytes .0)) ((Rule3 s ⊎ Rule4 s) ⊎ Rule5 s)
+  rules-3-to-5 = either-says (either-says rule-3 rule-4) rule-5
+
+  low-sum : Says (sumIsLow (sumOf (s .pie))) (LowSum s)
+  low-sum = omega (arith, ltb-true, ltb-false)
+
+  high-sum : Says (sumIsHigh (sumOf (s .pie))) (HighSum s)
+  high-sum = omega (arith, leb-true, leb-false)
+
+  u-early : Says (early (s .pie .prob .0) u) (u < s .pie .prob .0)
+  u-early = omega (arith, ltb-true, ltb-false)
 
   tests-marks : Marks s ecn → marks (s .pie .prob .0) ecn ≡ true
   tests-marks h = both ecn _ (h .0) (lt-ltb (s .pie .prob .0) tenth (h .1))
@@ -87,53 +99,58 @@ module _ (s : State) (size : ℕ) (ecn : Bool) (u : ℕ) where
   abbrev Q : Verdict → Type 0
   Q = Grounds s size ecn u
 
+  spares : (Rule3 s ⊎ Rule4 s) ⊎ Rule5 s → Rule3 s ⊎ Rule4 s ⊎ Rule5 s ⊎ ¬ Rule6 s u
+  spares = ⊎-elim (⊎-elim inl (λ h4. inr (inl h4))) (λ h5. inr (inr (inl h5)))
+
+  none-spares : ¬ ((Rule3 s ⊎ Rule4 s) ⊎ Rule5 s) → ¬ Rule3 s × ¬ Rule4 s × ¬ Rule5 s
+  none-spares f = (λ h3. f (inl (inl h3)), λ h4. f (inl (inr h4)), λ h5. f (inr h5))
+
   -- the verdict has its grounds
   grounds : Q (verdictOf s size ecn u)
-  unfolding verdictOf dropDecision
+  unfolding verdictOf dropDecision drawn
   grounds =
       by-test Q DroppedBytes _ rule-1 (λ h1. search)
       (λ f1. by-test Q DroppedSlots _ rule-2 (λ h2. search)
-      (λ f2. by-test Q Enqueued _ rule-3 (λ h3. search inl)
-      (λ f3. by-test Q Enqueued _ rule-4 (λ h4. search (inl, inr))
-      (λ f4. by-test Q Enqueued _ rule-5 (λ h5. search (inl, inr))
-      (λ f5. by-test Q (earlyVerdict (s .pie .prob .0) ecn) Enqueued rule-6
-      (λ h6. by-test Q Marked DroppedEarly rule-6-marks (λ m. search) (λ n. search))
-      (λ f6. search inr))))))
+      (λ f2. by-test Q Enqueued _ rules-3-to-5 (λ h. (f1, f2, spares h))
+      (λ f. by-test Q Enqueued _ low-sum (λ low. (f1, f2, inr (inr (inr (λ r6. r6 .0 low)))))
+      (λ due. by-test Q (earlyVerdict (s .pie .prob .0) ecn) Enqueued (either-says high-sum u-early)
+      (λ e.
+      let n = none-spares f in
+      by-test Q Marked DroppedEarly rule-6-marks
+      (λ m. ((f1, f2, n .0, n .1, n .2, (due, e)), m))
+      (λ m. ((f1, f2, n .0, n .1, n .2, (due, e)), m)))
+      (λ f6. (f1, f2, inr (inr (inr (λ r6. f6 (r6 .1))))))))))
+
+  -- past rules 1 to 5
+  drawn-given : ¬ Rule1 s size → ¬ Rule2 s → ¬ Rule3 s → ¬ Rule4 s → ¬ Rule5 s → verdictOf s size ecn u ≡ drawn (s .pie) ecn u
+  unfolding verdictOf dropDecision
+  drawn-given f1 f2 f3 f4 f5 = rw (fails rule-1 f1, fails rule-2 f2, fails rules-3-to-5 (⊎-elim (⊎-elim f3 f4) f5))
+
+  early-given : EarlyGrounds s size u → verdictOf s size ecn u ≡ earlyVerdict (s .pie .prob .0) ecn
+  unfolding drawn
+  early-given (f1, f2, f3, f4, f5, (due, e)) =
+      drawn-given f1 f2 f3 f4 f5 ∙ rw (fails low-sum due, holds (either-says high-sum u-early) e)
+
+  enqueued-given : Rule3 s ⊎ Rule4 s ⊎ Rule5 s ⊎ ¬ Rule6 s u → dropDecision (s .pie) (s .settings .target .0) (s .backlog .bytes .0) ecn u ≡ Enqueued
+  unfolding dropDecision drawn
+  enqueued-given g =
+      let E : Verdict → Type 0 = λ v. v ≡ Enqueued in
+      by-test E Enqueued _ rules-3-to-5 (λ h. refl)
+      (λ f. by-test E Enqueued _ low-sum (λ low. refl)
+      (λ due. by-test E (earlyVerdict (s .pie .prob .0) ecn) Enqueued (either-says high-sum u-early)
+      (λ e.
+      let n = none-spares f in
+      absurd (⊎-elim (n .0) (⊎-elim (n .1) (⊎-elim (n .2) (λ f6. f6 (due, e)))) g))
+      (λ f6. refl)))
 
   -- where a verdict has its grounds, it is given
   given : (w : Verdict) → Q w → verdictOf s size ecn u ≡ w
-  unfolding verdictOf dropDecision
+  unfolding verdictOf
   given DroppedBytes g = rw (holds rule-1 (search))
   given DroppedSlots g = rw (fails rule-1 (search), holds rule-2 (search))
-  given Enqueued g =
-      let E : Verdict → Type 0 = λ v. v ≡ Enqueued in
-      rw (fails rule-1 (search), fails rule-2 (search))
-      (by-test E Enqueued _ rule-3 (λ h3. refl)
-      (λ f3. by-test E Enqueued _ rule-4 (λ h4. refl)
-      (λ f4. by-test E Enqueued _ rule-5 (λ h5. refl)
-      (λ f5. by-test E (earlyVerdict (s .pie .prob .0) ecn) Enqueued rule-6
-      (λ h6. absurd (none-of-four f3 f4 f5 (λ (f6 : ¬ Rule6 s u). f6 h6) (search)))
-      (λ f6. refl)))))
-  given Marked g =
-      rw (
-        fails rule-1 (search),
-        fails rule-2 (search),
-        fails rule-3 (search),
-        fails rule-4 (search),
-        fails rule-5 (search),
-        holds rule-6 (search),
-        holds rule-6-marks (search),
-      )
-  given DroppedEarly g =
-      rw (
-        fails rule-1 (search),
-        fails rule-2 (search),
-        fails rule-3 (search),
-        fails rule-4 (search),
-        fails rule-5 (search),
-        holds rule-6 (search),
-        fails rule-6-marks (search),
-      )
+  given Enqueued (f1, f2, g) = rw (fails rule-1 f1, fails rule-2 f2) (enqueued-given g)
+  given Marked (g, m) = early-given g ∙ rw (holds rule-6-marks m)
+  given DroppedEarly (g, m) = early-given g ∙ rw (fails rule-6-marks m)
 
 pub which-verdict : WhichVerdict
 which-verdict s handles sizes clock handle size ecn u v e w =

@@ -24,3 +24,4 @@ pub mod FirstInFirstOut
 pub mod Conservation
 pub mod MeasuredWhileQueued
 pub mod NeverGivenUp
+pub mod Spacing

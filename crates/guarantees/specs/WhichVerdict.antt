@@ -6,7 +6,7 @@ use mathlib.Core.List.{List}
 use mathlib.Core.Logic.{_⊎_, _↔_}
 use Prim.Native.Nat.{ℕ, _+_, _*_, _≤_, _<_}
 use Rattle.units.specs.Kinds.{tenth, whole}
-use Rattle.pie.specs.Constants.{smallQueue}
+use Rattle.pie.specs.Constants.{mostAccumulated, smallQueue}
 use Rattle.pie.specs.declared.Verdict.{Verdict}
 use Rattle.pie.specs.declared.Verdict.the-variants.{Enqueued, Marked, DroppedBytes, DroppedSlots, DroppedEarly}
 use Rattle.queue.specs.declared.State.{State}
@@ -29,8 +29,17 @@ Rule4 s = (2 * s .pie .old .0 < s .settings .target .0) × (5 * s .pie .prob .0 
 abbrev pub Rule5 : State → Type 0
 Rule5 s = s .backlog .bytes .0 ≤ smallQueue
 
+-- after rule 5 the probability is added to the accumulated one (Q-3): below 0.85 the sum enqueues
+abbrev pub LowSum : State → Type 0
+LowSum s = 20 * (s .pie .accumulated .0 + s .pie .prob .0) < 17 * whole
+
+-- at 8.5 or more it is early whatever u is
+abbrev pub HighSum : State → Type 0
+HighSum s = mostAccumulated ≤ s .pie .accumulated .0 + s .pie .prob .0
+
+-- otherwise u decides
 abbrev pub Rule6 : State → (u : ℕ) → Type 0
-Rule6 s u = u < s .pie .prob .0
+Rule6 s u = ¬ LowSum s × (HighSum s ⊎ (u < s .pie .prob .0))
 
 -- rule 6 marks an ECN-capable packet while the probability is below one tenth (Q-2); any other it drops
 abbrev pub Marks : State → (ecn : Bool) → Type 0

@@ -76,7 +76,7 @@ impl Situation {
         Situation { allowance, ..self }
     }
 
-    // One packet holds all the bytes; the clock and the last tick are 0.
+    // One packet holds all the bytes; the clock and the last tick are 0; the accumulated probability is 2^32.
     pub fn state(self) -> State {
         let rate = Rate {
             average: Micros(self.average),
@@ -88,6 +88,7 @@ impl Situation {
             prob: Prob(self.prob),
             old: Micros(self.old),
             allowance: Micros(self.allowance),
+            accumulated: Prob::WHOLE,
             rate,
         };
         let count = if self.bytes == 0 { 0 } else { 1 };
