@@ -1,4 +1,4 @@
--- The state record as twenty words, in the order of struct obikuteru_state.
+-- The state record as twenty-one words, in the order of struct obikuteru_state.
 use mathlib.Core.Bool.{Bool, not, cond}
 use mathlib.Core.List.{List, [], _∷_}
 use Prim.Native.Nat.{ℕ, _+_}
@@ -20,20 +20,26 @@ isSet word = not (eqb word 0)
 abbrev pub rateOf : (words : List ℕ) → Rate
 rateOf w =
     record {
-      average = micros (getD w 8 0);
-      measuring = isSet (getD w 9 0);
-      start = micros (getD w 10 0);
-      counted = bytes (getD w 11 0);
+      average = micros (getD w 9 0);
+      measuring = isSet (getD w 10 0);
+      start = micros (getD w 11 0);
+      counted = bytes (getD w 12 0);
     }
 
 abbrev pub pieOf : (words : List ℕ) → Pie
 pieOf w =
-    record { prob = prob (getD w 5 0); old = micros (getD w 6 0); allowance = micros (getD w 7 0); rate = rateOf w }
+    record {
+      prob = prob (getD w 5 0);
+      old = micros (getD w 6 0);
+      allowance = micros (getD w 7 0);
+      accumulated = prob (getD w 8 0);
+      rate = rateOf w;
+    }
 
 abbrev pub backlogOf : (words : List ℕ) → Backlog
-backlogOf w = record { count = getD w 12 0; bytes = bytes (getD w 13 0) }
+backlogOf w = record { count = getD w 13 0; bytes = bytes (getD w 14 0) }
 
--- the state that twenty words hold
+-- the state that twenty-one words hold
 unfoldable pub stateOf : (words : List ℕ) → State
 stateOf w =
     record {
@@ -42,15 +48,15 @@ stateOf w =
       last = micros (getD w 4 0);
       pie = pieOf w;
       backlog = backlogOf w;
-      first = getD w 14 0;
-      verdicts = getD w 15 0 ∷ getD w 16 0 ∷ getD w 17 0 ∷ getD w 18 0 ∷ getD w 19 0 ∷ [];
+      first = getD w 15 0;
+      verdicts = getD w 16 0 ∷ getD w 17 0 ∷ getD w 18 0 ∷ getD w 19 0 ∷ getD w 20 0 ∷ [];
     }
 
 -- the word `measuring`: left as it is where it says so already, else 1 or 0
 abbrev pub flagWord : (word : ℕ) (runs : Bool) → ℕ
 flagWord word runs = cond (isSet word) (cond runs word 0) (cond runs 1 0)
 
--- the twenty words of a state, written over these
+-- the twenty-one words of a state, written over these
 unfoldable pub stateWords : (words : List ℕ) → State → List ℕ
 stateWords w s =
     s .settings .target .0
@@ -61,8 +67,9 @@ stateWords w s =
     ∷ s .pie .prob .0
     ∷ s .pie .old .0
     ∷ s .pie .allowance .0
+    ∷ s .pie .accumulated .0
     ∷ s .pie .rate .average .0
-    ∷ flagWord (getD w 9 0) (s .pie .rate .measuring)
+    ∷ flagWord (getD w 10 0) (s .pie .rate .measuring)
     ∷ s .pie .rate .start .0
     ∷ s .pie .rate .counted .0
     ∷ s .backlog .count
@@ -75,8 +82,9 @@ stateWords w s =
     ∷ getD (s .verdicts) 4 0
     ∷ []
 
--- the words that an arrival with this verdict changes: clock, count, bytes and the verdict's count
+-- the words that an arrival with this verdict changes: clock, accumulated probability, count, bytes and the verdict's count
 abbrev pub arrivalWords : (words : List ℕ) → State → Verdict → List ℕ
 arrivalWords w s v =
-    let next = set (set (set w 3 (s .clock .0)) 12 (s .backlog .count)) 13 (s .backlog .bytes .0) in
-    set next (15 + placeOf v) (getD next (15 + placeOf v) 0 + 1)
+    let early = set (set w 3 (s .clock .0)) 8 (s .pie .accumulated .0) in
+    let next = set (set early 13 (s .backlog .count)) 14 (s .backlog .bytes .0) in
+    set next (16 + placeOf v) (getD next (16 + placeOf v) 0 + 1)

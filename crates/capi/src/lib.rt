@@ -26,9 +26,9 @@ ghost use Rattle.queue.specs.Tick.{tick};
 ghost use Rattle.capi.specs.Words.{arrivalWords, flagWord, stateOf, stateWords};
 ghost use Rattle.capi.specs.Codes.{codeOf, packetOf, wordsAfter};
 
-// The state that the words hold, and that they are twenty.
-fn decode(w: [u64; 20]) -> State
-    ensures { λ r. ⌜ (r ≡ stateOf w) × (length w ≡ 20) ⌝ }
+// The state that the words hold, and that they are twenty-one.
+fn decode(w: [u64; 21]) -> State
+    ensures { λ r. ⌜ (r ≡ stateOf w) × (length w ≡ 21) ⌝ }
 {
     let settings = Settings {
         target: Micros(w[0]),
@@ -36,29 +36,30 @@ fn decode(w: [u64; 20]) -> State
         slots: w[2],
     };
     let rate = Rate {
-        average: Micros(w[8]),
-        measuring: w[9] != 0,
-        start: Micros(w[10]),
-        counted: Bytes(w[11]),
+        average: Micros(w[9]),
+        measuring: w[10] != 0,
+        start: Micros(w[11]),
+        counted: Bytes(w[12]),
     };
     let pie = Pie {
         prob: Prob(w[5]),
         old: Micros(w[6]),
         allowance: Micros(w[7]),
+        accumulated: Prob(w[8]),
         rate,
     };
     let backlog = Backlog {
-        count: w[12],
-        bytes: Bytes(w[13]),
+        count: w[13],
+        bytes: Bytes(w[14]),
     };
-    let verdicts = [w[15], w[16], w[17], w[18], w[19]];
+    let verdicts = [w[16], w[17], w[18], w[19], w[20]];
     State {
         settings,
         clock: Micros(w[3]),
         last: Micros(w[4]),
         pie,
         backlog,
-        first: w[14],
+        first: w[15],
         verdicts,
     }
 }
@@ -78,7 +79,7 @@ fn flag(word: u64, runs: bool) -> u64
 }
 
 // The words of a state.
-fn encode(w: &mut [u64; 20], s: State)
+fn encode(w: &mut [u64; 21], s: State)
     ensures { λ _. ⌜ now (w .exit) ≡ stateWords (now (w .entry)) s ⌝ }
 {
     let v0 = s.verdicts[0];
@@ -86,7 +87,7 @@ fn encode(w: &mut [u64; 20], s: State)
     let v2 = s.verdicts[2];
     let v3 = s.verdicts[3];
     let v4 = s.verdicts[4];
-    let runs = flag(w[9], s.pie.rate.measuring);
+    let runs = flag(w[10], s.pie.rate.measuring);
     *w = [
         s.settings.target.0,
         s.settings.buffer.0,
@@ -96,6 +97,7 @@ fn encode(w: &mut [u64; 20], s: State)
         s.pie.prob.0,
         s.pie.old.0,
         s.pie.allowance.0,
+        s.pie.accumulated.0,
         s.pie.rate.average.0,
         runs,
         s.pie.rate.start.0,
@@ -112,16 +114,17 @@ fn encode(w: &mut [u64; 20], s: State)
 }
 
 // The words that an arrival with this verdict changes: fewer than `encode` writes, since the tables were written before.
-fn write_arrival(w: &mut [u64; 20], s: State, v: Verdict) -> u32
-    requires { ⌜ getD (now w) (15 + placeOf v) 0 < mostVerdicts ⌝ }
+fn write_arrival(w: &mut [u64; 21], s: State, v: Verdict) -> u32
+    requires { ⌜ getD (now w) (16 + placeOf v) 0 < mostVerdicts ⌝ }
     ensures { λ r. ⌜ r ≡ placeOf v ⌝ }
     ensures { λ _. ⌜ now (w .exit) ≡ arrivalWords (now (w .entry)) s v ⌝ }
 {
     let place = v.place();
-    let at = 15 + place;
+    let at = 16 + place;
     w[3] = s.clock.0;
-    w[12] = s.backlog.count;
-    w[13] = s.backlog.bytes.0;
+    w[8] = s.pie.accumulated.0;
+    w[13] = s.backlog.count;
+    w[14] = s.backlog.bytes.0;
     w[at] = w[at] + 1;
     place as u32
 }
@@ -135,7 +138,7 @@ fn refused(r: Refusal) -> u32
 
 #[no_mangle]
 pub extern "C" fn obikuteru_fresh(
-    words: &mut [u64; 20],
+    words: &mut [u64; 21],
     target: u64,
     buffer: u64,
     slots: u64,
@@ -156,7 +159,7 @@ pub extern "C" fn obikuteru_fresh(
 
 #[no_mangle]
 pub extern "C" fn obikuteru_arrival(
-    words: &mut [u64; 20],
+    words: &mut [u64; 21],
     handles: &mut [u32],
     sizes: &mut [u32],
     clock: u64,
@@ -191,7 +194,7 @@ pub extern "C" fn obikuteru_arrival(
 
 #[no_mangle]
 pub extern "C" fn obikuteru_departure(
-    words: &mut [u64; 20],
+    words: &mut [u64; 21],
     handles: &[u32],
     sizes: &[u32],
     clock: u64,
@@ -222,7 +225,7 @@ pub extern "C" fn obikuteru_departure(
 }
 
 #[no_mangle]
-pub extern "C" fn obikuteru_tick(words: &mut [u64; 20], clock: u64) -> u32
+pub extern "C" fn obikuteru_tick(words: &mut [u64; 21], clock: u64) -> u32
     ensures { λ r. ⌜ (let a = tick (stateOf (now (words .entry))) clock in
         (r ≡ codeOf (a .answer)) × (now (words .exit) ≡ wordsAfter a (now (words .entry)))) ⌝ }
 {
@@ -240,7 +243,7 @@ pub extern "C" fn obikuteru_tick(words: &mut [u64; 20], clock: u64) -> u32
 }
 
 #[no_mangle]
-pub extern "C" fn obikuteru_well_formed(words: &[u64; 20]) -> bool
+pub extern "C" fn obikuteru_well_formed(words: &[u64; 21]) -> bool
     ensures { λ r. ⌜ r ≡ wellFormed (stateOf (now (words .entry))) ⌝ }
 {
     let s = decode(*words);

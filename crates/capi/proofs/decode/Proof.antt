@@ -41,29 +41,32 @@ array-read-t14-3 c = search needs
 array-read-t10-4 : tie.Need-array-read-t10-4
 array-read-t10-4 c = search needs
 
-array-read-t29-3 : tie.Need-array-read-t29-3
-array-read-t29-3 c = search needs
-
 array-read-t18-4 : tie.Need-array-read-t18-4
 array-read-t18-4 c = search needs
-
-array-read-t10-5 : tie.Need-array-read-t10-5
-array-read-t10-5 c = search needs
 
 array-read-t14-4 : tie.Need-array-read-t14-4
 array-read-t14-4 c = search needs
 
-array-read-t51 : tie.Need-array-read-t51
-array-read-t51 c = search needs
+array-read-t29-3 : tie.Need-array-read-t29-3
+array-read-t29-3 c = search needs
 
-array-read-t29-4 : tie.Need-array-read-t29-4
-array-read-t29-4 c = search needs
+array-read-t18-5 : tie.Need-array-read-t18-5
+array-read-t18-5 c = search needs
+
+array-read-t10-5 : tie.Need-array-read-t10-5
+array-read-t10-5 c = search needs
+
+array-read-t54 : tie.Need-array-read-t54
+array-read-t54 c = search needs
 
 array-read-t14-5 : tie.Need-array-read-t14-5
 array-read-t14-5 c = search needs
 
 array-read-t10-6 : tie.Need-array-read-t10-6
 array-read-t10-6 c = search needs
+
+array-read-t18-6 : tie.Need-array-read-t18-6
+array-read-t18-6 c = search needs
 
 returns : tie.Need-returns
 unfolding stateOf
@@ -85,12 +88,13 @@ decode-spec =
     array-read-t29-2
     array-read-t14-3
     array-read-t10-4
-    array-read-t29-3
     array-read-t18-4
-    array-read-t10-5
     array-read-t14-4
-    array-read-t51
-    array-read-t29-4
+    array-read-t29-3
+    array-read-t18-5
+    array-read-t10-5
+    array-read-t54
     array-read-t14-5
     array-read-t10-6
+    array-read-t18-6
     returns)

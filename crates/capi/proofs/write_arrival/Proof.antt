@@ -1,4 +1,4 @@
--- `write_arrival`: four words are written, one after the other.
+-- `write_arrival`: five words are written, one after the other.
 use Prim.Native.Nat.{_+_, _≤_}
 use native.Mathlib.Omega.{arith}
 use Rattle.capi.proofs.Words.{past-writes}
@@ -21,6 +21,9 @@ element-write-w-2 c = search needs
 element-write-w-3 : tie.Need-element-write-w-3
 element-write-w-3 c = search needs
 
+element-write-w-4 : tie.Need-element-write-w-4
+element-write-w-4 c = search needs
+
 mul-w : tie.Need-mul-w
 mul-w c = search needs
 
@@ -31,13 +34,13 @@ add-w : tie.Need-add-w
 add-w c =
     let a = c .before .before in
     let p = c .before .place in
-    let past : 14 ≤ 15 + p .result = omega arith in rw (past-writes, p .ensures .0) (omega (arith, a .pre))
+    let past : 15 ≤ 16 + p .result = omega arith in rw (past-writes, p .ensures .0) (omega (arith, a .pre))
 
 mul-w-2 : tie.Need-mul-w-2
 mul-w-2 c = search needs
 
-element-write-w-4 : tie.Need-element-write-w-4
-element-write-w-4 c = search needs
+element-write-w-5 : tie.Need-element-write-w-5
+element-write-w-5 c = search needs
 
 cast-result : tie.Need-cast-result
 cast-result c = search needs
@@ -55,10 +58,11 @@ write-arrival-spec =
     element-write-w
     element-write-w-2
     element-write-w-3
+    element-write-w-4
     mul-w
     element-copy-out-w
     add-w
     mul-w-2
-    element-write-w-4
+    element-write-w-5
     cast-result
     returns)
