@@ -33,7 +33,7 @@ pub decoding : Decoding
 unfolding stateOf stateWords
 decoding =
     record {
-      decodes = λ w s h. rw (flag-says (getD w 9 0) (s .pie .rate .measuring), five-written (s .verdicts) h);
+      decodes = λ w s h. rw (flag-says (getD w 10 0) (s .pie .rate .measuring), five-written (s .verdicts) h);
       five = λ w. refl;
-      twenty = λ w s. refl;
+      twenty-one = λ w s. refl;
     }

@@ -16,14 +16,14 @@ abbrev pub allowanceIn : (words : List ℕ) → ℕ
 allowanceIn w = getD w 7 0
 
 abbrev pub countIn : (words : List ℕ) → ℕ
-countIn w = getD w 12 0
+countIn w = getD w 13 0
 
 abbrev pub bytesIn : (words : List ℕ) → ℕ
-bytesIn w = getD w 13 0
+bytesIn w = getD w 14 0
 
 abbrev pub firstIn : (words : List ℕ) → ℕ
-firstIn w = getD w 14 0
+firstIn w = getD w 15 0
 
 -- verdicts[i]
 abbrev pub verdictsIn : (words : List ℕ) (i : ℕ) → ℕ
-verdictsIn w i = getD w (15 + i) 0
+verdictsIn w i = getD w (16 + i) 0
