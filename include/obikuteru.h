@@ -75,7 +75,7 @@ extern "C" {
 #endif
 
 /* Raised whenever the layout or the meaning of the state record changes. */
-#define OBIKUTERU_RECORD_VERSION 1u
+#define OBIKUTERU_RECORD_VERSION 2u
 
 /* Least time from one accepted tick to the next. */
 #define OBIKUTERU_TICK_PERIOD 15000u
@@ -93,6 +93,7 @@ struct obikuteru_state {
     uint64_t probability; /* drop probability, 0 to 2^32 */
     uint64_t old_delay;   /* queueing delay at the last tick, at most 10,000,000 */
     uint64_t allowance;   /* burst allowance that is left, at most 150,000 */
+    uint64_t accumulated; /* probabilities since the last early verdict, below 36,507,222,016 */
     uint64_t average;     /* average time for 16,384 bytes to leave; 0: none measured yet */
     uint64_t measuring;   /* not 0: a measurement of the departure rate runs; 0 where count is 0 */
     uint64_t start;       /* clock at which it started; 0 if none runs */
