@@ -82,7 +82,7 @@ impl Coverage {
         let both = (true, true);
         let single = (false, true);
         coverage.add("verdict", both, owned(&events::VERDICTS));
-        coverage.add("arrival rule", both, numbered(&[1, 2, 3, 4, 5, 6, 7], 8));
+        coverage.add("arrival rule", both, owned(&events::RULES));
         for (kind, name) in
             ["refusal of fresh", "refusal of arrival", "refusal of departure", "refusal of tick"]
                 .into_iter()
@@ -106,6 +106,7 @@ impl Coverage {
         coverage.add("tables of whole pages", both, owned(&events::WHOLE_PAGES));
         coverage.add("early packet beside one tenth", single, owned(&events::EARLY));
         coverage.add("measurement, few packets left", single, owned(&events::GIVEN_UP));
+        coverage.add("sum of probabilities", single, owned(&events::SUMS));
         coverage
     }
 
@@ -161,7 +162,7 @@ impl Coverage {
         match call {
             Call::Arrival { packet, .. } => {
                 self.hit(VERDICTS, after.answer as usize);
-                self.hit(RULES, model::deciding_rule(state, packet));
+                self.hit(RULES, model::deciding_rule(state, packet) as usize);
             }
             Call::Tick { .. } => {
                 let band = model::band(state.probability);

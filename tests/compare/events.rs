@@ -1,11 +1,15 @@
 //! Names the things that happen at a call, from the state before it and the state after it.
 
 use crate::guard::PAGE;
-use crate::model::{self, State};
+use crate::model::{self, Arriving, Rule, State};
 use crate::side::{Call, Side};
 
 pub const VERDICTS: [&str; 5] =
     ["enqueued", "marked", "dropped, bytes", "dropped, slots", "dropped, early"];
+
+/// In the order of `model::Rule`.
+pub const RULES: [&str; 9] =
+    ["1", "2", "3", "4", "5", "sum below 0.85", "sum of 8.5 and more", "6", "7"];
 
 pub const MEASUREMENT: [&str; 5] = [
     "none runs and none starts",
@@ -30,7 +34,7 @@ pub const GIVEN_UP: [&str; 10] = [
     "one packet left: ends at 16,384",
 ];
 
-pub const EVENTS: [&str; 21] = [
+pub const EVENTS: [&str; 25] = [
     "fresh accepted",
     "allowance loses 15,000",
     "allowance stays at 0",
@@ -52,6 +56,10 @@ pub const EVENTS: [&str; 21] = [
     "tick exactly when due",
     "clock 2^48 accepted",
     "ECN-capable packet dropped early",
+    "sum set to 0 by a drop",
+    "sum set to 0 by a mark",
+    "dropped early though u is not below the probability",
+    "marked though u is not below the probability",
 ];
 
 pub const RUN_EVENTS: [&str; 1] = ["arrival after 1,000 ticks with an empty queue"];
@@ -76,7 +84,31 @@ pub const EARLY: [&str; 4] = [
     "not ECN-capable and dropped at probability 429,496,730",
 ];
 
-pub const ENDS: [&str; 32] = [
+/// What the sum of probabilities did where it acts, and where it must not.
+pub const SUMS: [&str; 20] = [
+    "3,650,722,201: enqueued though u is below the probability",
+    "3,650,722,202: early, u is below the probability",
+    "3,650,722,202: enqueued, u is not below it",
+    "36,507,222,015: early, u is below the probability",
+    "36,507,222,015: enqueued, u is not below it",
+    "36,507,222,016: dropped though u is not below it",
+    "36,507,222,016: marked though u is not below it",
+    "the greatest: early",
+    "8.5 and more at 429,496,729: marked",
+    "8.5 and more at 429,496,730: dropped, ECN-capable",
+    "0.85 and more at probability 0: enqueued with u 0",
+    "low sum raised",
+    "sum raised above 0.85",
+    "as it was by rule 1",
+    "as it was by rule 2",
+    "as it was by rule 3",
+    "as it was by rule 4",
+    "as it was by rule 5",
+    "rules 1 to 5 decide where it would be 8.5 and more",
+    "rules 3 to 5 enqueue where u would be early",
+];
+
+pub const ENDS: [&str; 34] = [
     "target 1,000",
     "target 100,000",
     "buffer 1",
@@ -92,6 +124,8 @@ pub const ENDS: [&str; 32] = [
     "old delay 10,000,000",
     "allowance 0",
     "allowance 150,000",
+    "accumulated 0",
+    "accumulated 36,507,222,015",
     "average 0",
     "average 10,000,000",
     "first 0",
@@ -116,8 +150,8 @@ pub const WHOLE_PAGES: [&str; 4] =
     ["first element written", "last element written", "first element read", "last element read"];
 
 /// Adds each thing found as a pair: its list (0 is `MEASUREMENT`, 1 `EVENTS`, 2 `RUN_EVENTS`,
-/// 3 `SINGLE_EVENTS`, 4 `ENDS`, 5 `WHOLE_PAGES`, 6 `EARLY`, 7 `GIVEN_UP`) and its place in that
-/// list.
+/// 3 `SINGLE_EVENTS`, 4 `ENDS`, 5 `WHOLE_PAGES`, 6 `EARLY`, 7 `GIVEN_UP`, 8 `SUMS`) and its place
+/// in that list.
 pub fn found(before: &Side, call: &Call, after: &Side, hits: &mut Vec<(usize, usize)>) {
     let accepted = after.answer < 100;
     let mut events = Vec::new();
@@ -126,8 +160,8 @@ pub fn found(before: &Side, call: &Call, after: &Side, hits: &mut Vec<(usize, us
         Call::Fresh { .. } if accepted => events.push((true, 0)),
         Call::Arrival { packet, .. } if accepted => {
             arrival(&before.state, &after.state, &mut events);
-            events.push((packet.ecn && after.answer == 4, 20));
-            early(before.state.probability, packet.ecn, after.answer, hits);
+            early(&before.state, packet, after, &mut events, hits);
+            sums(&before.state, packet, after, hits);
         }
         Call::Departure { .. } if accepted => {
             if let Some(label) = measurement(&before.state, &after.state) {
@@ -171,15 +205,59 @@ fn arrival(before: &State, after: &State, events: &mut Found) {
     events.push((after.clock == model::CLOCK_MAX, 19));
 }
 
-fn early(probability: u64, ecn: bool, answer: u32, hits: &mut Vec<(usize, usize)>) {
-    let label = match (probability, ecn, answer) {
-        (429_496_729, true, 1) => 0,
-        (429_496_730, true, 4) => 1,
-        (429_496_729, false, 4) => 2,
-        (429_496_730, false, 4) => 3,
-        _ => return,
-    };
-    hits.push((6, label));
+fn early(
+    before: &State,
+    packet: &Arriving,
+    after: &Side,
+    events: &mut Found,
+    hits: &mut Vec<(usize, usize)>,
+) {
+    let (marked, dropped) = (after.answer == 1, after.answer == 4);
+    let reset = before.accumulated > 0 && after.state.accumulated == 0;
+    let forced = u64::from(packet.u) >= before.probability;
+    events.push((dropped && packet.ecn, 20));
+    events.push((dropped && reset, 21));
+    events.push((marked && reset, 22));
+    events.push((dropped && forced, 23));
+    events.push((marked && forced, 24));
+    match (before.probability, packet.ecn, after.answer) {
+        (429_496_729, true, 1) => hits.push((6, 0)),
+        (429_496_730, true, 4) => hits.push((6, 1)),
+        (429_496_729, false, 4) => hits.push((6, 2)),
+        (429_496_730, false, 4) => hits.push((6, 3)),
+        _ => {}
+    }
+}
+
+fn sums(before: &State, packet: &Arriving, after: &Side, hits: &mut Vec<(usize, usize)>) {
+    let (sum, p) = (before.accumulated + before.probability, before.probability);
+    let below = u64::from(packet.u) < p;
+    let rule = model::deciding_rule(before, packet);
+    let asked = rule > Rule::SmallQueue;
+    let (enqueued, marked, dropped) = (after.answer == 0, after.answer == 1, after.answer == 4);
+    let kept = p > 0 && before.accumulated > 0 && after.state.accumulated == before.accumulated;
+    let raised = after.state.accumulated > before.accumulated;
+    #[rustfmt::skip]
+    let at = [
+        asked && sum == 3_650_722_201 && enqueued && below,
+        asked && sum == 3_650_722_202 && (marked || dropped) && below,
+        asked && sum == 3_650_722_202 && enqueued && !below,
+        asked && sum == 36_507_222_015 && (marked || dropped) && below,
+        asked && sum == 36_507_222_015 && enqueued && !below,
+        asked && sum == 36_507_222_016 && dropped && !below,
+        asked && sum == 36_507_222_016 && marked && !below,
+        asked && sum == 36_507_222_015 + model::WHOLE && dropped,
+        rule == Rule::HighSum && p == 429_496_729 && marked,
+        rule == Rule::HighSum && p == 429_496_730 && packet.ecn && dropped,
+        asked && sum >= 3_650_722_202 && p == 0 && enqueued && packet.u == 0,
+        rule == Rule::LowSum && raised && enqueued,
+        rule == Rule::Otherwise && raised && enqueued,
+        rule == Rule::Bytes && kept, rule == Rule::Slots && kept, rule == Rule::Allowance && kept,
+        rule == Rule::ShortDelay && kept, rule == Rule::SmallQueue && kept,
+        !asked && kept && sum >= 36_507_222_016,
+        !asked && rule > Rule::Slots && kept && sum >= 3_650_722_202 && enqueued && below,
+    ];
+    hits.extend(at.iter().enumerate().filter(|(_, &at)| at).map(|(label, _)| (8, label)));
 }
 
 fn departure(before: &State, after: &State, events: &mut Found) {
@@ -295,6 +373,7 @@ fn ends(s: &State, call: &Call, hits: &mut Vec<(usize, usize)>) {
         s.probability == 0, s.probability == model::WHOLE,
         s.old_delay == 0, s.old_delay == 10_000_000,
         s.allowance == 0, s.allowance == 150_000,
+        s.accumulated == 0, s.accumulated == 36_507_222_015,
         s.average == 0, s.average == 10_000_000,
         s.first == 0, s.first == s.slots - 1,
         s.count == 0, s.count == s.slots,

@@ -20,8 +20,8 @@ const TICKS: [(u64, u64, u64, u64); 9] = [
     (5_000_000, 14_000, 15_000, 5_000_000 - 738_197),
 ];
 
-/// Probability, old delay, bytes and u of an arrival that is not ECN-capable, and whether it is
-/// dropped early.
+/// Probability, old delay, bytes and u of an arrival that is not ECN-capable, with a starting sum
+/// of 2^32, and whether it is dropped early.
 const ARRIVALS: [(u64, u64, u64, u32, bool); 9] = [
     (5, 7_500, 3_001, 4, true),
     (5, 7_500, 3_001, 5, false),
@@ -44,6 +44,23 @@ const MARKS: [(u64, bool, u64); 6] = [
     (WHOLE, true, 4),
 ];
 
+/// Accumulated probability, probability, u and ECN of an arrival that rules 1 to 5 leave open; the
+/// verdict, and the accumulated probability after it.
+const SUMS: [(u64, u64, u32, bool, u64, u64); 12] = [
+    (WHOLE, 5, 4, false, 4, 0),
+    (WHOLE, 5, 5, false, 0, 4_294_967_301),
+    (3_650_722_196, 5, 0, false, 0, 3_650_722_201),
+    (3_650_722_197, 5, 0, false, 4, 0),
+    (3_650_722_197, 5, 0, true, 1, 0),
+    (3_650_722_197, 5, 5, false, 0, 3_650_722_202),
+    (36_507_222_010, 5, 5, false, 0, 36_507_222_015),
+    (36_507_222_011, 5, 5, false, 4, 0),
+    (36_507_222_011, 5, u32::MAX, true, 1, 0),
+    (36_507_222_015, 0, 0, false, 0, 36_507_222_015),
+    (36_507_222_015, WHOLE, u32::MAX, true, 4, 0),
+    (0, 858_993_460, 0, false, 0, 858_993_460),
+];
+
 fn state() -> State {
     State {
         target: 15_000,
@@ -52,6 +69,7 @@ fn state() -> State {
         clock: 1_000_000,
         count: 2,
         bytes: 16_384,
+        accumulated: WHOLE,
         ..State::default()
     }
 }
@@ -101,6 +119,13 @@ fn arrivals(lender: &mut dyn Lender) -> Result<(), Failure> {
         let packet = Arriving { handle: 7, size: 1_000, ecn, u: 0 };
         let after = one(lender, before, Call::Arrival { lent, clock: 1_000_000, packet })?;
         expect("the verdict", u64::from(after.answer), figure)?;
+    }
+    for (accumulated, probability, u, ecn, figure, sum) in SUMS {
+        let before = State { accumulated, probability, old_delay: 7_500, bytes: 3_001, ..state() };
+        let packet = Arriving { handle: 7, size: 1_000, ecn, u };
+        let after = one(lender, before, Call::Arrival { lent, clock: 1_000_000, packet })?;
+        expect("the verdict", u64::from(after.answer), figure)?;
+        expect("the accumulated probability", after.state.accumulated, sum)?;
     }
     Ok(())
 }

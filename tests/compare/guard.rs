@@ -5,6 +5,7 @@
 
 use crate::library::{self, Packet, Record};
 use crate::side::{handed_back, state_of, words, Call, Lender, Lent, Side, UNWRITTEN};
+use std::mem::size_of;
 use std::ptr::{copy_nonoverlapping, null_mut};
 use std::slice::{from_raw_parts, from_raw_parts_mut};
 
@@ -126,7 +127,7 @@ impl Guarded {
 
 impl Lender for Guarded {
     fn call(&mut self, side: &mut Side, call: &Call) {
-        let record = unsafe { &mut *(self.state.place(160) as *mut Record) };
+        let record = unsafe { &mut *(self.state.place(size_of::<Record>()) as *mut Record) };
         *record = Record(words(&side.state));
         self.state.access(READ);
         side.well_formed = library::well_formed(record);

@@ -1,9 +1,9 @@
 //! The library under test, through its C interface.
 
-/// The state record: its 20 words, in the order of the C header.
+/// The state record: its 21 words, in the order of the C header.
 #[repr(C)]
 #[derive(Clone, Copy, PartialEq, Eq, Debug)]
-pub struct Record(pub [u64; 20]);
+pub struct Record(pub [u64; 21]);
 
 /// What a departure hands back.
 #[repr(C)]

@@ -16,6 +16,8 @@ pub const RATE_THRESHOLD: u64 = 16_384;
 pub const SMALL_QUEUE: u64 = 3_000;
 /// The first drop probability not below one tenth: from here on nothing is marked.
 pub const TENTH: u64 = 429_496_730;
+/// 8.5: the accumulated probability stays below it, and a sum that reaches it is early.
+pub const FORCED: u64 = 36_507_222_016;
 
 /// Each band of the drop probability: its last value, and the divisor k.
 pub const BANDS: [(u64, i64); 7] = [
@@ -39,6 +41,7 @@ pub struct State {
     pub probability: u64,
     pub old_delay: u64,
     pub allowance: u64,
+    pub accumulated: u64,
     pub average: u64,
     pub measuring: u64,
     pub start: u64,
@@ -69,7 +72,7 @@ pub const DROPPED_EARLY: usize = 4;
 pub type Refusals = [bool; 10];
 
 /// The conditions that make a state well formed, in the order of `conditions`.
-pub const CONDITIONS: [&str; 20] = [
+pub const CONDITIONS: [&str; 21] = [
     "target in range",
     "buffer in range",
     "slots in range",
@@ -89,6 +92,7 @@ pub const CONDITIONS: [&str; 20] = [
     "start 0 if none runs",
     "counted 0 if none runs",
     "none runs on an empty queue",
+    "accumulated < 8.5",
     "sum of counts <= 2^48",
 ];
 
@@ -101,7 +105,7 @@ pub fn verdict_sum(s: &State) -> u128 {
 }
 
 /// Whether each of `CONDITIONS` holds.
-pub fn conditions(s: &State) -> [bool; 20] {
+pub fn conditions(s: &State) -> [bool; 21] {
     let runs = s.measuring != 0;
     [
         within(s.target, TARGET),
@@ -123,6 +127,7 @@ pub fn conditions(s: &State) -> [bool; 20] {
         runs || s.start == 0,
         runs || s.counted == 0,
         !runs || s.count > 0,
+        s.accumulated < FORCED,
         verdict_sum(s) <= u128::from(CLOCK_MAX),
     ]
 }
@@ -220,27 +225,60 @@ pub fn fresh(target: u64, buffer: u64, slots: u64, clock: u64) -> (Result<(), u3
     (answer, state)
 }
 
-/// The number of the arrival rule that decides: the first that holds, 7 if none of 1 to 6 does.
-pub fn deciding_rule(s: &State, packet: &Arriving) -> usize {
+/// The rules that decide on an arrival, in their order. The two of the sum stand between the
+/// document's rules 5 and 6.
+#[derive(Clone, Copy, PartialEq, Eq, PartialOrd, Ord, Debug)]
+pub enum Rule {
+    Bytes,
+    Slots,
+    Allowance,
+    ShortDelay,
+    SmallQueue,
+    LowSum,
+    HighSum,
+    Random,
+    Otherwise,
+}
+
+/// The probabilities added up, that of this arrival among them.
+pub fn sum(s: &State) -> u64 {
+    s.accumulated + s.probability
+}
+
+/// The first rule that holds.
+pub fn deciding_rule(s: &State, packet: &Arriving) -> Rule {
     let rules = [
-        s.bytes + u64::from(packet.size) > s.buffer,
-        s.count == s.slots,
-        s.allowance > 0,
-        2 * s.old_delay < s.target && 5 * s.probability < WHOLE,
-        s.bytes <= SMALL_QUEUE,
-        u64::from(packet.u) < s.probability,
+        (s.bytes + u64::from(packet.size) > s.buffer, Rule::Bytes),
+        (s.count == s.slots, Rule::Slots),
+        (s.allowance > 0, Rule::Allowance),
+        (2 * s.old_delay < s.target && 5 * s.probability < WHOLE, Rule::ShortDelay),
+        (s.bytes <= SMALL_QUEUE, Rule::SmallQueue),
+        (20 * sum(s) < 17 * WHOLE, Rule::LowSum),
+        (sum(s) >= FORCED, Rule::HighSum),
+        (u64::from(packet.u) < s.probability, Rule::Random),
     ];
-    rules.iter().position(|&holds| holds).map_or(7, |i| i + 1)
+    rules.iter().find(|(holds, _)| *holds).map_or(Rule::Otherwise, |(_, rule)| *rule)
 }
 
 /// An early packet is marked if it is ECN-capable and the drop probability is below one tenth.
-fn verdict(s: &State, packet: &Arriving) -> usize {
-    match deciding_rule(s, packet) {
-        1 => DROPPED_BYTES,
-        2 => DROPPED_SLOTS,
-        6 if packet.ecn && s.probability < TENTH => MARKED,
-        6 => DROPPED_EARLY,
+fn verdict(rule: Rule, s: &State, packet: &Arriving) -> usize {
+    match rule {
+        Rule::Bytes => DROPPED_BYTES,
+        Rule::Slots => DROPPED_SLOTS,
+        Rule::HighSum | Rule::Random if packet.ecn && s.probability < TENTH => MARKED,
+        Rule::HighSum | Rule::Random => DROPPED_EARLY,
         _ => ENQUEUED,
+    }
+}
+
+/// The accumulated probability after an arrival: as it was where one of rules 1 to 5 decided,
+/// 0 after an early verdict.
+fn accumulate(s: &mut State, rule: Rule, verdict: usize) {
+    if rule > Rule::SmallQueue {
+        s.accumulated = sum(s);
+    }
+    if verdict == MARKED || verdict == DROPPED_EARLY {
+        s.accumulated = 0;
     }
 }
 
@@ -254,7 +292,9 @@ pub fn arrival(
 ) -> Result<usize, u32> {
     lowest(arrival_refusals(s, (handles.len(), sizes.len()), clock, packet.size))?;
     accept(s, clock);
-    let verdict = verdict(s, packet);
+    let rule = deciding_rule(s, packet);
+    let verdict = verdict(rule, s, packet);
+    accumulate(s, rule, verdict);
     s.verdicts[verdict] += 1;
     if verdict == ENQUEUED || verdict == MARKED {
         let tail = ((s.first + s.count) % s.slots) as usize;

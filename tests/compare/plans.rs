@@ -16,6 +16,8 @@ pub struct Plan {
     pub calls: u64,
     /// If not 0, how many arrivals are left before the counts sum to 2^48.
     pub arrivals_left: u64,
+    /// Whether u is always the greatest: early verdicts then come from the sum alone.
+    pub lucky: bool,
 }
 
 #[derive(Clone, Copy, PartialEq)]
@@ -51,7 +53,7 @@ pub const PHASES: [Phase; 12] = [
 ];
 
 /// How many kinds of plan there are.
-pub const KINDS: u64 = 14;
+pub const KINDS: u64 = 15;
 
 pub fn plan(r: &mut Random, kind: u64) -> Plan {
     let any = r.range(1_000, 100_000);
@@ -65,6 +67,7 @@ pub fn plan(r: &mut Random, kind: u64) -> Plan {
         sizes: r.pick(&[(40, 1_500), (1_000, 1_500), (64, 9_000), (1, 1_500)]),
         calls: 12_000,
         arrivals_left: 0,
+        lucky: false,
     };
     if r.one_in(2) {
         plan.clock = r.spread(0, CLOCK_MAX / 2);
@@ -84,6 +87,12 @@ pub fn plan(r: &mut Random, kind: u64) -> Plan {
         8 => (plan.buffer, plan.sizes) = (r.range(1_000_000, 16_777_216), (20_000, 65_535)),
         9 => (plan.ecn, plan.target) = (100, 15_000),
         10 => plan.slots = 1_024, // tables of whole pages
+        11 | 12 => {
+            // The queue is never far above the target: the probability stays below one tenth long.
+            (plan.target, plan.slots, plan.ns_per_byte) = (5_000, r.range(30, 50), 2_000);
+            (plan.sizes, plan.ecn, plan.calls) = ((40, 1_500), 80, 20_000);
+            plan.lucky = kind == 11;
+        }
         _ => {}
     }
     plan

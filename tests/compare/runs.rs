@@ -174,6 +174,7 @@ impl Run<'_> {
         let ecn = r.range(1, 100) <= self.plan.ecn;
         let any = r.number() as u32;
         let u = r.pick(&[any, any, any, any, any, any, any, 0, u32::MAX]);
+        let u = if self.plan.lucky { u32::MAX } else { u };
         Arriving { handle, size, ecn, u }
     }
 

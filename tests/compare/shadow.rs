@@ -11,6 +11,8 @@ pub struct Shadow {
     departed: u64,
     verdicts: [u64; 5],
     clock: u64,
+    /// The probabilities added up after the last early verdict.
+    accumulated: u64,
     /// Accepted ticks in succession, up to now, that found the queue empty.
     empty_ticks: u64,
     /// The end of the time in which nothing is dropped early, after 1,000 of those.
@@ -25,6 +27,7 @@ impl Shadow {
             departed: 0,
             verdicts: start.verdicts,
             clock: start.clock,
+            accumulated: 0,
             empty_ticks: 0,
             quiet_until: 0,
         }
@@ -75,6 +78,7 @@ impl Shadow {
             self.queue.push_back((handle, size));
             self.admitted += u64::from(size);
         }
+        self.spaced(before, verdict)?;
         let quiet = match (before.bytes + u64::from(size) > before.buffer, before.count) {
             (true, _) => 2,
             (false, count) if count == before.slots => 3,
@@ -84,6 +88,23 @@ impl Shadow {
             return Err(
                 "another verdict than expected after 1,000 ticks with an empty queue".into()
             );
+        }
+        Ok(())
+    }
+
+    /// The probabilities added after one early verdict (or from fresh on), up to and with the next,
+    /// come to at least 0.85.
+    fn spaced(&mut self, before: &State, verdict: usize) -> Result<(), String> {
+        let early = verdict == 1 || verdict == 4;
+        let short = 2 * before.old_delay < before.target && 5 * before.probability < 1 << 32;
+        if (early || verdict == 0) && before.allowance == 0 && !short && before.bytes > 3_000 {
+            self.accumulated += before.probability;
+        }
+        if early && 20 * self.accumulated < 17 << 32 {
+            return Err(format!("early after probabilities of {} in all", self.accumulated));
+        }
+        if early {
+            self.accumulated = 0;
         }
         Ok(())
     }
@@ -113,19 +134,22 @@ impl Shadow {
         let same = state.count == self.queue.len() as u64
             && state.bytes == bytes
             && state.clock == self.clock
+            && state.accumulated == self.accumulated
             && state.verdicts == self.verdicts;
         if same {
             return Ok(());
         }
         Err(format!(
-            "state has count {}, bytes {}, clock {}, verdicts {:?}; the answers so far make it \
-             count {}, bytes {bytes}, clock {}, verdicts {:?}",
+            "state has count {}, bytes {}, clock {}, accumulated {}, verdicts {:?}; the answers \
+             so far make it count {}, bytes {bytes}, clock {}, accumulated {}, verdicts {:?}",
             state.count,
             state.bytes,
             state.clock,
+            state.accumulated,
             state.verdicts,
             self.queue.len(),
             self.clock,
+            self.accumulated,
             self.verdicts
         ))
     }

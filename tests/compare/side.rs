@@ -135,8 +135,8 @@ pub fn handed_back(call: &Call, packet: Packet) -> (u32, u32) {
     }
 }
 
-/// The names of the 20 words, in the order of the C header.
-pub const FIELDS: [&str; 20] = [
+/// The names of the 21 words, in the order of the C header.
+pub const FIELDS: [&str; 21] = [
     "target",
     "buffer",
     "slots",
@@ -145,6 +145,7 @@ pub const FIELDS: [&str; 20] = [
     "probability",
     "old_delay",
     "allowance",
+    "accumulated",
     "average",
     "measuring",
     "start",
@@ -160,28 +161,31 @@ pub const FIELDS: [&str; 20] = [
 ];
 
 #[rustfmt::skip]
-pub fn words(s: &State) -> [u64; 20] {
+pub fn words(s: &State) -> [u64; 21] {
     let [v0, v1, v2, v3, v4] = s.verdicts;
     [
         s.target, s.buffer, s.slots, s.clock, s.last,
-        s.probability, s.old_delay, s.allowance, s.average, s.measuring,
-        s.start, s.counted, s.count, s.bytes, s.first,
+        s.probability, s.old_delay, s.allowance, s.accumulated,
+        s.average, s.measuring, s.start, s.counted,
+        s.count, s.bytes, s.first,
         v0, v1, v2, v3, v4,
     ]
 }
 
 #[rustfmt::skip]
-pub fn state_of(words: &[u64; 20]) -> State {
+pub fn state_of(words: &[u64; 21]) -> State {
     let [
         target, buffer, slots, clock, last,
-        probability, old_delay, allowance, average, measuring,
-        start, counted, count, bytes, first,
+        probability, old_delay, allowance, accumulated,
+        average, measuring, start, counted,
+        count, bytes, first,
         v0, v1, v2, v3, v4,
     ] = *words;
     State {
         target, buffer, slots, clock, last,
-        probability, old_delay, allowance, average, measuring,
-        start, counted, count, bytes, first,
+        probability, old_delay, allowance, accumulated,
+        average, measuring, start, counted,
+        count, bytes, first,
         verdicts: [v0, v1, v2, v3, v4],
     }
 }

@@ -46,6 +46,7 @@ pub fn fresh_calls(lender: &mut dyn Lender, coverage: &mut Coverage) -> Result<(
     let with_far = |ends: &[u64]| [ends, &far].concat();
     let mut dirty = State { verdicts: [7; 5], ..State::default() };
     (dirty.measuring, dirty.first, dirty.probability) = (1, 3, 9);
+    dirty.accumulated = 5;
     for target in with_far(&[0, 999, 1_000, 1_001, 15_000, 99_999, 100_000, 100_001]) {
         for buffer in with_far(&[0, 1, 2, 16_777_215, 16_777_216, 16_777_217]) {
             for slots in with_far(&[0, 1, 2, 65_535, 65_536, 65_537]) {
@@ -114,7 +115,7 @@ fn case(r: &mut Random) -> (Side, Call) {
     if wanted[2] && r.one_in(6) {
         states::scramble(r, &mut s);
     } else if wanted[2] {
-        let last = if wanted[8] { 18 } else { 19 };
+        let last = if wanted[8] { 19 } else { 20 };
         let condition = r.range(0, last) as usize;
         states::break_one(r, &mut s, condition);
     }

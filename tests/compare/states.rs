@@ -1,6 +1,6 @@
 //! Random states: well formed, near the ends of every range, or with one condition broken.
 
-use crate::model::{self, State, BANDS, CLOCK_MAX, TENTH, TIME_MAX, WHOLE};
+use crate::model::{self, State, BANDS, CLOCK_MAX, FORCED, TENTH, TIME_MAX, WHOLE};
 use crate::random::Random;
 use crate::side::{state_of, words};
 
@@ -61,6 +61,8 @@ fn control(r: &mut Random, s: &mut State) {
     s.old_delay = delay(r, s.target, s.target);
     let any = r.range(0, 150_000);
     s.allowance = r.pick(&[0, 0, 0, 0, 0, 1, 14_999, 15_000, 15_001, 149_999, 150_000, any]);
+    let (any, small) = (r.range(0, FORCED - 1), r.spread(0, WHOLE));
+    s.accumulated = r.pick(&[0, 0, small, WHOLE, WHOLE, any, any, FORCED - 2, FORCED - 1]);
     let any = r.spread(0, TIME_MAX);
     s.average = r.pick(&[0, 1, 2, any, any, TIME_MAX - 1, TIME_MAX]);
     if s.bytes > 0 && r.one_in(2) {
@@ -111,18 +113,28 @@ pub fn aim_at_late_rules(r: &mut Random, s: &mut State) {
     s.old_delay = s.target / 2 - 1 + r.range(0, 3);
     let any = probability(r);
     s.probability = r.pick(&[858_993_458, 858_993_459, 858_993_460, any, any]);
+    if r.one_in(2) {
+        s.accumulated = WHOLE; // u decides
+    }
 }
 
 /// Changes a well-formed state so that none of arrival rules 1 to 5 decides on a small packet,
-/// with a probability near the one from which nothing is marked.
+/// with a probability near the one from which nothing is marked, and a sum near its edges.
 pub fn aim_at_early_verdicts(r: &mut Random, s: &mut State) {
     (s.slots, s.buffer) = (s.slots.max(2), model::BUFFER.1);
     (s.count, s.bytes) = (1, r.pick(&[3_001, 3_001, 60_000]));
     s.allowance = 0;
     s.old_delay = s.target.div_ceil(2) + r.pick(&[0, 0, 1, TIME_MAX / 2]);
     let any = probability(r);
-    s.probability = r.pick(&[TENTH - 1, TENTH - 1, TENTH, TENTH, TENTH - 2, TENTH + 1, any]);
+    s.probability = r.pick(&[TENTH - 1, TENTH - 1, TENTH, TENTH, TENTH - 2, TENTH + 1, any, any]);
+    let (low, high) = (LOW_SUM - 1 + r.range(0, 2), FORCED - 1 + r.range(0, 2));
+    let any = r.range(0, FORCED - 1);
+    let sum = r.pick(&[low, low, high, high, 2 * WHOLE, any]);
+    s.accumulated = sum.saturating_sub(s.probability).min(FORCED - 1);
 }
+
+/// The first sum of probabilities with which u is asked: 20 times it is not below 17 x 2^32.
+pub const LOW_SUM: u64 = 3_650_722_202;
 
 /// Changes a well-formed state so that a measurement runs with one packet queued or two, and the
 /// head takes it to its end or just does not.
@@ -195,8 +207,8 @@ fn above(r: &mut Random, value: u64, most: u64) -> u64 {
 /// Puts wild numbers into a few words of the state, whatever that breaks.
 pub fn scramble(r: &mut Random, s: &mut State) {
     let mut words = words(s);
-    for _ in 0..r.pick(&[1, 1, 2, 3, 20]) {
-        let place = r.range(0, 19) as usize;
+    for _ in 0..r.pick(&[1, 1, 2, 3, 21]) {
+        let place = r.range(0, 20) as usize;
         words[place] = wild(r, words[place]);
     }
     *s = state_of(&words);
@@ -217,6 +229,7 @@ pub fn break_one(r: &mut Random, s: &mut State, condition: usize) {
         9 => s.first = above(r, s.first, s.slots - 1),
         10..=13 => break_queue(r, s, condition),
         14..=18 => break_measurement(r, s, condition),
+        19 => s.accumulated = above(r, s.accumulated, FORCED - 1),
         _ => break_sum(r, s),
     }
     if condition == 1 && r.one_in(4) {
