@@ -39,19 +39,20 @@ static void record(void)
     WORD(probability, 5);
     WORD(old_delay, 6);
     WORD(allowance, 7);
-    WORD(average, 8);
-    WORD(measuring, 9);
-    WORD(start, 10);
-    WORD(counted, 11);
-    WORD(count, 12);
-    WORD(bytes, 13);
-    WORD(first, 14);
-    WORD(verdicts[0], 15);
-    WORD(verdicts[1], 16);
-    WORD(verdicts[2], 17);
-    WORD(verdicts[3], 18);
-    WORD(verdicts[4], 19);
-    expect("the size of the record", sizeof(struct obikuteru_state), 160);
+    WORD(accumulated, 8);
+    WORD(average, 9);
+    WORD(measuring, 10);
+    WORD(start, 11);
+    WORD(counted, 12);
+    WORD(count, 13);
+    WORD(bytes, 14);
+    WORD(first, 15);
+    WORD(verdicts[0], 16);
+    WORD(verdicts[1], 17);
+    WORD(verdicts[2], 18);
+    WORD(verdicts[3], 19);
+    WORD(verdicts[4], 20);
+    expect("the size of the record", sizeof(struct obikuteru_state), 168);
     expect("the alignment of the record", offsetof(struct before_state, state), 8);
 }
 
@@ -83,7 +84,7 @@ static void constants(void)
     expect("REFUSED_COUNTS", OBIKUTERU_REFUSED_COUNTS, 108);
     expect("REFUSED_HEAD", OBIKUTERU_REFUSED_HEAD, 109);
     expect("TICK_PERIOD", OBIKUTERU_TICK_PERIOD, 15000);
-    expect("RECORD_VERSION", OBIKUTERU_RECORD_VERSION, 1);
+    expect("RECORD_VERSION", OBIKUTERU_RECORD_VERSION, 2);
     for (uint32_t answer = 0; answer <= 4; answer++)
         expect("a verdict taken for a refusal", obikuteru_refused(answer), false);
     for (uint32_t answer = 101; answer <= 109; answer++)
@@ -93,8 +94,8 @@ static void constants(void)
 /* A well-formed record, no two of its fields alike. */
 static const struct obikuteru_state start_state = {
     .target = 20000, .buffer = 60000, .slots = SLOTS, .clock = 1000000, .last = 985000,
-    .probability = 1000000, .old_delay = 12000, .allowance = 30000, .average = 10000,
-    .measuring = 1, .start = 990000, .counted = 16000, .count = 3, .bytes = 20001, .first = 2,
+    .probability = 1000000, .old_delay = 12000, .allowance = 30000, .accumulated = 4294967296,
+    .average = 10000, .measuring = 1, .start = 990000, .counted = 16000, .count = 3, .bytes = 20001, .first = 2,
     .verdicts = {11, 22, 33, 44, 55},
 };
 
@@ -137,6 +138,7 @@ static void expect_state(const char *after, const struct obikuteru_state *wanted
     expect("probability", state.probability, wanted->probability);
     expect("old_delay", state.old_delay, wanted->old_delay);
     expect("allowance", state.allowance, wanted->allowance);
+    expect("accumulated", state.accumulated, wanted->accumulated);
     expect("average", state.average, wanted->average);
     expect("measuring", state.measuring, wanted->measuring);
     expect("start", state.start, wanted->start);
@@ -227,7 +229,21 @@ static void run_marks(void)
     expect("from one tenth on", arrive(1000000, 86, 100, true), OBIKUTERU_DROPPED_EARLY);
 }
 
-/* One arrival of each verdict. With no allowance left, u = 0 is early. */
+/* With a sum below 0.85 even u = 0 is not early, and the sum rises. */
+static void run_sums(void)
+{
+    restore();
+    state.allowance = 0;
+    state.accumulated = 3650722201 - 1000000;
+    expect("a sum below 0.85", arrive(1000000, 87, 100, false), OBIKUTERU_ENQUEUED);
+    expect("the sum", state.accumulated, 3650722201);
+    state.accumulated = UINT64_C(36507222015);
+    expect("the greatest sum", obikuteru_well_formed(&state), true);
+    state.accumulated = UINT64_C(36507222016);
+    expect("a sum of 8.5", obikuteru_well_formed(&state), false);
+}
+
+/* One arrival of each verdict. With no allowance left and a sum of 2^32, u = 0 is early. */
 static void run_arrivals(void)
 {
     struct obikuteru_state wanted = start_state;
@@ -240,8 +256,10 @@ static void run_arrivals(void)
     state.allowance = wanted.allowance = 0;
     expect("an early drop", arrive(1000002, 81, 100, false), OBIKUTERU_DROPPED_EARLY);
     wanted.clock = 1000002;
+    wanted.accumulated = 0;
     wanted.verdicts[4] = 56;
     expect_state("an early drop", &wanted);
+    state.accumulated = UINT64_C(36506222016); /* with this probability 8.5 */
     expect("a mark", arrive(1000003, 82, 100, true), OBIKUTERU_MARKED);
     wanted.clock = 1000003;
     wanted.count = 4;
@@ -258,6 +276,7 @@ static void run_arrivals(void)
     expect("an arrival", arrive(1000005, 84, 100, false), OBIKUTERU_ENQUEUED);
     expect("the count of enqueued", state.verdicts[0], 12);
     run_marks();
+    run_sums();
 }
 
 /* Each refusal by a call to which no other applies. */
