@@ -4,10 +4,11 @@
 
 #include <string.h>
 
-#define LIMIT (UINT64_C(1) << 48) /* latest clock, and most arrivals counted */
-#define WHOLE (UINT64_C(1) << 32) /* probability one */
-#define TENTH 429496730u          /* the first probability not below one tenth */
-#define LONGEST 10000000u         /* longest delay and rate sample */
+#define LIMIT (UINT64_C(1) << 48)    /* latest clock, and most arrivals counted */
+#define WHOLE (UINT64_C(1) << 32)    /* probability one */
+#define TENTH 429496730u             /* the first probability not below one tenth */
+#define FORCED UINT64_C(36507222016) /* 8.5: the sum of probabilities that is early by itself */
+#define LONGEST 10000000u            /* longest delay and rate sample */
 #define PERIOD 15000u
 #define ALLOWANCE 150000u
 #define THRESHOLD 16384u /* bytes of one rate measurement */
@@ -40,6 +41,7 @@ static bool well_formed(const struct plain_state *s)
     return settings_in_range(s->target, s->buffer, s->slots)
         && s->last <= s->clock && s->clock <= LIMIT
         && s->probability <= WHOLE
+        && s->accumulated < FORCED
         && s->old_delay <= LONGEST
         && s->allowance <= ALLOWANCE
         && s->average <= LONGEST
@@ -68,8 +70,8 @@ uint32_t plain_fresh(struct plain_state *s, uint32_t target, uint32_t buffer, ui
     return PLAIN_ACCEPTED;
 }
 
-/* Rules 1 to 7 of an arrival. */
-static uint32_t decide(const struct plain_state *s, uint32_t size, bool ecn, uint32_t u)
+/* Rules 1 to 7 of an arrival. After rule 5 the probability is added to those before. */
+static uint32_t decide(struct plain_state *s, uint32_t size, bool ecn, uint32_t u)
 {
     if (s->buffer < s->bytes + size) /* 1 */
         return PLAIN_DROPPED_BYTES;
@@ -81,9 +83,13 @@ static uint32_t decide(const struct plain_state *s, uint32_t size, bool ecn, uin
         return PLAIN_ENQUEUED;
     if (s->bytes <= SMALL) /* 5 */
         return PLAIN_ENQUEUED;
-    if (u < s->probability) /* 6 */
-        return ecn && s->probability < TENTH ? PLAIN_MARKED : PLAIN_DROPPED_EARLY;
-    return PLAIN_ENQUEUED; /* 7 */
+    uint64_t sum = s->accumulated + s->probability;
+    if (20 * sum < 17 * WHOLE || (sum < FORCED && s->probability <= u)) { /* 7 */
+        s->accumulated = sum;
+        return PLAIN_ENQUEUED;
+    }
+    s->accumulated = 0; /* 6 */
+    return ecn && s->probability < TENTH ? PLAIN_MARKED : PLAIN_DROPPED_EARLY;
 }
 
 uint32_t plain_arrival(struct plain_state *s, uint32_t *handles, size_t handles_len,

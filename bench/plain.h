@@ -19,6 +19,7 @@ struct plain_state {
     uint64_t clock;
     uint64_t last; /* clock of the last tick */
     uint64_t probability;
+    uint64_t accumulated; /* probabilities since the last early verdict */
     uint64_t start; /* clock at which the measurement started; 0 if none runs */
     uint32_t allowance;
     uint32_t average; /* time for 16,384 bytes to leave; 0: none yet */

@@ -39,7 +39,7 @@ static struct obikuteru_state library_state(struct plain_state r)
 {
     struct obikuteru_state s = {
         r.target, r.buffer, r.slots, r.clock, r.last, r.probability, r.old_delay, r.allowance,
-        r.average, r.measuring, r.start, r.counted, r.count, r.bytes, r.first, {0}};
+        r.accumulated, r.average, r.measuring, r.start, r.counted, r.count, r.bytes, r.first, {0}};
     for (int i = 0; i < 5; i++)
         s.verdicts[i] = r.verdicts[i];
     return s;
@@ -50,8 +50,9 @@ static struct plain_state library_record(struct obikuteru_state s)
     struct plain_state r = {
         .target = (uint32_t)s.target, .buffer = (uint32_t)s.buffer, .slots = (uint32_t)s.slots,
         .old_delay = (uint32_t)s.old_delay, .clock = s.clock, .last = s.last,
-        .probability = s.probability, .start = s.start, .allowance = (uint32_t)s.allowance,
-        .average = (uint32_t)s.average, .counted = (uint32_t)s.counted,
+        .probability = s.probability, .accumulated = s.accumulated, .start = s.start,
+        .allowance = (uint32_t)s.allowance, .average = (uint32_t)s.average,
+        .counted = (uint32_t)s.counted,
         .measuring = s.measuring != 0, .first = (uint32_t)s.first, .count = (uint32_t)s.count,
         .bytes = (uint32_t)s.bytes};
     for (int i = 0; i < 5; i++)

@@ -6,6 +6,7 @@ use std::slice;
 const LIMIT: u64 = 1 << 48; // latest clock, and most arrivals counted
 const WHOLE: u64 = 1 << 32; // probability one
 const TENTH: u64 = 429_496_730; // the first probability not below one tenth
+const FORCED: u64 = 36_507_222_016; // 8.5: the sum of probabilities that is early by itself
 const LONGEST: u32 = 10_000_000; // longest delay and rate sample
 const PERIOD: u32 = 15_000;
 const ALLOWANCE: u32 = 150_000;
@@ -24,6 +25,7 @@ pub struct State {
     clock: u64,
     last: u64,
     probability: u64,
+    accumulated: u64,
     start: u64,
     allowance: u32,
     average: u32,
@@ -124,6 +126,7 @@ impl State {
             && self.last <= self.clock
             && self.clock <= LIMIT
             && self.probability <= WHOLE
+            && self.accumulated < FORCED
             && self.old_delay <= LONGEST
             && self.allowance <= ALLOWANCE
             && self.average <= LONGEST
@@ -167,19 +170,31 @@ impl State {
         Ok(())
     }
 
-    /// Rules 1 to 7 of an arrival.
-    fn decide(&self, size: u32, ecn: bool, u: u32) -> Verdict {
+    /// Rules 1 to 5 of an arrival, and then what the probability decides.
+    fn decide(&mut self, size: u32, ecn: bool, u: u32) -> Verdict {
         if self.bytes + size > self.buffer {
             Verdict::DroppedBytes // 1
         } else if self.count == self.slots {
             Verdict::DroppedSlots // 2
         } else if self.allowance > 0 // 3
             || (2 * self.old_delay < self.target && 5 * self.probability < WHOLE) // 4
-            || self.bytes <= SMALL // 5
-            || u64::from(u) >= self.probability
+            || self.bytes <= SMALL
         {
-            Verdict::Enqueued // 7
-        } else if ecn && self.probability < TENTH {
+            Verdict::Enqueued // 5
+        } else {
+            self.decide_by_probability(ecn, u)
+        }
+    }
+
+    /// Rules 6 and 7 of an arrival. The probability is added to those before.
+    fn decide_by_probability(&mut self, ecn: bool, u: u32) -> Verdict {
+        let sum = self.accumulated + self.probability;
+        if 20 * sum < 17 * WHOLE || (sum < FORCED && u64::from(u) >= self.probability) {
+            self.accumulated = sum;
+            return Verdict::Enqueued; // 7
+        }
+        self.accumulated = 0;
+        if ecn && self.probability < TENTH {
             Verdict::Marked // 6
         } else {
             Verdict::DroppedEarly // 6
