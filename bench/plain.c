@@ -28,14 +28,8 @@ static uint64_t arrivals_counted(const struct plain_state *s)
     return v[0] + v[1] + v[2] + v[3] + v[4];
 }
 
-/* Each count is tested first, so that the sum does not wrap. */
-static bool counts_fit(const struct plain_state *s)
-{
-    const uint64_t *v = s->verdicts;
-    return v[0] <= LIMIT && v[1] <= LIMIT && v[2] <= LIMIT && v[3] <= LIMIT && v[4] <= LIMIT
-        && arrivals_counted(s) <= LIMIT;
-}
-
+/* Each count is tested before their sum, so that it does not wrap; here and not in a function of
+ * their own, which gcc would call. */
 static bool well_formed(const struct plain_state *s)
 {
     return settings_in_range(s->target, s->buffer, s->slots)
@@ -52,7 +46,9 @@ static bool well_formed(const struct plain_state *s)
         && s->start <= s->clock
         && s->counted < THRESHOLD
         && (s->measuring ? 0 < s->count : s->start == 0 && s->counted == 0)
-        && counts_fit(s);
+        && s->verdicts[0] <= LIMIT && s->verdicts[1] <= LIMIT && s->verdicts[2] <= LIMIT
+        && s->verdicts[3] <= LIMIT && s->verdicts[4] <= LIMIT
+        && arrivals_counted(s) <= LIMIT;
 }
 
 uint32_t plain_fresh(struct plain_state *s, uint32_t target, uint32_t buffer, uint32_t slots,
