@@ -88,7 +88,7 @@ pub fn plan(r: &mut Random, kind: u64) -> Plan {
         9 => (plan.ecn, plan.target) = (100, 15_000),
         10 => plan.slots = 1_024, // tables of whole pages
         11 | 12 => {
-            // The queue is never far above the target: the probability stays below one tenth long.
+            // Few slots: the probability rises slowly and is long above 0 and below one tenth.
             (plan.target, plan.slots, plan.ns_per_byte) = (5_000, r.range(30, 50), 2_000);
             (plan.sizes, plan.ecn, plan.calls) = ((40, 1_500), 80, 20_000);
             plan.lucky = kind == 11;
