@@ -2,7 +2,7 @@
 use mathlib.Core.Path.{_≡_, refl, sym, subst, _∙_}
 use mathlib.Core.Bool.{Bool, true, false, cond, _&&_, _||_, false≢true, true≢false}
 use mathlib.Core.Logic.{_⊎_, inl, inr, ⊎-elim}
-use Prim.Native.Nat.{ℕ, _*_, _<_}
+use Prim.Native.Nat.{ℕ, _*_}
 use native.Mathlib.Omega.{arith}
 use borrow.Author.Tests.{eqb-false, eqb-true, leb-false, leb-true, lt-ltb, ltb-false, ltb-true}
 use lib.Dec.{ltb}
@@ -14,7 +14,7 @@ use Rattle.pie.specs.declared.Verdict.the-variants.{Enqueued, Marked, DroppedBy
 use Rattle.laws.proofs.Tests.{and-left, and-right}
 use Rattle.queue.specs.declared.State.{State}
 use Rattle.queue.specs.Arrival.{bytesFull, slotsFull, verdictOf}
-use Rattle.guarantees.specs.WhichVerdict.{EarlyGrounds, Grounds, HighSum, LowSum, Marks, WhichVerdict}
+use Rattle.guarantees.specs.WhichVerdict.{Drawn, EarlyGrounds, Grounds, HighSum, LowSum, Marks, WhichVerdict}
 use Rattle.guarantees.specs.WhichVerdict.{Rule1, Rule2, Rule3, Rule4, Rule5, Rule6}
 use Rattle.guarantees.proofs.Replies.{decided-verdict}
 
@@ -81,7 +81,7 @@ module _ (s : State) (size : ℕ) (ecn : Bool) (u : ℕ) where
   high-sum : Says (sumIsHigh (sumOf (s .pie))) (HighSum s)
   high-sum = omega (arith, leb-true, leb-false)
 
-  u-early : Says (early (s .pie .prob .0) u) (u < s .pie .prob .0)
+  u-early : Says (early (s .pie .prob .0) u) (Drawn s u)
   u-early = omega (arith, ltb-true, ltb-false)
 
   tests-marks : Marks s ecn → marks (s .pie .prob .0) ecn ≡ true

@@ -38,8 +38,11 @@ abbrev pub HighSum : State → Type 0
 HighSum s = mostAccumulated ≤ s .pie .accumulated .0 + s .pie .prob .0
 
 -- otherwise u decides
+abbrev pub Drawn : State → (u : ℕ) → Type 0
+Drawn s u = u < s .pie .prob .0
+
 abbrev pub Rule6 : State → (u : ℕ) → Type 0
-Rule6 s u = ¬ LowSum s × (HighSum s ⊎ (u < s .pie .prob .0))
+Rule6 s u = ¬ LowSum s × (HighSum s ⊎ Drawn s u)
 
 -- rule 6 marks an ECN-capable packet while the probability is below one tenth (Q-2); any other it drops
 abbrev pub Marks : State → (ecn : Bool) → Type 0
