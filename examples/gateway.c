@@ -114,7 +114,7 @@ int main(void)
             timer = queue.last + OBIKUTERU_TICK_PERIOD;
         }
         arrive(clock, receive(500 + next_random() % 1000, n % 4 == 0));
-        if (n % 5 != 0 && queue.count > 0) /* the uplink takes four packets of five */
+        if (n % 8 != 0 && queue.count > 0) /* the uplink takes seven packets of eight */
             send_head(clock);
     }
     report();

@@ -42,8 +42,8 @@
  * Random numbers
  *   Each arrival needs a number `u` of its own, uniform over all 32 bits: from getrandom, or from
  *   a good generator seeded by it. rand() will not do. Where it gives 31 bits, `u` is below 2^31:
- *   rule 6 drops or marks twice as often, and always from a probability of 1/2. Where it gives
- *   15 bits, always from a probability of 1/131,072.
+ *   where u decides, rule 6 drops or marks twice as often, and always from a probability of 1/2.
+ *   Where it gives 15 bits, always from a probability of 1/131,072.
  *
  * Saving
  *   Save record and both tables together, between two calls, and with them

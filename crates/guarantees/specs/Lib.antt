@@ -8,6 +8,7 @@
 --   question 2   Grace             so a full one lasts 150 ms: after a tick that fills it, and after fresh
 --   question 3   Conservation      queued bytes = bytes admitted − bytes departed; refusals 2 and 9 are never given
 --   question 4   Recovery          how long the queue goes on dropping once a crowd has left
+--   Q-3          Spacing           early verdicts stand at least 0.85 and less than 8.5 of added probability apart
 --   Q-6          MeasuredWhileQueued   wherever a measurement runs, a packet is queued
 --   Q-6          NeverGivenUp      from fresh, a measurement ends before the queue empties, or as it does
 --

@@ -5,7 +5,7 @@ use Rattle.command.specs.Forms.{commandOf}
 use Rattle.command.specs.Line.{readLine}
 use Rattle.command.specs.Words.{wordsOf}
 use Rattle.pie.specs.DepartureRate.{averageOf, rateAfter, sampleOf}
-use Rattle.pie.specs.DropDecision.{dropDecision}
+use Rattle.pie.specs.DropDecision.{accumulatedAfter, drawn, dropDecision}
 use Rattle.pie.specs.Update.{decayed, delayOf, divisorOf, errorOf, limited, lookup, nextAllowance, nextProb, stepOf, updated}
 use Rattle.pie.specs.Verdicts.{raised}
 use Rattle.queue.specs.Arrival.{arrival, arrivalRefusal, arrivedState, verdictOf}
@@ -20,5 +20,5 @@ use Rattle.script.specs.Lines.{linesOf}
 use Rattle.script.specs.Script.{answerLine, script}
 
 pub cases-hold : CasesHold
-unfolding digitsOf spelled commandOf readLine wordsOf averageOf rateAfter sampleOf dropDecision decayed delayOf divisorOf errorOf limited lookup nextAllowance nextProb stepOf updated raised arrival arrivalRefusal arrivedState verdictOf departedState departure departureRefusal fresh headRefused wellFormed tick tickRefusal tickedState firstLine laterLine outcome linesOf answerLine script
+unfolding digitsOf spelled commandOf readLine wordsOf averageOf rateAfter sampleOf drawn dropDecision accumulatedAfter decayed delayOf divisorOf errorOf limited lookup nextAllowance nextProb stepOf updated raised arrival arrivalRefusal arrivedState verdictOf departedState departure departureRefusal fresh headRefused wellFormed tick tickRefusal tickedState firstLine laterLine outcome linesOf answerLine script
 cases-hold = (refl, (refl, (refl, (refl, (refl, (refl, (refl, (refl, (refl, (refl, (refl, (refl, (refl, (refl, (refl, (refl, (refl, (refl, (refl, (refl, (refl, (refl, (refl, (refl, (refl, (refl, (refl, (refl, (refl, (refl, (refl, (refl, (refl, (refl, tt))))))))))))))))))))))))))))))))))
