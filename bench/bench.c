@@ -1,10 +1,10 @@
 /*
  * The library against the same rules in plain C and in Rust, in one process.
  *
- *   bench time        checks that all answer alike, then times them; prints ratios to plain C
- *   bench count SIDE  runs the mixed events once on one side, for callgrind to count
+ *   bench time STREAM        checks that all answer alike, then times them; prints ratios to plain C
+ *   bench count STREAM SIDE  runs the stream once on one side, for callgrind to count
  *
- * Method. All sides run the same 1,000,000 events. First every answer, every packet and every
+ * Method. All sides run the same 1,000,000 events of one stream (events.c). First every answer, every packet and every
  * state after it is compared. Then come the timed rounds, each in many short parts; the sides take
  * turns part by part, so that whatever else the machine does falls on all alike.
  *   mix: each side runs all events on a queue of its own, 2,000 events to a part.
@@ -81,7 +81,7 @@ static void check_mix(void)
 /* Samples each kind evenly over the mixed run. Heads in one block stand at different places. */
 static void collect(void)
 {
-    static size_t taken[EVENTS_SLOTS]; /* by which block of departures, from 1 */
+    static size_t taken[MOST_SLOTS]; /* by which block of departures, from 1 */
     size_t total[KINDS] = {0}, seen[KINDS] = {0};
     for (size_t i = 0; i < EVENTS; i++)
         total[events[i].kind]++;
@@ -209,7 +209,7 @@ static double ratio(size_t side, size_t round, size_t parts)
     return plain == 0 ? 0 : (double)time / (double)plain;
 }
 
-/* Prints the ratios to plain C: what, side, median, least, greatest. */
+/* Prints the ratios to plain C: stream, what, side, median, least, greatest. */
 static void print_ratios(const char *what, size_t parts)
 {
     find_medians(parts);
@@ -223,8 +223,8 @@ static void print_ratios(const char *what, size_t parts)
         if (n < 15)
             fail("fewer than 15 rounds were quiet enough; try again on a quieter machine.");
         qsort(ratios, n, sizeof *ratios, by_ratio);
-        printf("time %s %s %.3f %.3f %.3f\n", what, sides[s].name, ratios[n / 2], ratios[0],
-               ratios[n - 1]);
+        printf("time %s %s %s %.3f %.3f %.3f\n", stream->name, what, sides[s].name, ratios[n / 2],
+               ratios[0], ratios[n - 1]);
     }
 }
 
@@ -234,12 +234,13 @@ static void print_events(void)
     size_t total[KINDS] = {0};
     for (size_t i = 0; i < EVENTS; i++)
         total[events[i].kind]++;
-    printf("events %u %zu %zu %zu\n", EVENTS, total[ARRIVAL], total[DEPARTURE], total[TICK]);
+    printf("events %s %u %zu %zu %zu %u\n", stream->name, EVENTS, total[ARRIVAL],
+           total[DEPARTURE], total[TICK], stream->slots);
     const uint64_t *v = on_plain_state.verdicts;
-    printf("verdicts %llu %llu %llu %llu %llu\n", (unsigned long long)v[0],
+    printf("verdicts %s %llu %llu %llu %llu %llu\n", stream->name, (unsigned long long)v[0],
            (unsigned long long)v[1], (unsigned long long)v[2], (unsigned long long)v[3],
            (unsigned long long)v[4]);
-    printf("rounds %u\n", ROUNDS);
+    printf("rounds %s %u\n", stream->name, ROUNDS);
 }
 
 static void run_times(void)
@@ -274,12 +275,15 @@ static void run_count(const char *name)
 
 int main(int argc, char **argv)
 {
-    make_events(events, EVENTS);
-    if (argc == 2 && strcmp(argv[1], "time") == 0)
+    stream = 3 <= argc ? find_stream(argv[2]) : NULL;
+    if (stream == NULL)
+        fail("usage: bench time STREAM | bench count STREAM SIDE; the streams: varied, full");
+    make_events(stream, events, EVENTS);
+    if (argc == 3 && strcmp(argv[1], "time") == 0)
         run_times();
-    else if (argc == 3 && strcmp(argv[1], "count") == 0)
-        run_count(argv[2]);
+    else if (argc == 4 && strcmp(argv[1], "count") == 0)
+        run_count(argv[3]);
     else
-        fail("usage: bench time | bench count SIDE");
+        fail("time takes a stream, count a stream and a side.");
     return 0;
 }

@@ -1,12 +1,17 @@
 /*
- * Mixed events in phases: overload, draining, idle, balanced, idle, and again. The clock goes on
- * by a random gap from event to event; a tick comes as soon as its period has passed. A link sends
- * only what is queued: the queue is followed in plain C, and few departures find it empty.
- * So about 51 % are arrivals, 45 % departures and 4 % ticks, and every verdict occurs.
+ * Two streams of events, each in phases that come again and again. The clock goes on by a random
+ * gap from event to event; a tick comes as soon as its period has passed. A link sends only what
+ * is queued: the queue is followed in plain C, and few departures find it empty.
+ *   varied  overload, draining, idle, balanced, idle; 1,024 slots. About 51 % are arrivals, 45 %
+ *           departures and 4 % ticks, and every verdict occurs.
+ *   full    a short queue before a fast link, nearly always full: a third of the arrivals find no
+ *           slot or no room, and few of the others are early; 100 slots.
  */
 #include "events.h"
 
 #include "plain.h"
+
+#include <string.h>
 
 #define PERIOD 15000u
 
@@ -23,7 +28,7 @@ struct phase {
 
 /* Overload comes fast and after an idle phase: what arrives is then covered by the burst allowance
  * and fills the queue before anything is dropped early. Balanced phases begin with probability 0. */
-static const struct phase phases[] = {
+static const struct phase varied[] = {
     {80, 100, 64, 600, 90, 4000},    /* overload by small packets: the slots are filled */
     {35, 1000, 64, 1500, 80, 4000},  /* draining */
     {30, 4000, 64, 1500, 50, 2500},  /* idle */
@@ -36,12 +41,26 @@ static const struct phase phases[] = {
     {30, 4000, 64, 1500, 50, 1500},  /* idle */
 };
 
+static const struct phase full[] = {
+    {60, 300, 64, 600, 50, 6000},   /* full of small packets: no slot is left */
+    {60, 300, 900, 1500, 50, 6000}, /* full of large packets: no room is left */
+    {55, 1400, 64, 1500, 50, 4000}, /* a slower link: the delay is near the target, few are early */
+};
+
+#define COUNT(phases) (sizeof(phases) / sizeof *(phases))
+
+static const struct stream streams[] = {
+    {"varied", 15000, 1000000, MOST_SLOTS, 8033, varied, COUNT(varied)},
+    {"full", 100000, 64000, 100, 20170217, full, COUNT(full)},
+};
+
 struct generator {
+    const struct stream *stream;
     uint64_t seed;
     uint64_t clock;
     struct plain_state state;
-    uint32_t handles[EVENTS_SLOTS];
-    uint32_t sizes[EVENTS_SLOTS];
+    uint32_t handles[MOST_SLOTS];
+    uint32_t sizes[MOST_SLOTS];
 };
 
 /* splitmix64 */
@@ -85,25 +104,34 @@ static struct event next_event(struct generator *g, const struct phase *phase)
 static void follow(struct generator *g, const struct event *e)
 {
     struct plain_packet packet;
+    size_t slots = g->stream->slots;
     if (e->kind == ARRIVAL)
-        plain_arrival(&g->state, g->handles, EVENTS_SLOTS, g->sizes, EVENTS_SLOTS, e->clock,
-                      e->handle, e->size, e->ecn, e->u);
+        plain_arrival(&g->state, g->handles, slots, g->sizes, slots, e->clock, e->handle, e->size,
+                      e->ecn, e->u);
     else if (e->kind == DEPARTURE)
-        plain_departure(&g->state, g->handles, EVENTS_SLOTS, g->sizes, EVENTS_SLOTS, e->clock,
-                        &packet);
+        plain_departure(&g->state, g->handles, slots, g->sizes, slots, e->clock, &packet);
     else
         plain_tick(&g->state, e->clock);
 }
 
-void make_events(struct event *events, size_t n)
+const struct stream *find_stream(const char *name)
+{
+    for (size_t i = 0; i < COUNT(streams); i++)
+        if (strcmp(streams[i].name, name) == 0)
+            return &streams[i];
+    return NULL;
+}
+
+void make_events(const struct stream *stream, struct event *events, size_t n)
 {
     static struct generator g;
     size_t at = 0, place = 0;
-    g.seed = 8033;
+    g.stream = stream;
+    g.seed = stream->seed;
     g.clock = 0;
-    plain_fresh(&g.state, EVENTS_TARGET, EVENTS_BUFFER, EVENTS_SLOTS, 0);
+    plain_fresh(&g.state, stream->target, stream->buffer, stream->slots, 0);
     while (at < n) {
-        const struct phase *phase = &phases[place++ % (sizeof phases / sizeof *phases)];
+        const struct phase *phase = &stream->phases[place++ % stream->phase_count];
         for (size_t end = at + phase->length; at < end && at < n; at++) {
             g.clock += below(&g, phase->gap + 1);
             events[at] = next_event(&g, phase);

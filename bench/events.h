@@ -1,14 +1,12 @@
-/* The list of mixed events that every measurement runs over. */
+/* The streams of events that every measurement runs over. */
 #ifndef EVENTS_H
 #define EVENTS_H
 
 #include <stddef.h>
 #include <stdint.h>
 
-/* The settings of the queue that the events are for. */
-#define EVENTS_TARGET 15000u
-#define EVENTS_BUFFER 1000000u
-#define EVENTS_SLOTS 1024u
+/* The most slots of a stream's queue. */
+#define MOST_SLOTS 1024u
 
 enum kind { ARRIVAL, DEPARTURE, TICK, KINDS };
 
@@ -21,7 +19,21 @@ struct event {
     uint8_t ecn;
 };
 
-/* The first n events of the one fixed list. */
-void make_events(struct event *events, size_t n);
+/* The settings of the queue that the events are for, and what they are made by. */
+struct stream {
+    const char *name;
+    uint32_t target;
+    uint32_t buffer;
+    uint32_t slots;
+    uint64_t seed;
+    const struct phase *phases;
+    size_t phase_count;
+};
+
+/* The stream of this name, or NULL. */
+const struct stream *find_stream(const char *name);
+
+/* The first n events of a stream, always the same. */
+void make_events(const struct stream *stream, struct event *events, size_t n);
 
 #endif

@@ -1,4 +1,4 @@
-/* make_script N: a script of N lines with the mixed events, to standard output. */
+/* make_script STREAM N: a script of N lines with the events of a stream, to standard output. */
 #include <inttypes.h>
 #include <stdio.h>
 #include <stdlib.h>
@@ -16,9 +16,11 @@ static void print_event(const struct event *e)
 
 int main(int argc, char **argv)
 {
-    size_t lines = argc == 2 ? strtoull(argv[1], NULL, 10) : 0;
-    if (lines < 2 || 100000000 < lines) {
-        fprintf(stderr, "make_script: give a number of lines from 2 to 100,000,000.\n");
+    const struct stream *stream = argc == 3 ? find_stream(argv[1]) : NULL;
+    size_t lines = argc == 3 ? strtoull(argv[2], NULL, 10) : 0;
+    if (stream == NULL || lines < 2 || 100000000 < lines) {
+        fprintf(stderr, "make_script: give a stream (varied or full) and a number of lines from 2 "
+                        "to 100,000,000.\n");
         return 1;
     }
     struct event *events = malloc((lines - 1) * sizeof *events);
@@ -26,8 +28,8 @@ int main(int argc, char **argv)
         fprintf(stderr, "make_script: not enough memory for %zu events.\n", lines - 1);
         return 1;
     }
-    make_events(events, lines - 1);
-    printf("c %u %u %u\n", EVENTS_TARGET, EVENTS_BUFFER, EVENTS_SLOTS);
+    make_events(stream, events, lines - 1);
+    printf("c %u %u %u\n", stream->target, stream->buffer, stream->slots);
     for (size_t i = 0; i < lines - 1; i++)
         print_event(&events[i]);
     free(events);

@@ -11,12 +11,12 @@
  */
 static STATE SIDE(state);
 static STATE SIDE(states)[BLOCK];
-static uint32_t SIDE(handles)[EVENTS_SLOTS];
-static uint32_t SIDE(sizes)[EVENTS_SLOTS];
+static uint32_t SIDE(handles)[MOST_SLOTS];
+static uint32_t SIDE(sizes)[MOST_SLOTS];
 
 static void SIDE(fresh)(void)
 {
-    CALL(fresh)(&SIDE(state), EVENTS_TARGET, EVENTS_BUFFER, EVENTS_SLOTS, 0);
+    CALL(fresh)(&SIDE(state), stream->target, stream->buffer, stream->slots, 0);
 }
 
 static struct plain_state SIDE(record)(void)
@@ -28,14 +28,15 @@ static struct plain_state SIDE(record)(void)
 static uint64_t SIDE(mix)(const struct event *e, size_t n)
 {
     PACKET packet = {0, 0};
+    size_t slots = stream->slots;
     uint64_t sum = 0;
     for (const struct event *end = e + n; e < end; e++) {
         if (e->kind == ARRIVAL) {
-            sum += CALL(arrival)(&SIDE(state), SIDE(handles), EVENTS_SLOTS, SIDE(sizes),
-                                 EVENTS_SLOTS, e->clock, e->handle, e->size, e->ecn, e->u);
+            sum += CALL(arrival)(&SIDE(state), SIDE(handles), slots, SIDE(sizes), slots, e->clock,
+                                 e->handle, e->size, e->ecn, e->u);
         } else if (e->kind == DEPARTURE) {
-            sum += CALL(departure)(&SIDE(state), SIDE(handles), EVENTS_SLOTS, SIDE(sizes),
-                                   EVENTS_SLOTS, e->clock, &packet);
+            sum += CALL(departure)(&SIDE(state), SIDE(handles), slots, SIDE(sizes), slots,
+                                   e->clock, &packet);
             sum += packet.handle + (uint64_t)packet.size;
         } else {
             sum += CALL(tick)(&SIDE(state), e->clock);
@@ -58,20 +59,22 @@ static struct plain_state SIDE(loaded)(size_t i)
 
 static uint64_t SIDE(arrivals)(const struct event *e)
 {
+    size_t slots = stream->slots;
     uint64_t sum = 0;
     for (size_t i = 0; i < BLOCK; i++)
-        sum += CALL(arrival)(&SIDE(states)[i], block_handles, EVENTS_SLOTS, block_sizes,
-                             EVENTS_SLOTS, e[i].clock, e[i].handle, e[i].size, e[i].ecn, e[i].u);
+        sum += CALL(arrival)(&SIDE(states)[i], block_handles, slots, block_sizes, slots,
+                             e[i].clock, e[i].handle, e[i].size, e[i].ecn, e[i].u);
     return sum;
 }
 
 static uint64_t SIDE(departures)(const struct event *e)
 {
     PACKET packet = {0, 0};
+    size_t slots = stream->slots;
     uint64_t sum = 0;
     for (size_t i = 0; i < BLOCK; i++) {
-        sum += CALL(departure)(&SIDE(states)[i], block_handles, EVENTS_SLOTS, block_sizes,
-                               EVENTS_SLOTS, e[i].clock, &packet);
+        sum += CALL(departure)(&SIDE(states)[i], block_handles, slots, block_sizes, slots,
+                               e[i].clock, &packet);
         sum += packet.handle + (uint64_t)packet.size;
     }
     return sum;

@@ -11,8 +11,11 @@
 
 /* The tables that every call of a block is lent: an arrival only writes to them, and a departure
  * only reads its head. */
-static uint32_t block_handles[EVENTS_SLOTS];
-static uint32_t block_sizes[EVENTS_SLOTS];
+static uint32_t block_handles[MOST_SLOTS];
+static uint32_t block_sizes[MOST_SLOTS];
+
+/* The stream whose events run. */
+static const struct stream *stream;
 
 struct side {
     const char *name;

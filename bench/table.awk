@@ -1,16 +1,25 @@
 # One table in Markdown from the lines that bench/run has gathered:
-#   tool NAME WORDS                         the date, and the compilers' versions
-#   events ALL ARRIVALS DEPARTURES TICKS    verdicts ENQUEUED MARKED BYTES SLOTS EARLY
-#   rounds N                                once for each process
-#   time WHAT SIDE MEDIAN LEAST GREATEST    ratios to plain C, once for each process
-#   count WHAT SIDE INSTRUCTIONS            per call, or per line of a script
+#   tool NAME WORDS                                the date, and the compilers' versions
+#   events STREAM ALL ARRIVALS DEPARTURES TICKS SLOTS
+#   verdicts STREAM ENQUEUED MARKED BYTES SLOTS EARLY
+#   rounds STREAM N                                once for each process
+#   time STREAM WHAT SIDE MEDIAN LEAST GREATEST    ratios to plain C, once for each process
+#   count STREAM WHAT SIDE INSTRUCTIONS            per call, or per line of a script
 
 $1 == "tool" { name = $2; sub(/^tool [^ ]+ /, ""); tool[name] = $0 }
-$1 == "events" { all = $2; arrivals = $3; departures = $4; ticks = $5 }
-$1 == "verdicts" { for (i = 1; i <= 5; i++) verdict[i] = $(i + 1) }
-$1 == "rounds" { rounds = $2; processes++ }
-$1 == "time" { add_time($2 SUBSEP $3, $4, $5, $6) }
-$1 == "count" { count[$2, $3] = $4; counted = 1 }
+$1 == "events" {
+    if (!($2 in all))
+        stream[++streams] = $2
+    all[$2] = $3
+    arrivals[$2] = $4
+    departures[$2] = $5
+    ticks[$2] = $6
+    slots[$2] = $7
+}
+$1 == "verdicts" { for (i = 1; i <= 5; i++) verdict[$2, i] = $(i + 2) }
+$1 == "rounds" { rounds = $3; processes[$2]++ }
+$1 == "time" { add_time($2 SUBSEP $3 SUBSEP $4, $5, $6, $7) }
+$1 == "count" { count[$2, $3, $4] = $5; counted = 1 }
 
 # Keeps the medians of the processes in ascending order, and their middle as the median.
 function add_time(key, middle, least, greatest,    i) {
@@ -22,73 +31,87 @@ function add_time(key, middle, least, greatest,    i) {
     high[key] = n[key] == 1 || greatest > high[key] ? greatest : high[key]
 }
 
-function time_of(what, side) {
-    if (!((what, side) in median))
+function time_of(s, what, side) {
+    if (!((s, what, side) in median))
         return "-"
-    return sprintf("%.2f (%.2f..%.2f)", median[what, side], low[what, side], high[what, side])
+    return sprintf("%.2f (%.2f..%.2f)", median[s, what, side], low[s, what, side],
+        high[s, what, side])
 }
 
-function count_of(what, side) {
-    return (what, side) in count ? sprintf("%.1f", count[what, side]) : "-"
+function count_of(s, what, side) {
+    return (s, what, side) in count ? sprintf("%.1f", count[s, what, side]) : "-"
 }
 
-function count_ratio(what, side) {
-    if (!((what, side) in count) || !((what, "plain") in count))
+function count_ratio(s, what, side) {
+    if (!((s, what, side) in count) || !((s, what, "plain") in count))
         return "-"
-    return sprintf("%.2f", count[what, side] / count[what, "plain"])
+    return sprintf("%.2f", count[s, what, side] / count[s, what, "plain"])
 }
 
-function row(what, label) {
-    printf "| %s | %s | %s | %s | %s | %s | %s | %s |\n", label, time_of(what, "library"),
-        time_of(what, "rust"), count_of(what, "plain"), count_of(what, "library"),
-        count_of(what, "rust"), count_ratio(what, "library"), count_ratio(what, "rust")
+function row(s, what, label) {
+    printf "| %s | %s | %s | %s | %s | %s | %s | %s | %s |\n", s, label,
+        time_of(s, what, "library"), time_of(s, what, "rust"), count_of(s, what, "plain"),
+        count_of(s, what, "library"), count_of(s, what, "rust"), count_ratio(s, what, "library"),
+        count_ratio(s, what, "rust")
 }
 
-function by_clang(what) {
-    return sprintf("%s %.2f and %s", what, median[what, "clang"], count_ratio(what, "clang"))
+function rows(s) {
+    row(s, "mix", "mix")
+    row(s, "arrival", "arrival")
+    row(s, "departure", "departure")
+    row(s, "tick", "tick")
+    if ((s, "script", "library") in median)
+        row(s, "script", "script, a line")
+}
+
+function by_clang(s, what) {
+    return sprintf("%s %.2f and %s", what, median[s, what, "clang"], count_ratio(s, what, "clang"))
 }
 
 # The goal holds for each of the three entries, in time and in instructions.
-function miss(what) {
-    if (median[what, "library"] > 1.1)
-        missed = missed sprintf(", %s in time (%.2f)", what, median[what, "library"])
-    if (count_ratio(what, "library") + 0 > 1.1)
-        missed = missed sprintf(", %s in instructions (%s)", what, count_ratio(what, "library"))
+function miss(s, what) {
+    if (median[s, what, "library"] > 1.1)
+        missed = missed sprintf(", %s of %s in time (%.2f)", what, s, median[s, what, "library"])
+    if (count_ratio(s, what, "library") + 0 > 1.1)
+        missed = missed sprintf(", %s of %s in instructions (%s)", what, s,
+            count_ratio(s, what, "library"))
 }
 
 function share(n, of) {
     return sprintf("%.1f %%", 100 * n / of)
 }
 
-function print_head() {
-    printf "%s; %s, -O3; %s, -C opt-level=3.\n", tool["date"], tool["gcc"], tool["rustc"]
-    printf "%d events: %s arrivals (%s of them enqueued, %s marked, %s dropped), ", all,
-        share(arrivals, all), share(verdict[1], arrivals), share(verdict[2], arrivals),
-        share(verdict[3] + verdict[4] + verdict[5], arrivals)
-    printf "%s departures, %s ticks; 1024 slots; %d processes of %d rounds.\n",
-        share(departures, all), share(ticks, all), processes, rounds
-    print "Times are ratios to plain C: median (least..greatest). Instructions are per call."
+function print_stream(s) {
+    printf "Stream %s: %d events, %s arrivals (%s of them enqueued, %s marked, ", s, all[s],
+        share(arrivals[s], all[s]), share(verdict[s, 1], arrivals[s]),
+        share(verdict[s, 2], arrivals[s])
+    printf "%s dropped early, %s for bytes or slots), %s departures, %s ticks; ",
+        share(verdict[s, 5], arrivals[s]), share(verdict[s, 3] + verdict[s, 4], arrivals[s]),
+        share(departures[s], all[s]), share(ticks[s], all[s])
+    printf "%d slots; %d processes of %d rounds.\n", slots[s], processes[s], rounds
 }
 
 END {
-    print_head()
+    printf "%s; %s, -O3; %s, -C opt-level=3.\n", tool["date"], tool["gcc"], tool["rustc"]
+    for (i = 1; i <= streams; i++)
+        print_stream(stream[i])
+    print "Times are ratios to plain C: median (least..greatest). Instructions are per call."
     print ""
-    print "| | Time, library | Time, Rust | Instr., C | Library | Rust | Library / C | Rust / C |"
-    print "|---|---|---|---|---|---|---|---|"
-    row("mix", "mix")
-    row("arrival", "arrival")
-    row("departure", "departure")
-    row("tick", "tick")
-    if (("script", "library") in median)
-        row("script", "script, a line")
+    print "| Stream | | Time, library | Time, Rust | Instr., C | Library | Rust | Library / C | Rust / C |"
+    print "|---|---|---|---|---|---|---|---|---|"
+    for (i = 1; i <= streams; i++)
+        rows(stream[i])
     print ""
-    if ("clang" in tool)
-        printf "Plain C by %s to plain C by gcc, time and instructions: %s; %s; %s; %s.\n",
-            tool["clang"], by_clang("mix"), by_clang("arrival"), by_clang("departure"),
-            by_clang("tick")
-    miss("arrival")
-    miss("departure")
-    miss("tick")
+    for (i = 1; i <= streams; i++) {
+        s = stream[i]
+        if ("clang" in tool)
+            printf "Plain C by %s to plain C by gcc, stream %s, time and instructions: %s; %s; %s; %s.\n",
+                tool["clang"], s, by_clang(s, "mix"), by_clang(s, "arrival"),
+                by_clang(s, "departure"), by_clang(s, "tick")
+        miss(s, "arrival")
+        miss(s, "departure")
+        miss(s, "tick")
+    }
     printf "At most 1.1 times plain C, in time%s: ", counted ? " and instructions" : ""
     print missed == "" ? "reached." : "missed by " substr(missed, 3) "."
 }
