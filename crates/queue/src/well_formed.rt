@@ -63,18 +63,9 @@ fn measurement_fits(rate: Rate, clock: Micros, count: u64) -> bool
 {
     let runs = rate.measuring;
     if runs {
-        if clock.0 < rate.start.0 {
-            return false;
-        }
-        if count == 0 {
-            return false;
-        }
-        return rate.counted.0 < THRESHOLD;
+        return (rate.start.0 <= clock.0) & (rate.counted.0 < THRESHOLD) & (count != 0);
     }
-    if rate.start.0 != 0 {
-        return false;
-    }
-    rate.counted.0 == 0
+    (rate.start.0 == 0) & (rate.counted.0 == 0)
 }
 
 impl State {
