@@ -12,7 +12,8 @@ use lib.Dec.{leb}
 use Rattle.units.specs.Kinds.{whole}
 use Rattle.pie.specs.Update.{divisorOf, lookup, nextProb, table}
 use Rattle.laws.proofs.Choice.{either}
-use Rattle.guarantees.proofs.Fall.{fall, kept, le-or-lt, next-empty}
+use Rattle.pie.proofs.IdleStep.{fall, le-or-lt}
+use Rattle.guarantees.proofs.Fall.{kept, next-empty}
 
 -- the end of the row above b's in the table: no p up to it need have b's k
 unfoldable pub floor : List (ℕ × ℕ) → (low b : ℕ) → ℕ

@@ -9,7 +9,7 @@ use Rattle.pie.specs.declared.Pie.{Pie}
 use Rattle.pie.proofs.Ranges.{next-prob-le}
 use Rattle.guarantees.specs.Fading.{Fading, FadesWithin, times}
 use Rattle.guarantees.proofs.Bound.{bound, bound-next, bound-stays, floor, worst}
-use Rattle.guarantees.proofs.Fall.{fall}
+use Rattle.pie.proofs.IdleStep.{fall}
 
 -- after n ticks in succession that each found the queue empty
 pub record Within (least n : ℕ) (pie : Pie) : Type 0 where

@@ -19,7 +19,7 @@ use Rattle.guarantees.specs.Calls.{Call, Entry, entry, update}
 use Rattle.guarantees.specs.Recovery.{Recovery, RecoversAfter, Tally, noted, nothingYet, tally}
 use Rattle.guarantees.proofs.Bound.{bound, floor, worst}
 use Rattle.guarantees.proofs.Fading.{faded, no-delay, two-or-more}
-use Rattle.guarantees.proofs.Fall.{fall}
+use Rattle.pie.proofs.IdleStep.{fall}
 use Rattle.guarantees.proofs.Grace.{ticked-by-limits}
 use Rattle.guarantees.proofs.Replies.{at-reply}
 use Rattle.guarantees.proofs.Tallies.{Told, at-start, counted-empty, reply-told, ticked-told}
