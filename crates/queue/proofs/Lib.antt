@@ -6,3 +6,4 @@ pub mod WhenAccepted
 pub mod Replies
 pub mod Admitted
 pub mod Kept
+pub mod Places

@@ -4,6 +4,7 @@ use crate::ArrivalAnswer;
 use crate::Arrived;
 use crate::Refusal;
 use crate::State;
+use crate::ring::place;
 use pie::Decided;
 use pie::LARGEST;
 use pie::LATEST;
@@ -140,8 +141,7 @@ impl State {
     {
         let admits = v.admits();
         if admits {
-            let at = ((self.first + self.backlog.count) as u32
-                % self.settings.slots as u32) as usize;
+            let at = place(self.first, self.backlog.count, self.settings.slots) as usize;
             handles[at] = handle;
             sizes[at] = size;
         }

@@ -3,6 +3,7 @@ use crate::Accepted;
 use crate::Departed;
 use crate::Refusal;
 use crate::State;
+use crate::ring::place;
 use pie::Backlog;
 use pie::LARGEST;
 use pie::LATEST;
@@ -79,7 +80,7 @@ impl State {
         let measured = before.rate;
         let rate = measured.depart(clock, size, backlog);
         let pie = Pie { rate, ..before };
-        let first = ((self.first + 1) as u32 % self.settings.slots as u32) as u64;
+        let first = place(self.first, 1, self.settings.slots);
         State {
             clock,
             pie,

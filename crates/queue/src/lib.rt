@@ -9,6 +9,7 @@ mod arriving;
 mod departing;
 mod fresh;
 mod refusing;
+mod ring;
 mod ticking;
 mod well_formed;
 

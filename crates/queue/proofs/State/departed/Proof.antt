@@ -16,9 +16,10 @@ use Rattle.queue.proofs.State.departed.Statement.{statement}
 use Rattle.queue.proofs.State.departed.Tie as tie
 
 -- the new state, from what the calls return
-departed-is : (s : State) (clock size : ℕ) (b : Backlog) (r : Rate) →
+departed-is : (s : State) (clock size : ℕ) (b : Backlog) (r : Rate) (first : ℕ) →
     b ≡ left (s .backlog) size →
     r ≡ rateAfter (s .pie .rate) clock size (b .count) (b .bytes .0) →
+    first ≡ (s .first + 1) % s .settings .slots →
     record {
       settings = s .settings;
       clock = micros clock;
@@ -32,11 +33,11 @@ departed-is : (s : State) (clock size : ℕ) (b : Backlog) (r : Rate) →
             rate = r;
           };
       backlog = b;
-      first = (s .first + 1) % s .settings .slots;
+      first = first;
       verdicts = s .verdicts;
     } ≡ departedState s clock size
 unfolding departedState
-departed-is s clock size b r eb er = rw (er, eb)
+departed-is s clock size b r first eb er ef = rw (er, eb, ef)
 
 leave-requires : tie.Need-leave-requires
 leave-requires c κs = search needs
@@ -46,37 +47,21 @@ depart-requires c κs =
     let a = c .before .before .before .before in
     let f = facts (a .args .self) (a .pre .0) in omega arith
 
-add-first : tie.Need-add-first
-add-first c =
-    let a = c .before .before .before .before .before .before .before .before .before .before in
-    let f = facts (a .args .self) (a .pre .0) in omega arith
-
-cast-first : tie.Need-cast-first
-cast-first c =
-    let a = c .before .before .before .before .before .before .before .before .before .before in
-    let f = facts (a .args .self) (a .pre .0) in omega arith
-
-cast-first-2 : tie.Need-cast-first-2
-cast-first-2 c =
-    let a = c .before .before .before .before .before .before .before .before .before .before .before in
-    let f = facts (a .args .self) (a .pre .0) in omega arith
-
-rem-first : tie.Need-rem-first
-rem-first c =
-    let a = c .before .before .before .before .before .before .before .before .before .before .before in
-    facts (a .args .self) (a .pre .0) .slots-low
-
-cast-first-3 : tie.Need-cast-first-3
-cast-first-3 c =
-    let s = c .before .before .before .before .before .before .before .before .before .before .before .args .self in
-    let f = facts s (c .before .before .before .before .before .before .before .before .before .before .before .pre .0) in omega (arith, mod-lt (s .first + 1) (f .slots-low))
+place-requires : tie.Need-place-requires
+place-requires c κs =
+    let a = c .before .before .before .before .before .before .before .before .before in
+    let f = facts (a .args .self) (a .pre .0) in (f .first-high, omega arith, f .slots-high)
 
 returns : tie.Need-returns
 returns c =
-    let d = c .before .before .before .before .before .before .before .before .before in
+    let n = c .before .before .before in
+    let d = n .before .before .before .before .before in
     let l = d .before .before .before in
     let a = l .before .before .args in
-    departed-is (a .self) (a .clock .0) (a .size .0) (l .leave .result) (d .depart .result) (l .leave .ensures) (d .depart .ensures)
+    departed-is (a .self) (a .clock .0) (a .size .0) (l .leave .result) (d .depart .result) (n .place .result)
+    (l .leave .ensures)
+    (d .depart .ensures)
+    (n .place .ensures)
 
 pub departed-spec : {M : Type 1} → statement M
-departed-spec = tie.close (tie.spec leave-requires depart-requires add-first cast-first cast-first-2 rem-first cast-first-3 returns)
+departed-spec = tie.close (tie.spec leave-requires depart-requires place-requires returns)

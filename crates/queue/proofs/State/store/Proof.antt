@@ -12,49 +12,32 @@ use Rattle.queue.proofs.State.store.Tie as tie
 admits-requires : tie.Need-admits-requires
 admits-requires c κs = search needs
 
-add-at : tie.Need-add-at
-add-at c =
-    let a = c .before .before .before .before .before in
-    let f = facts (a .args .self) (a .pre .0) in omega arith
-
-cast-at : tie.Need-cast-at
-cast-at c =
-    let a = c .before .before .before .before .before in
-    let f = facts (a .args .self) (a .pre .0) in omega arith
-
-cast-at-2 : tie.Need-cast-at-2
-cast-at-2 c =
-    let a = c .before .before .before .before .before .before in
-    let f = facts (a .args .self) (a .pre .0) in omega arith
-
-rem-at : tie.Need-rem-at
-rem-at c =
-    let a = c .before .before .before .before .before .before in
-    facts (a .args .self) (a .pre .0) .slots-low
+place-requires : tie.Need-place-requires
+place-requires c κs =
+    let a = c .before .before .before .before in
+    let f = facts (a .args .self) (a .pre .0) in (f .first-high, f .count-high, f .slots-high)
 
 tail-lt : (a : tie.Start) → tailPlace (a .args .self) < a .args .self .settings .slots
 tail-lt a =
     let s = a .args .self in mod-lt (s .first + s .backlog .count) (facts s (a .pre .0) .slots-low)
 
-cast-at-3 : tie.Need-cast-at-3
-cast-at-3 c =
-    let a = c .before .before .before .before .before .before in omega (arith, tail-lt a, facts (a .args .self) (a .pre .0) .slots-high)
+-- the place that was computed is the tail's
+at-lt : (c : tie.After-place) → c .place .result < c .before .before .before .before .before .args .self .settings .slots
+at-lt c = rw (c .place .ensures) (tail-lt (c .before .before .before .before .before))
 
 mul-handles : tie.Need-mul-handles
 mul-handles c =
-    let a = c .before .before .before .before .before .before in omega (arith, tail-lt a, facts (a .args .self) (a .pre .0) .slots-high)
+    let a = c .before .before .before .before .before in omega (arith, at-lt c, facts (a .args .self) (a .pre .0) .slots-high)
 
 slice-write-handles : tie.Need-slice-write-handles
-slice-write-handles c =
-    let a = c .before .before .before .before .before .before in omega (arith, tail-lt a, a .pre)
+slice-write-handles c = let a = c .before .before .before .before .before in omega (arith, at-lt c, a .pre)
 
 mul-sizes : tie.Need-mul-sizes
 mul-sizes c =
-    let a = c .before .before .before .before .before .before in omega (arith, tail-lt a, facts (a .args .self) (a .pre .0) .slots-high)
+    let a = c .before .before .before .before .before in omega (arith, at-lt c, facts (a .args .self) (a .pre .0) .slots-high)
 
 slice-write-sizes : tie.Need-slice-write-sizes
-slice-write-sizes c =
-    let a = c .before .before .before .before .before .before in omega (arith, tail-lt a, a .pre)
+slice-write-sizes c = let a = c .before .before .before .before .before in omega (arith, at-lt c, a .pre)
 
 same-length : tie.Need-same-length
 same-length c = search needs
@@ -64,7 +47,7 @@ same-length-2 c = search needs
 
 returns : tie.Need-returns
 returns c =
-    let e = c .before .before in simp (← (e .before .admits .ensures), e .if1 .taken) (refl, refl)
+    let e = c .before in simp (← (e .before .admits .ensures), e .if1 .taken, c .place .ensures) (refl, refl)
 
 returns-2 : tie.Need-returns-2
 returns-2 c = simp (← (c .before .admits .ensures), c .if1 .left) (refl, refl)
@@ -74,11 +57,7 @@ store-spec =
     tie.close
     (tie.spec
     admits-requires
-    add-at
-    cast-at
-    cast-at-2
-    rem-at
-    cast-at-3
+    place-requires
     mul-handles
     slice-write-handles
     mul-sizes
