@@ -15,6 +15,16 @@
 #define SMALL 3000u      /* bytes of a small queue */
 #define LARGEST 65535u   /* largest packet */
 
+/* The place `at` of a ring, for `at` below 2 * slots; by a remainder where REMAINDER is defined. */
+static inline uint32_t place(uint32_t at, uint32_t slots)
+{
+#ifdef REMAINDER
+    return at % slots;
+#else
+    return at < slots ? at : at - slots;
+#endif
+}
+
 static bool settings_in_range(uint32_t target, uint32_t buffer, uint32_t slots)
 {
     return 1000 <= target && target <= 100000
@@ -105,7 +115,7 @@ uint32_t plain_arrival(struct plain_state *s, uint32_t *handles, size_t handles_
 
     uint32_t verdict = decide(s, size, ecn, u);
     if (verdict == PLAIN_ENQUEUED || verdict == PLAIN_MARKED) {
-        uint32_t tail = (s->first + s->count) % s->slots;
+        uint32_t tail = place(s->first + s->count, s->slots);
         handles[tail] = handle;
         sizes[tail] = size;
         s->count++;
@@ -156,7 +166,7 @@ uint32_t plain_departure(struct plain_state *s, const uint32_t *handles, size_t 
 
     packet->handle = handles[s->first];
     packet->size = size;
-    s->first = (s->first + 1) % s->slots;
+    s->first = place(s->first + 1, s->slots);
     s->count = count;
     s->bytes = bytes;
     s->clock = clock;

@@ -37,6 +37,15 @@ struct side {
     uint32_t prefix##_tick(struct plain_state *, uint64_t);
 DECLARE(twin)
 DECLARE(clang)
+DECLARE(remainder)
+
+/* An earlier archive of the library, its calls renamed. */
+uint32_t before_fresh(struct obikuteru_state *, uint64_t, uint64_t, uint64_t, uint64_t);
+uint32_t before_arrival(struct obikuteru_state *, uint32_t *, size_t, uint32_t *, size_t, uint64_t,
+                        uint32_t, uint32_t, bool, uint32_t);
+uint32_t before_departure(struct obikuteru_state *, const uint32_t *, size_t, const uint32_t *,
+                          size_t, uint64_t, struct obikuteru_packet *);
+uint32_t before_tick(struct obikuteru_state *, uint64_t);
 
 static struct obikuteru_state library_state(struct plain_state r)
 {
@@ -97,6 +106,24 @@ static struct plain_state library_record(struct obikuteru_state s)
 #include "side.h"
 #endif
 
+#ifdef WITH_BEFORE
+#define SIDE(name) on_before_##name
+#define CALL(name) before_##name
+#define STATE struct obikuteru_state
+#define PACKET struct obikuteru_packet
+#define READ(state) library_record(state)
+#define WRITE(record) library_state(record)
+#include "side.h"
+
+#define SIDE(name) on_remainder_##name
+#define CALL(name) remainder_##name
+#define STATE struct plain_state
+#define PACKET struct plain_packet
+#define READ(state) (state)
+#define WRITE(record) (record)
+#include "side.h"
+#endif
+
 #define ENTRIES(side)                                                                             \
     {#side, on_##side##_fresh, on_##side##_mix, on_##side##_record, on_##side##_load,             \
      on_##side##_loaded, {on_##side##_arrivals, on_##side##_departures, on_##side##_ticks}}
@@ -107,6 +134,10 @@ static const struct side sides[] = {
     ENTRIES(rust),
 #ifdef WITH_CLANG
     ENTRIES(clang),
+#endif
+#ifdef WITH_BEFORE
+    ENTRIES(before),
+    ENTRIES(remainder),
 #endif
 };
 
