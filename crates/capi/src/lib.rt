@@ -13,6 +13,7 @@ use units::Bytes;
 use units::Micros;
 use units::Prob;
 ghost use mathlib.Core.Path.{_≡_};
+ghost use mathlib.Core.List.{[], _∷_};
 ghost use Prim.Native.Nat.{_+_, _<_};
 ghost use lib.ListN.{getD, length};
 ghost use Rattle.pie.specs.Constants.{mostVerdicts};
@@ -21,7 +22,7 @@ ghost use Rattle.queue.specs.Answer.{numberOf};
 ghost use Rattle.queue.specs.State.{wellFormed};
 ghost use Rattle.queue.specs.Fresh.{fresh, settingsOf};
 ghost use Rattle.queue.specs.Arrival.{arrival, stored};
-ghost use Rattle.queue.specs.Departure.{departure};
+ghost use Rattle.queue.specs.Departure.{departedState, departure};
 ghost use Rattle.queue.specs.Tick.{tick};
 ghost use Rattle.capi.specs.Words.{arrivalWords, flagWord, stateOf, stateWords};
 ghost use Rattle.capi.specs.Codes.{codeOf, packetOf, wordsAfter};
@@ -129,6 +130,26 @@ fn write_arrival(w: &mut [u64; 21], s: State, v: Verdict) -> u32
     place as u32
 }
 
+// The words that a departure changes, and its packet. A measurement that has counted bytes goes on, and its other words stay.
+fn write_departure(w: &mut [u64; 21], packet: &mut [u32; 2], state: State, handle: u32, size: u32)
+    requires { ⌜ (length (now w) ≡ 21) × (state ≡ departedState (stateOf (now w)) (state .clock .0) size) ⌝ }
+    ensures { λ _. ⌜ now (w .exit) ≡ stateWords (now (w .entry)) state ⌝ }
+    ensures { λ _. ⌜ now (packet .exit) ≡ handle ∷ size ∷ [] ⌝ }
+{
+    let rate = state.pie.rate;
+    w[12] = rate.counted.0;
+    if rate.counted.0 == 0 {
+        w[9] = rate.average.0;
+        w[10] = flag(w[10], rate.measuring);
+        w[11] = rate.start.0;
+    }
+    w[3] = state.clock.0;
+    w[13] = state.backlog.count;
+    w[14] = state.backlog.bytes.0;
+    w[15] = state.first;
+    *packet = [handle, size];
+}
+
 // The number of a refusal, with 100.
 fn refused(r: Refusal) -> u32
     ensures { λ n. ⌜ n ≡ 100 + numberOf r ⌝ }
@@ -217,8 +238,7 @@ pub extern "C" fn obikuteru_departure(
             refused(refusal)
         }
         Accepted::Yes => {
-            encode(words, state);
-            *packet = [handle, size];
+            write_departure(words, packet, state, handle, size);
             0
         }
     }

@@ -1,5 +1,5 @@
 -- What a reply's answer tells: a refusal's number is above 0, and a verdict is no refusal.
-use mathlib.Core.Path.{_≡_, refl}
+use mathlib.Core.Path.{_≡_, refl, ap}
 use mathlib.Core.Bool.{Bool, cond}
 use mathlib.Core.List.{List}
 use Prim.Native.Nat.{ℕ, zero, suc}
@@ -85,3 +85,16 @@ decided s handles sizes clock size ecn u v = go (arrivalRefusal s (length handle
         (n ≡ 0) × ((unlessRefused n s r) .state ≡ arrivedState s clock size v)
     go zero e f = (refl, cc)
     go (suc n) e f = let z : _≡_ {A = ℕ} 0 1 = cc in absurd (omega arith)
+
+-- a departure that is answered with a packet returns the state that this packet has left
+pub taken : (s : State) (handles sizes : List ℕ) (clock handle size : ℕ) →
+    (departure s handles sizes clock) .answer ≡ departed handle size → (departure s handles sizes clock) .state ≡ departedState s clock size
+unfolding departure
+taken s handles sizes clock handle size = go (departureRefusal s (length handles) (length sizes) clock (headOf s sizes))
+  where
+    r : Reply
+    r = record { answer = departed (headOf s handles) (headOf s sizes); state = departedState s clock (headOf s sizes) }
+
+    go : (n : ℕ) → (unlessRefused n s r) .answer ≡ departed handle size → (unlessRefused n s r) .state ≡ departedState s clock size
+    go zero f = ap (λ n. departedState s clock n) (ap sizeIn f)
+    go (suc n) f = let z : _≡_ {A = ℕ} 0 1 = cc in absurd (omega arith)

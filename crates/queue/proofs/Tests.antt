@@ -1,13 +1,13 @@
 -- What the tests of a list say one by one.
 use mathlib.Core.Path.{_≡_, refl}
-use mathlib.Core.Bool.{Bool, true, false, _&&_}
+use mathlib.Core.Bool.{Bool, true, false, _&&_, _||_}
 use mathlib.Core.List.{List, [], _∷_, foldl}
 use Prim.Native.Nat.{ℕ, zero, suc, _<_}
 use native.Mathlib.Omega.{arith}
 use borrow.Author.Tests.{ltb-true}
 use lib.Dec.{ltb}
 use lib.ListN.{getD}
-use Rattle.laws.proofs.Tests.{and-left, and-right}
+use Rattle.laws.proofs.Tests.{and-left, and-right, or-neither}
 use Rattle.queue.specs.State.{all}
 use Rattle.queue.specs.Refusals.{firstRefusal}
 
@@ -22,6 +22,16 @@ pub at-from : (a : Bool) (tests : List Bool) → foldl _&&_ a tests ≡ true →
 at-from a [] e i = refl
 at-from a (t ∷ tests) e zero = and-right a t (first-of (a && t) tests e)
 at-from a (t ∷ tests) e (suc i) = at-from (a && t) tests e i
+
+-- where neither a test nor one of a list is true, it is false and each of them is
+pub first-not : (a : Bool) (tests : List Bool) → foldl _||_ a tests ≡ false → a ≡ false
+first-not a [] e = e
+first-not a (t ∷ tests) e = or-neither a t (first-not (a || t) tests e) .0
+
+pub none-from : (a : Bool) (tests : List Bool) → foldl _||_ a tests ≡ false → (i : ℕ) → getD tests i false ≡ false
+none-from a [] e i = refl
+none-from a (t ∷ tests) e zero = or-neither a t (first-not (a || t) tests e) .1
+none-from a (t ∷ tests) e (suc i) = none-from (a || t) tests e i
 
 -- where all pass, each passes
 pub all-at : (tests : List Bool) → all tests ≡ true → (i : ℕ) → getD tests i true ≡ true

@@ -69,7 +69,8 @@ fn measurement_fits(rate: Rate, clock: Micros, count: u64) -> bool
 }
 
 impl State {
-    // The product comes after the tests that bound it, and the compiler then makes a compare and a jump of each (docs/PERFORMANCE.md).
+    // It asks whether a test fails, so that each limit is compared as it is written. The product comes after the tests that bound it, and
+    // the compiler then makes a compare and a jump of each (docs/PERFORMANCE.md).
     pub fn well_formed(self) -> bool
         ensures { λ r. ⌜ r ≡ wellFormed self ⌝ }
     {
@@ -80,19 +81,19 @@ impl State {
         let settings = self.settings;
         let pie = self.pie;
         let backlog = self.backlog;
-        let fits = settings.in_range()
-            & (self.last.0 <= self.clock.0)
-            & (self.clock.0 <= LATEST)
-            & (pie.prob.0 <= Prob::WHOLE.0)
-            & (pie.old.0 <= LONGEST)
-            & (pie.allowance.0 <= FULL_ALLOWANCE)
-            & (pie.accumulated.0 < MOST_ACCUMULATED)
-            & (pie.rate.average.0 <= LONGEST)
-            & (self.first < settings.slots)
-            & (backlog.count <= settings.slots)
-            & (backlog.count <= backlog.bytes.0)
-            & (backlog.bytes.0 <= settings.buffer.0);
-        if !fits {
+        let wrong = !settings.in_range()
+            | (self.clock.0 < self.last.0)
+            | (LATEST < self.clock.0)
+            | (Prob::WHOLE.0 < pie.prob.0)
+            | (LONGEST < pie.old.0)
+            | (FULL_ALLOWANCE < pie.allowance.0)
+            | (MOST_ACCUMULATED <= pie.accumulated.0)
+            | (LONGEST < pie.rate.average.0)
+            | (settings.slots <= self.first)
+            | (settings.slots < backlog.count)
+            | (backlog.bytes.0 < backlog.count)
+            | (settings.buffer.0 < backlog.bytes.0);
+        if wrong {
             return false;
         }
         if LARGEST * backlog.count < backlog.bytes.0 {

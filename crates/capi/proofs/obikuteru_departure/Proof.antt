@@ -2,6 +2,7 @@
 use mathlib.Core.Path.{refl}
 use Rattle.queue.specs.Answer.{departed}
 use Rattle.capi.proofs.Codes.{accepted, refused}
+use Rattle.capi.proofs.Words.{departed-as}
 use borrow.Author.Needs.{needs}
 use Rattle.capi.proofs.obikuteru_departure.Statement.{statement}
 use Rattle.capi.proofs.obikuteru_departure.Tie as tie
@@ -21,8 +22,12 @@ refused-requires c κs = search needs
 enum-told : tie.Need-enum-told
 enum-told c = search needs
 
-encode-requires : tie.Need-encode-requires
-encode-requires c κs = search needs
+write-departure-requires : tie.Need-write-departure-requires
+write-departure-requires c κs =
+    let t = c .before .before .before .before .before in
+    let k = t .before .decode .ensures in
+    let d = t .departure .ensures in
+    (k .1, rw (← (k .0)) (departed-as _ _ _ _ _ _ _ _ (d .0) (c .before .before .enum-told .given .1)))
 
 returns : tie.Need-returns
 returns c =
@@ -35,8 +40,9 @@ returns-2 : tie.Need-returns-2
 returns-2 c =
     let t = c .before .before .before .before .before .before in
     let d = t .departure .ensures in
-    let g = accepted (departed _ _) _ _ (d .0) (c .before .before .before .enum-told .given .1) refl refl (c .before .encode .ensures) in
-    rw (← (t .before .decode .ensures .0)) (g .0, g .1, rw (d .1 .0, d .1 .1))
+    let k = c .write-departure .ensures in
+    let g = accepted (departed _ _) _ _ (d .0) (c .before .before .before .enum-told .given .1) refl refl (k .0) in
+    rw (← (t .before .decode .ensures .0)) (g .0, g .1, rw (k .1, d .1 .0, d .1 .1))
 
 pub obikuteru-departure-spec : {M : Type 1} → statement M
 obikuteru-departure-spec =
@@ -47,6 +53,6 @@ obikuteru-departure-spec =
     enum-known-accepted
     refused-requires
     enum-told
-    encode-requires
+    write-departure-requires
     returns
     returns-2)

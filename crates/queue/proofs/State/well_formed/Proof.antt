@@ -1,6 +1,6 @@
 -- `State::well_formed`: where a part fails a condition fails, and where all parts pass every condition passes.
 use borrow.Author.Needs.{needs}
-use borrow.Author.Tests.{le-leb, leb-true, lt-ltb, not-false, not-true}
+use borrow.Author.Tests.{le-leb, le-ltb, leb-false, leb-true, lt-leb, lt-ltb, ltb-false, not-false, not-true}
 use mathlib.Core.Path.{_≡_, ap, sym, _∙_}
 use mathlib.Core.Bool.{Bool, true, false, not, _&&_, _||_, and-true, false≢true}
 use mathlib.Core.List.{List, [], _∷_, foldl}
@@ -13,24 +13,24 @@ use Rattle.pie.specs.Verdicts.{total}
 use Rattle.queue.specs.State.{all, settingsConditions, wellFormed}
 use Rattle.queue.specs.declared.State.{State}
 use Rattle.queue.proofs.Facts.{Facts, facts}
-use Rattle.queue.proofs.Tests.{all-at, at-from, false-of, first-of}
+use Rattle.queue.proofs.Tests.{all-at, false-of, first-not, none-from}
 use Rattle.queue.proofs.State.well_formed.Statement.{statement}
 use Rattle.queue.proofs.State.well_formed.Tie as tie
 
--- the tests that stand beside the settings'
-abbrev tests : State → List Bool
-tests s =
-    leb (s .last .0) (s .clock .0)
-    ∷ leb (s .clock .0) latest
-    ∷ leb (s .pie .prob .0) whole
-    ∷ leb (s .pie .old .0) longest
-    ∷ leb (s .pie .allowance .0) fullAllowance
-    ∷ ltb (s .pie .accumulated .0) mostAccumulated
-    ∷ leb (s .pie .rate .average .0) longest
-    ∷ ltb (s .first) (s .settings .slots)
-    ∷ leb (s .backlog .count) (s .settings .slots)
-    ∷ leb (s .backlog .count) (s .backlog .bytes .0)
-    ∷ leb (s .backlog .bytes .0) (s .settings .buffer .0)
+-- the tests that stand beside the settings': each is true of a state that is wrong
+abbrev wrongs : State → List Bool
+wrongs s =
+    ltb (s .clock .0) (s .last .0)
+    ∷ ltb latest (s .clock .0)
+    ∷ ltb whole (s .pie .prob .0)
+    ∷ ltb longest (s .pie .old .0)
+    ∷ ltb fullAllowance (s .pie .allowance .0)
+    ∷ leb mostAccumulated (s .pie .accumulated .0)
+    ∷ ltb longest (s .pie .rate .average .0)
+    ∷ leb (s .settings .slots) (s .first)
+    ∷ ltb (s .settings .slots) (s .backlog .count)
+    ∷ ltb (s .backlog .bytes .0) (s .backlog .count)
+    ∷ ltb (s .settings .buffer .0) (s .backlog .bytes .0)
     ∷ []
 
 -- what `measurement_fits` tests
@@ -53,52 +53,54 @@ module _ (s : State) where
         le-leb _ _ (f .slots-high),
       )
 
-  tests-pass : Facts s → foldl _&&_ (all (settingsConditions (s .settings))) (tests s) ≡ true
-  tests-pass f =
+  none-wrong : Facts s → foldl _||_ (not (all (settingsConditions (s .settings)))) (wrongs s) ≡ false
+  none-wrong f =
       rw (
         settings-pass f,
-        le-leb (s .last .0) (s .clock .0) (f .last-high),
-        le-leb (s .clock .0) latest (f .clock-high),
-        le-leb (s .pie .prob .0) whole (f .prob-high),
-        le-leb (s .pie .old .0) longest (f .old-high),
-        le-leb (s .pie .allowance .0) fullAllowance (f .allowance-high),
-        lt-ltb (s .pie .accumulated .0) mostAccumulated (f .accumulated-high),
-        le-leb (s .pie .rate .average .0) longest (f .average-high),
-        lt-ltb (s .first) (s .settings .slots) (f .first-high),
-        le-leb (s .backlog .count) (s .settings .slots) (f .count-high),
-        le-leb (s .backlog .count) (s .backlog .bytes .0) (f .bytes-low),
-        le-leb (s .backlog .bytes .0) (s .settings .buffer .0) (f .bytes-fit),
+        le-ltb (s .clock .0) (s .last .0) (f .last-high),
+        le-ltb latest (s .clock .0) (f .clock-high),
+        le-ltb whole (s .pie .prob .0) (f .prob-high),
+        le-ltb longest (s .pie .old .0) (f .old-high),
+        le-ltb fullAllowance (s .pie .allowance .0) (f .allowance-high),
+        lt-leb mostAccumulated (s .pie .accumulated .0) (f .accumulated-high),
+        le-ltb longest (s .pie .rate .average .0) (f .average-high),
+        lt-leb (s .settings .slots) (s .first) (f .first-high),
+        le-ltb (s .settings .slots) (s .backlog .count) (f .count-high),
+        le-ltb (s .backlog .bytes .0) (s .backlog .count) (f .bytes-low),
+        le-ltb (s .settings .buffer .0) (s .backlog .bytes .0) (f .bytes-fit),
       )
 
 -- a part that passes in each well-formed state: where it fails, the state is not well formed
 part : (s : State) (b p : Bool) → (Facts s → p ≡ true) → b ≡ p → not b ≡ true → false ≡ wellFormed s
 part s b p h e f = false-of (wellFormed s) (λ w. false≢true (sym (not-true b f) ∙ e ∙ h (facts s w)))
 
--- where one of the tests fails, with what `in_range` answered
-tests-fail : (s : State) (r : Bool) → r ≡ all (settingsConditions (s .settings)) → not (foldl _&&_ r (tests s)) ≡ true → false ≡ wellFormed s
-tests-fail s r e = part s _ _ (tests-pass s) (ap (λ q. foldl _&&_ q (tests s)) e)
+-- where one of the tests is true, with what `in_range` answered
+one-wrong : (s : State) (r : Bool) → r ≡ all (settingsConditions (s .settings)) → foldl _||_ (not r) (wrongs s) ≡ true → false ≡ wellFormed s
+one-wrong s r e f =
+    false-of (wellFormed s)
+    (λ w. false≢true (sym (none-wrong s (facts s w)) ∙ ap (λ q. foldl _||_ (not q) (wrongs s)) (sym e) ∙ f))
 
--- where all of them pass, the measurement decides
-tests-hold : (s : State) (r m : Bool) → r ≡ all (settingsConditions (s .settings)) → foldl _&&_ r (tests s) ≡ true →
+-- where none is, the measurement decides
+none-decides : (s : State) (r m : Bool) → r ≡ all (settingsConditions (s .settings)) → foldl _||_ (not r) (wrongs s) ≡ false →
     s .backlog .bytes .0 ≤ largest * s .backlog .count → leb (total (s .verdicts)) mostVerdicts ≡ true →
     m ≡ measured s → m ≡ wellFormed s
 unfolding wellFormed
-tests-hold s r m e passed h counted k =
-    let b = at-from r (tests s) passed in
+none-decides s r m e none h counted k =
+    let b = none-from (not r) (wrongs s) none in
     simp (
       ← e,
-      first-of r (tests s) passed,
-      b 0,
-      b 1,
-      b 2,
-      b 3,
-      b 4,
-      b 5,
-      b 6,
-      b 7,
-      b 8,
-      b 9,
-      b 10,
+      not-false r (first-not (not r) (wrongs s) none),
+      le-leb (s .last .0) (s .clock .0) (ltb-false _ _ (b 0)),
+      le-leb (s .clock .0) latest (ltb-false _ _ (b 1)),
+      le-leb (s .pie .prob .0) whole (ltb-false _ _ (b 2)),
+      le-leb (s .pie .old .0) longest (ltb-false _ _ (b 3)),
+      le-leb (s .pie .allowance .0) fullAllowance (ltb-false _ _ (b 4)),
+      lt-ltb (s .pie .accumulated .0) mostAccumulated (leb-false _ _ (b 5)),
+      le-leb (s .pie .rate .average .0) longest (ltb-false _ _ (b 6)),
+      lt-ltb (s .first) (s .settings .slots) (leb-false _ _ (b 7)),
+      le-leb (s .backlog .count) (s .settings .slots) (ltb-false _ _ (b 8)),
+      le-leb (s .backlog .count) (s .backlog .bytes .0) (ltb-false _ _ (b 9)),
+      le-leb (s .backlog .bytes .0) (s .settings .buffer .0) (ltb-false _ _ (b 10)),
       le-leb (s .backlog .bytes .0) (largest * s .backlog .count) h,
       counted,
       and-true,
@@ -117,18 +119,18 @@ returns-2 : tie.Need-returns-2
 returns-2 c =
     let r = c .before .before .before .before .before .before .before .before .before .before .before .before .before .before .before .before in
     let s = r .before .before .before .before .before .before .before .args .self in
-    tests-fail s (r .in-range .result) (r .in-range .ensures) (c .if2 .taken)
+    one-wrong s (r .in-range .result) (r .in-range .ensures) (c .if2 .taken)
 
 mul-if3 : tie.Need-mul-if3
 mul-if3 c =
     let e2 = c .before in
     let r = e2 .before .before .before .before .before .before .before .before .before .before .before .before .before .before .before .before in
     let s = r .before .before .before .before .before .before .before .args .self in
-    let passed = not-false (foldl _&&_ (r .in-range .result) (tests s)) (e2 .if2 .left) in
-    let settings = sym (r .in-range .ensures) ∙ first-of (r .in-range .result) (tests s) passed in
+    let q = r .in-range .result in
+    let settings = sym (r .in-range .ensures) ∙ not-false q (first-not (not q) (wrongs s) (e2 .if2 .left)) in
     omega (
       arith,
-      leb-true (s .backlog .count) (s .settings .slots) (at-from (r .in-range .result) (tests s) passed 8),
+      ltb-false (s .settings .slots) (s .backlog .count) (none-from (not q) (wrongs s) (e2 .if2 .left) 8),
       leb-true (s .settings .slots) 65536 (all-at (settingsConditions (s .settings)) settings 5),
     )
 
@@ -144,12 +146,12 @@ returns-4 c =
     let e2 = e3 .before .before .before in
     let r = e2 .before .before .before .before .before .before .before .before .before .before .before .before .before .before .before .before in
     let e1 = r .before .before .before .before in
-    tests-hold
+    none-decides
     (e1 .before .before .before .args .self)
     (r .in-range .result)
     (c .measurement-fits .result)
     (r .in-range .ensures)
-    (not-false _ (e2 .if2 .left))
+    (e2 .if2 .left)
     (e3 .if3 .left)
     (sym (e1 .before .counts-fit .ensures) ∙ not-false _ (e1 .if1 .left))
     (c .measurement-fits .ensures)
