@@ -1,0 +1,24 @@
+-- Numbers and their bytes determine each other, at every width.
+use mathlib.Core.Path.{_≡_, refl, ap, ap₂, _∙_}
+use mathlib.Core.List.{List, [], _∷_, _++_}
+use Prim.Native.Nat.{ℕ, zero, suc, _+_, _*_, _/_, _%_, _^_, _<_, _≤_}
+use native.Mathlib.Nat.{pow-zero, pow-succ'}
+use native.Mathlib.Omega.{arith}
+use lib.ListN.{length}
+use Rattle.codec.specs.Numbers.{bytesOf, numberOf}
+use Rattle.codec.specs.Fields.{AreBytes}
+
+pub length-bytesOf : (w x : ℕ) → length (bytesOf w x) ≡ w
+length-bytesOf zero x = refl
+length-bytesOf (suc w) x = ap suc (length-bytesOf w (x / 256))
+
+pub number-bytes : (w x : ℕ) → x < 256 ^ w → numberOf (bytesOf w x) ≡ x
+number-bytes zero x h = omega (arith, pow-zero 256)
+number-bytes (suc w) x h = rw (number-bytes w (x / 256) (omega (arith, pow-succ' 256 w))) (omega arith)
+
+pub bytes-number : (l : List ℕ) → AreBytes l → bytesOf (length l) (numberOf l) ≡ l
+bytes-number [] h = refl
+bytes-number (b ∷ l) h =
+    let low : (b + 256 * numberOf l) % 256 ≡ b = omega arith in
+    let high : (b + 256 * numberOf l) / 256 ≡ numberOf l = omega arith in
+    rw (low, high) (ap (λ (t : List ℕ). b ∷ t) (bytes-number l (h .1)))

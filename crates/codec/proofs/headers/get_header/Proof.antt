@@ -1,0 +1,52 @@
+-- `get_header` meets its contract.
+use borrow.Author.Needs.{needs}
+use Rattle.codec.proofs.Windows.{settings}
+use Rattle.codec.proofs.headers.get_header.Statement.{statement}
+use Rattle.codec.proofs.headers.get_header.Tie as tie
+
+get8-requires : tie.Need-get8-requires
+get8-requires c κs = search needs
+
+add-get4 : tie.Need-add-get4
+add-get4 c = search needs
+
+get4-requires : tie.Need-get4-requires
+get4-requires c κs = search needs
+
+add-get4-2 : tie.Need-add-get4-2
+add-get4-2 c = search needs
+
+get4-requires-2 : tie.Need-get4-requires-2
+get4-requires-2 c κs = search needs
+
+add-get8 : tie.Need-add-get8
+add-get8 c = search needs
+
+get8-requires-2 : tie.Need-get8-requires-2
+get8-requires-2 c κs = search needs
+
+add-get8-2 : tie.Need-add-get8-2
+add-get8-2 c = search needs
+
+get8-requires-3 : tie.Need-get8-requires-3
+get8-requires-3 c κs = search needs
+
+returns : tie.Need-returns
+returns c =
+    let s = c .before .before .before .before .before .before in
+    settings (s .args .bytes .now) (s .args .at) (c .before .before .before .before .get8 .ensures) (c .before .before .before .get4 .ensures) (c .before .before .get42 .ensures) (c .before .get82 .ensures) (c .get83 .ensures)
+
+pub get-header-spec : {M : Type 1} → statement M
+get-header-spec =
+    tie.close
+    (tie.spec
+    get8-requires
+    add-get4
+    get4-requires
+    add-get4-2
+    get4-requires-2
+    add-get8
+    get8-requires-2
+    add-get8-2
+    get8-requires-3
+    returns)
