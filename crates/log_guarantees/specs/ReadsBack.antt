@@ -1,37 +1,14 @@
 -- What was accepted reads back: settings and note as given, the accepted records in order, then the end.
 use mathlib.Core.Path.{_≡_}
-use mathlib.Core.List.{List, [], _∷_, _++_}
-use Prim.Native.Nat.{ℕ, zero, suc, _+_}
-use lib.ListN.{length}
+use mathlib.Core.List.{List}
+use Prim.Native.Nat.{ℕ}
 use Rattle.codec.specs.declared.Header.{Header}
 use Rattle.codec.specs.declared.Record.{Record}
-use Rattle.log.specs.Answers.{Answer, Turn, end, given, handed}
-use Rattle.log.specs.Reader.{noteOf, placeAfter, readAt, settingsOf}
 use Rattle.log.specs.Writer.{begin}
+use Rattle.log_guarantees.specs.InTurn.{Reads}
 use Rattle.log_guarantees.specs.Run.{AllInRange, logOf, run}
-
--- n calls of the reader, each at the place that the last one left
-abbrev pub answers : (n : ℕ) (log : List ℕ) (place : ℕ) → List (Answer Turn)
-answers zero log place = []
-answers (suc n) log place = readAt log place ∷ answers n log (placeAfter (readAt log place) place)
-
--- each of the records handed out, with the place after it
-abbrev pub eachHanded : List Record → (place : ℕ) → List (Answer Turn)
-eachHanded [] place = []
-eachHanded (r ∷ records) place = given (handed r (place + 1)) ∷ eachHanded records (place + 1)
-
--- the end, n times
-abbrev pub ends : (n : ℕ) → List (Answer Turn)
-ends zero = []
-ends (suc n) = given end ∷ ends n
-
-pub record Reads (log : List ℕ) (h : Header) (note : List ℕ) (records : List Record) : Type 0 where
-  pub settings : settingsOf log ≡ given h
-  pub noted : noteOf log ≡ given note
-  -- from the first record on, and however many calls follow
-  pub in-order : (more : ℕ) → answers (length records + more) log 0 ≡ eachHanded records 0 ++ ends more
 
 abbrev pub ReadsBack : Type 0
 ReadsBack =
     (h : Header) (note bytes : List ℕ) (records : List Record) → AllInRange records → (begin h note bytes) .refusal ≡ 0 →
-    let r = run h note bytes records in Reads (logOf r) h note (r .accepted)
+    let r = run h note bytes records in Reads (logOf r) (record { header = h; note = note; records = r .accepted })
