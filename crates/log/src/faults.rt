@@ -27,20 +27,15 @@ pub fn faulty(r: Record) -> bool
     let a = r.kind == 97;
     let d = r.kind == 100;
     let t = r.kind == 116;
-    let known = a | d | t;
-    let ecn = (a & (r.ecn <= 1)) | (!a & (r.ecn == 0));
-    let handle = a | (r.handle == 0);
-    let size = (a & ((1 <= r.size) & (r.size <= 65_535))) | (!a & (r.size == 0));
-    let u = a | (r.u == 0);
-    let verdict = d | (a & (r.verdict <= 4)) | (!a & (r.verdict == 0));
-    !(known
-        & ecn
+    let arrival = a & (r.ecn <= 1) & (1 <= r.size) & (r.size <= 65_535) & (r.verdict <= 4);
+    let other = (r.ecn == 0)
+        & (r.handle == 0)
+        & (r.size == 0)
+        & (r.u == 0)
+        & (d | (t & (r.verdict == 0)));
+    !((arrival | other)
         & (r.unused == 0)
-        & handle
         & (r.clock <= LATEST)
-        & size
-        & u
-        & verdict
         & (r.bytes <= 16_777_216)
         & (r.prob <= Prob::WHOLE.0))
 }
