@@ -1,9 +1,9 @@
 -- A record and its 40 bytes determine each other, and so do the settings and their 32: one law over a list of widths.
 use mathlib.Core.Path.{_≡_, refl, ap, ap₂, _∙_, sym}
 use mathlib.Core.List.{List, [], _∷_, _++_, append-assoc}
-use Prim.Native.Nat.{ℕ, zero, suc, _+_, _*_, _^_, _<_, _≤_}
+use Prim.Native.Nat.{ℕ, zero, suc, _+_, _≤_}
 use native.Mathlib.Omega.{arith}
-use lib.ListN.{getD, length, take, drop, length-append, length-take, length-drop}
+use lib.ListN.{length, take, drop, length-drop}
 use lib.Seq.{sets, sets-eq, drop-at, take-at, drop-drop, take-add, length-take-le}
 use Rattle.codec.specs.Numbers.{bytesOf, numberOf}
 use Rattle.codec.specs.Fields.{AreBytes, Fit, joined, parted, total}

@@ -1,7 +1,7 @@
 -- Bytes that are stored one after the other.
-use mathlib.Core.Path.{_≡_, refl, ap, ap₂, _∙_}
+use mathlib.Core.Path.{_≡_, refl, ap, _∙_}
 use mathlib.Core.List.{List, [], _∷_, _++_}
-use Prim.Native.Nat.{ℕ, zero, suc, _+_, _<_, _/_, _%_}
+use Prim.Native.Nat.{ℕ, suc, _+_, _<_, _/_, _%_}
 use native.Mathlib.Omega.{arith}
 use lib.ListN.{set, length, length-append, take, drop}
 use lib.Seq.{sets}

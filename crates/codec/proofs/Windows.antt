@@ -1,5 +1,5 @@
 -- Bytes that are read one after the other.
-use mathlib.Core.Path.{_≡_, refl, ap, _∙_, sym}
+use mathlib.Core.Path.{_≡_, refl, ap, _∙_}
 use mathlib.Core.List.{List, [], _∷_}
 use Prim.Native.Nat.{ℕ, zero, suc, _+_, _*_, _≤_}
 use native.Mathlib.Nat.{add-zero, add-suc, add-assoc}
@@ -9,8 +9,6 @@ use lib.Seq.{drop-cons}
 use Rattle.codec.specs.Numbers.{numberOf}
 use Rattle.codec.specs.Records.{decoded}
 use Rattle.codec.specs.Headers.{decodedHeader}
-use Rattle.codec.specs.declared.Header.{Header}
-use Rattle.codec.specs.declared.Record.{Record}
 
 -- the elements from `at + k` on, n of them
 abbrev elements : List ℕ → (at k n : ℕ) → List ℕ

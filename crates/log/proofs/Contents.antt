@@ -4,7 +4,7 @@ use mathlib.Core.Bool.{Bool, true, false, cond}
 use mathlib.Core.List.{List}
 use Prim.Native.Nat.{ℕ}
 use native.Mathlib.Omega.{arith}
-use Rattle.log.specs.Answers.{Answer, given, refused}
+use Rattle.log.specs.Answers.{given, refused}
 use Rattle.log.specs.Faults.{headerRefused}
 use Rattle.log.specs.Layout.{headerIn, noteIn, recordsIn}
 use Rattle.log.specs.Reader.{trailerRefused}

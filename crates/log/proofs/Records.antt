@@ -1,9 +1,9 @@
 -- The records of a log, one after the other.
 use mathlib.Core.Path.{_≡_, refl, ap}
-use mathlib.Core.List.{List, [], _∷_}
+use mathlib.Core.List.{List, _∷_}
 use Prim.Native.Nat.{ℕ, zero, suc, _+_, _-_, _<_}
 use native.Mathlib.Omega.{arith}
-use lib.ListN.{length, length-drop, length-take, take, drop}
+use lib.ListN.{length, length-drop, length-take}
 use Rattle.codec.specs.Records.{decoded}
 use Rattle.log.specs.Layout.{noteIn, offsetIn, recordsFrom}
 use Rattle.log.proofs.Facts.{Sound}

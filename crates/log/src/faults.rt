@@ -1,7 +1,6 @@
 // The tests of settings and of one record. They are joined without jumps.
 use codec::Header;
 use codec::Record;
-use pie::LARGEST;
 use pie::LATEST;
 use queue::Settings;
 use units::Bytes;

@@ -1,8 +1,8 @@
 -- The bytes of every run are a whole log, byte for byte.
-use mathlib.Core.Path.{_≡_, refl, ap, ap₂, _∙_, sym}
+use mathlib.Core.Path.{_≡_, ap, _∙_, sym}
 use mathlib.Core.Bool.{Bool, true, false, cond}
-use mathlib.Core.List.{List, [], _∷_, _++_, append-assoc, append-nil, foldl}
-use Prim.Native.Nat.{ℕ, zero, suc, _+_, _*_, _≤_}
+use mathlib.Core.List.{List, [], _∷_, _++_, foldl}
+use Prim.Native.Nat.{ℕ, _+_, _≤_}
 use native.Mathlib.Omega.{arith}
 use lib.Dec.{eqb}
 use lib.ListN.{drop, length, take}
@@ -10,10 +10,9 @@ use lib.Seq.{drop-at, sets, sets-eq, take-at}
 use Rattle.codec.specs.Records.{InRange}
 use Rattle.codec.specs.declared.Header.{Header}
 use Rattle.codec.specs.declared.Record.{Record}
-use Rattle.log.specs.Answers.{given}
 use Rattle.log.specs.Layout.{lengthOf}
 use Rattle.log.specs.Whole.{readWhole}
-use Rattle.log.specs.Writer.{add, begin}
+use Rattle.log.specs.Writer.{add}
 use Rattle.log.specs.declared.Writer.{Writer}
 use Rattle.log.proofs.Contents.{reads-whole}
 use Rattle.log_guarantees.specs.AlwaysWhole.{AlwaysWhole, Whole, bytesOf}

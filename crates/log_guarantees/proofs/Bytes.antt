@@ -1,11 +1,11 @@
 -- Settings, note, records and trailer as bytes: their lengths, one more record, and how they read.
 use mathlib.Core.Path.{_≡_, refl, ap, ap₂, _∙_, sym}
-use mathlib.Core.Bool.{true, false, not, _&&_, _||_}
+use mathlib.Core.Bool.{false, not, _&&_}
 use mathlib.Core.List.{List, [], _∷_, _++_, append-assoc, append-nil}
-use Prim.Native.Nat.{ℕ, zero, suc, _+_, _*_, _-_, _≤_}
+use Prim.Native.Nat.{ℕ, _+_, _*_, _-_, _≤_}
 use native.Mathlib.Omega.{arith}
 use lib.Dec.{eqb, leb}
-use lib.ListN.{getD, length, take, drop, length-append}
+use lib.ListN.{length, take, drop, length-append}
 use lib.Seq.{drop-at, drop-drop, take-at}
 use borrow.Author.Tests.{eq-eqb, eqb-true, le-leb, leb-true, not-false}
 use Rattle.laws.proofs.Tests.{and-left, and-right, or-neither}
@@ -15,8 +15,8 @@ use Rattle.queue.specs.Refusals.{settingsRefused}
 use Rattle.queue.specs.State.{all, settingsConditions}
 use Rattle.queue.proofs.Tests.{all-at}
 use Rattle.codec.specs.Headers.{HeaderInRange, encodedHeader}
-use Rattle.codec.specs.Numbers.{bytesOf as bytesOfNumber, numberOf}
-use Rattle.codec.specs.Records.{decoded, encoded}
+use Rattle.codec.specs.Numbers.{numberOf}
+use Rattle.codec.specs.Records.{encoded}
 use Rattle.codec.specs.declared.Header.{Header}
 use Rattle.codec.specs.declared.Record.{Record}
 use Rattle.codec.proofs.BytesOf.{number-bytes}

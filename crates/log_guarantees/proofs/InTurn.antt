@@ -1,9 +1,8 @@
 -- A log that reads whole reads in turn.
-use mathlib.Core.Path.{_≡_, refl, ap, ap₂, _∙_, sym}
-use mathlib.Core.Bool.{true, false, _||_}
-use mathlib.Core.List.{List, [], _∷_, _++_}
+use mathlib.Core.Path.{_≡_, refl, ap, _∙_, sym}
+use mathlib.Core.Bool.{false}
+use mathlib.Core.List.{List, _∷_, _++_}
 use Prim.Native.Nat.{ℕ, zero, suc, _+_, _*_, _<_, _≤_}
-use native.Mathlib.Numerals.{add-one}
 use native.Mathlib.Omega.{arith}
 use lib.ListN.{length}
 use borrow.Author.Tests.{le-leb, lt-leb}
@@ -12,9 +11,9 @@ use Rattle.codec.specs.Records.{decoded}
 use Rattle.log.specs.Answers.{Answer, Turn, end, given, handed}
 use Rattle.log.specs.Faults.{faulty, headerRefused}
 use Rattle.log.specs.Layout.{countIn, headerIn, noteIn, offsetIn, recordIn, recordsFrom, recordsIn}
-use Rattle.log.specs.Reader.{noteOf, placeAfter, readAt, settingsOf, trailerRefused}
-use Rattle.log.specs.Whole.{Contents, anyFaulty}
-use Rattle.log.proofs.Contents.{IsWhole, is-whole}
+use Rattle.log.specs.Reader.{noteOf, readAt, settingsOf, trailerRefused}
+use Rattle.log.specs.Whole.{anyFaulty}
+use Rattle.log.proofs.Contents.{is-whole}
 use Rattle.log_guarantees.specs.InTurn.{InTurn, Reads, answers, eachHanded, ends}
 
 module _ (l : List ℕ) (trailer : trailerRefused l ≡ false) (settings : headerRefused (headerIn l) ≡ false) where

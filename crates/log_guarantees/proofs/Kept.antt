@@ -1,30 +1,29 @@
 -- What every run keeps: the writer's state and the bytes are those of the records that were accepted.
 use mathlib.Core.Path.{_≡_, refl, ap, ap₂, _∙_, sym}
-use mathlib.Core.Bool.{Bool, true, false, cond, not, _||_}
+use mathlib.Core.Bool.{false, cond}
 use mathlib.Core.List.{List, [], _∷_, _++_, append-assoc, append-nil, foldl}
 use Prim.Native.Nat.{ℕ, zero, suc, _+_, _*_, _≤_}
 use native.Mathlib.Omega.{arith}
-use lib.Dec.{eqb, leb, ltb}
-use lib.ListN.{getD, length, length-append}
+use lib.Dec.{eqb, ltb}
+use lib.ListN.{length, length-append}
 use lib.Seq.{length-sets, sets}
-use borrow.Author.Tests.{leb-false, ltb-false, ne-eqb}
+use borrow.Author.Tests.{ltb-false, ne-eqb}
 use Rattle.laws.proofs.Tests.{or-neither}
-use Rattle.queue.specs.State.{all}
 use Rattle.queue.proofs.Tests.{none-refuses}
 use Rattle.codec.specs.Headers.{encodedHeader}
-use Rattle.codec.specs.Records.{InRange, encoded}
+use Rattle.codec.specs.Records.{encoded}
 use Rattle.codec.specs.declared.Header.{Header}
 use Rattle.codec.specs.declared.Record.{Record}
 use Rattle.codec.proofs.RoundTrip.{length-encoded}
 use Rattle.codec.proofs.Stores.{sets-sets}
 use Rattle.log.specs.Faults.{faulty, headerRefused}
-use Rattle.log.specs.Layout.{lengthOf, trailerOf}
+use Rattle.log.specs.Layout.{trailerOf}
 use Rattle.log.specs.Whole.{anyFaulty}
 use Rattle.log.specs.Writer.{Reply, add, addRefusal, addRefusals, added, begin, beginRefusal, beginRefusals, begun, unlessRefused, zeroWriter}
 use Rattle.log.specs.declared.Writer.{Writer}
 use Rattle.log.proofs.Facts.{roomy}
-use Rattle.log_guarantees.specs.AlwaysWhole.{bytesOf, encodedAll}
-use Rattle.log_guarantees.specs.Run.{AllInRange, Run, after, run, started}
+use Rattle.log_guarantees.specs.AlwaysWhole.{bytesOf}
+use Rattle.log_guarantees.specs.Run.{Run, after, run, started}
 use Rattle.log_guarantees.proofs.Bytes.{front, length-front, length-trailer, snoc-front}
 use Rattle.log_guarantees.proofs.Overwrites.{over}
 

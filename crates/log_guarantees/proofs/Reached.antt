@@ -1,8 +1,8 @@
 -- 11 refuses exactly the states that no run reaches in bytes of that length.
-use mathlib.Core.Path.{_≡_, refl, ap, ap₂, _∙_, sym}
-use mathlib.Core.Bool.{true, false, not, _||_}
-use mathlib.Core.List.{List, [], _∷_, _++_, foldl}
-use Prim.Native.Nat.{ℕ, zero, suc, _+_, _*_, _-_, _≤_}
+use mathlib.Core.Path.{_≡_, refl, ap, _∙_, sym}
+use mathlib.Core.Bool.{true, false, _||_}
+use mathlib.Core.List.{List, _++_, foldl}
+use Prim.Native.Nat.{ℕ, zero, suc, _+_, _*_, _-_}
 use native.Mathlib.Omega.{arith}
 use lib.Dec.{leb, ltb}
 use lib.ListN.{length, length-replicate, replicate}
@@ -15,7 +15,7 @@ use Rattle.codec.specs.declared.Header.{Header}
 use Rattle.codec.specs.declared.Record.{Record}
 use Rattle.log.specs.Faults.{faulty, headerRefused}
 use Rattle.log.specs.Layout.{lengthOf, trailerOf}
-use Rattle.log.specs.Writer.{Reply, add, addRefusal, added, begin, beginRefusal, begun, writerConditions}
+use Rattle.log.specs.Writer.{Reply, add, added, begin, begun, writerConditions}
 use Rattle.log.specs.declared.Writer.{Writer}
 use Rattle.log.proofs.Facts.{Held, held}
 use Rattle.log.proofs.Replies.{add-done, begin-done}

@@ -1,5 +1,4 @@
 -- What was accepted reads back.
-use mathlib.Core.List.{List}
 use Rattle.log_guarantees.specs.ReadsBack.{ReadsBack}
 use Rattle.log_guarantees.specs.Run.{logOf, run}
 use Rattle.log_guarantees.proofs.AlwaysWhole.{always-whole}

@@ -1,11 +1,11 @@
 -- A refused call changes nothing.
-use mathlib.Core.Path.{_≡_, refl, ap, _∙_, sym}
+use mathlib.Core.Path.{_≡_, refl, ap}
 use mathlib.Core.Logic.{_≢_}
 use mathlib.Core.List.{List}
 use Prim.Native.Nat.{ℕ, zero, suc, _+_}
 use lib.ListN.{length}
-use Rattle.log.specs.Answers.{Answer, Turn, end, given, refused}
-use Rattle.log.specs.Reader.{placeAfter, readAt}
+use Rattle.log.specs.Answers.{Answer, Turn}
+use Rattle.log.specs.Reader.{placeAfter}
 use Rattle.log.specs.Writer.{Reply, add, addRefusal, begin, beginRefusal, begun, added, unlessRefused, zeroWriter}
 use Rattle.log.specs.declared.Writer.{Writer}
 use Rattle.log_guarantees.specs.Refused.{Refused}

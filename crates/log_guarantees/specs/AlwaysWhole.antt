@@ -1,4 +1,5 @@
--- After begin and after every call of add, whatever was refused, the bytes up to the trailer's end are a whole log with exactly what was accepted.
+-- After begin and after every call of add, whatever was refused, the bytes up to the trailer's end are a whole log with exactly what
+-- was accepted.
 use mathlib.Core.Path.{_≡_}
 use mathlib.Core.List.{List, [], _∷_, _++_}
 use Prim.Native.Nat.{ℕ, _+_}

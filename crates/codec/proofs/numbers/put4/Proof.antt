@@ -3,7 +3,6 @@ use borrow.Author.Needs.{needs}
 use Rattle.codec.proofs.Stores.{four}
 use native.Mathlib.Omega.{arith}
 use lib.ListN.{length-set}
-use native.Mathlib.Numerals.{add-one}
 use Rattle.codec.proofs.numbers.put4.Statement.{statement}
 use Rattle.codec.proofs.numbers.put4.Tie as tie
 

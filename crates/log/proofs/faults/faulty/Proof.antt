@@ -1,12 +1,11 @@
 -- `faulty` meets its contract.
-use mathlib.Core.Path.{_≡_, ap, _∙_, sym}
+use mathlib.Core.Path.{ap}
 use mathlib.Core.Bool.{not}
 use native.Mathlib.Omega.{arith}
 use lib.Dec.{eqb, leb}
 use borrow.Author.Tests.{eqb-true, ne-eqb}
 use Rattle.units.specs.Kinds.{whole}
 use Rattle.pie.specs.Constants.{latest}
-use Rattle.codec.specs.declared.Record.{Record}
 use Rattle.log.specs.Faults.{arrival, departure, faulty, mostBytes, tick}
 use Rattle.log.proofs.Choices.{joined}
 use Rattle.log.proofs.faults.faulty.Statement.{statement}

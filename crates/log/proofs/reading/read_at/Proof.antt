@@ -1,11 +1,10 @@
 -- `read_at` meets its contract.
 use borrow.Author.Needs.{needs}
-use lib.ListN.{length}
-use mathlib.Core.Path.{_≡_, _∙_, sym}
+use mathlib.Core.Path.{_∙_, sym}
 use native.Mathlib.Omega.{arith}
 use borrow.Author.Tests.{leb-false}
 use Rattle.log.specs.Reader.{readAt}
-use Rattle.log.proofs.Facts.{Sound, sound}
+use Rattle.log.proofs.Facts.{sound}
 use Rattle.log.proofs.reading.read_at.Statement.{statement}
 use Rattle.log.proofs.reading.read_at.Tie as tie
 

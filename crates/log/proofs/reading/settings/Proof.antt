@@ -1,10 +1,9 @@
 -- `settings` meets its contract.
 use borrow.Author.Needs.{needs}
-use lib.ListN.{length}
-use mathlib.Core.Path.{_≡_, _∙_, sym}
+use mathlib.Core.Path.{_∙_, sym}
 use native.Mathlib.Omega.{arith}
 use Rattle.log.specs.Reader.{settingsOf}
-use Rattle.log.proofs.Facts.{Sound, sound}
+use Rattle.log.proofs.Facts.{sound}
 use Rattle.log.proofs.reading.settings.Statement.{statement}
 use Rattle.log.proofs.reading.settings.Tie as tie
 

@@ -1,12 +1,11 @@
 -- `check` meets its contract.
 use borrow.Author.Needs.{needs}
-use lib.ListN.{length}
-use mathlib.Core.Path.{_≡_, ap, _∙_, sym}
+use mathlib.Core.Path.{ap, _∙_, sym}
 use native.Mathlib.Omega.{arith}
 use Rattle.log.specs.Whole.{readWhole}
 use Rattle.log.specs.Faults.{headerRefused}
 use Rattle.log.proofs.Shape.{whole-shape}
-use Rattle.log.proofs.Facts.{Sound, sound}
+use Rattle.log.proofs.Facts.{sound}
 use Rattle.log.proofs.whole.check.Statement.{statement}
 use Rattle.log.proofs.whole.check.Tie as tie
 
