@@ -11,6 +11,7 @@ use Rattle.codec.specs.declared.Header.{Header}
 use Rattle.log.specs.Answers.{Answer, Turn, end, given, handed, refused}
 use Rattle.log.specs.Faults.{faulty, headerRefused}
 use Rattle.log.specs.Layout.{countIn, headerIn, lengthOf, letters, lettersIn, noteIn, offsetIn, recordIn, sizeIn}
+use Rattle.log.specs.declared.Reader.{Reader}
 
 abbrev pub trailerConditions : (log : List ℕ) → List Bool
 trailerConditions l =
@@ -47,6 +48,21 @@ abbrev pub placeAfter : Answer Turn → (place : ℕ) → ℕ
 placeAfter (refused number) place = place
 placeAfter (given end) place = place
 placeAfter (given (handed r next)) place = next
+
+-- ── the reader: a log and a place ──
+
+abbrev pub started : (log : RefT (List ℕ)) → Reader
+started log = record { log = log; place = 0 }
+
+-- what a call gives
+abbrev pub nextOf : Reader → Answer Turn
+nextOf r = readAt (now (r .log)) (r .place)
+
+-- the reader after it
+abbrev pub movedOn : Reader → Reader
+movedOn r = record { log = r .log; place = placeAfter (nextOf r) (r .place) }
+
+-- ── settings and note ──
 
 unfoldable pub settingsOf : (log : List ℕ) → Answer Header
 settingsOf l = ifSound l (given (headerIn l))

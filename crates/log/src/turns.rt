@@ -5,25 +5,24 @@ use crate::reading::place_after;
 use crate::reading::read_at;
 ghost use mathlib.Core.Path.{_≡_};
 ghost use Rattle.log.specs.Answers.{turnOf};
-ghost use Rattle.log.specs.Reader.{placeAfter, readAt};
+ghost use Rattle.log.specs.Reader.{movedOn, nextOf, started};
 
 pub fn start<'a>(log: &'a [u8]) -> Reader<'a>
-    ensures { λ r. ⌜ (r .log ≡ log .entry) × (r .place ≡ 0) ⌝ }
+    ensures { λ r. ⌜ r ≡ started (log .entry) ⌝ }
 {
     Reader { log, place: 0 }
 }
 
 // What stands at the reader's place.
 pub fn next<'a>(r: Reader<'a>) -> Step
-    ensures { λ s. ⌜ turnOf s ≡ readAt (now (r .entry .log)) (r .entry .place) ⌝ }
+    ensures { λ s. ⌜ turnOf s ≡ nextOf (r .entry) ⌝ }
 {
     read_at(r.log, r.place)
 }
 
 // The reader after that: at the next place where a record was handed out, else where it was.
 pub fn moved<'a>(r: Reader<'a>) -> Reader<'a>
-    ensures { λ q. ⌜ (q .log ≡ r .entry .log)
-        × (q .place ≡ placeAfter (readAt (now (r .entry .log)) (r .entry .place)) (r .entry .place)) ⌝ }
+    ensures { λ q. ⌜ q ≡ movedOn (r .entry) ⌝ }
 {
     let place = place_after(r.log, r.place);
     Reader { log: r.log, place }
