@@ -1,6 +1,6 @@
 -- What a log that reads whole has: for the theorems over runs, and for whoever reads whole first.
 use mathlib.Core.Path.{_≡_, refl}
-use mathlib.Core.Bool.{Bool, true, false, cond}
+use mathlib.Core.Bool.{Bool, true, false}
 use mathlib.Core.List.{List}
 use Prim.Native.Nat.{ℕ}
 use native.Mathlib.Omega.{arith}
@@ -16,19 +16,23 @@ pub record IsWhole (log : List ℕ) (c : Contents) : Type 0 where
   pub faultless : anyFaulty (recordsIn log) ≡ false
   pub contents : record { header = headerIn log; note = noteIn log; records = recordsIn log } ≡ c
 
-passed : {A : Type 0} (t h f : Bool) (x c : A) → cond t (refused 11) (cond h (refused 12) (cond f (refused 13) (given x))) ≡ given c →
-    (t ≡ false) × (h ≡ false) × (f ≡ false) × (x ≡ c)
-passed true h f x c e = let z : _≡_ {A = ℕ} 0 1 = cc in absurd (omega arith)
-passed false true f x c e = let z : _≡_ {A = ℕ} 0 1 = cc in absurd (omega arith)
-passed false false true x c e = let z : _≡_ {A = ℕ} 0 1 = cc in absurd (omega arith)
-passed false false false x c e = (refl, refl, refl, cc)
+clash : {n : ℕ} {c : Contents} → refused n ≡ given c → ⊥
+clash e = let z : _≡_ {A = ℕ} 0 1 = cc in omega arith
+
+by-cases : (l : List ℕ) (c : Contents) (t h f : Bool) → trailerRefused l ≡ t → headerRefused (headerIn l) ≡ h → anyFaulty (recordsIn l) ≡ f →
+    readWhole l ≡ given c → IsWhole l c
+unfolding readWhole
+by-cases l c true true true et eh ef e = absurd (clash (simp (et, eh, ef) at e))
+by-cases l c true true false et eh ef e = absurd (clash (simp (et, eh, ef) at e))
+by-cases l c true false true et eh ef e = absurd (clash (simp (et, eh, ef) at e))
+by-cases l c true false false et eh ef e = absurd (clash (simp (et, eh, ef) at e))
+by-cases l c false true true et eh ef e = absurd (clash (simp (et, eh, ef) at e))
+by-cases l c false true false et eh ef e = absurd (clash (simp (et, eh, ef) at e))
+by-cases l c false false true et eh ef e = absurd (clash (simp (et, eh, ef) at e))
+by-cases l c false false false et eh ef e = let g = simp (et, eh, ef) at e in record { trailer = et; settings = eh; faultless = ef; contents = cc }
 
 pub is-whole : (l : List ℕ) (c : Contents) → readWhole l ≡ given c → IsWhole l c
-unfolding readWhole
-is-whole l c e =
-    let p = passed (trailerRefused l) (headerRefused (headerIn l)) (anyFaulty (recordsIn l))
-    (record { header = headerIn l; note = noteIn l; records = recordsIn l }) c e in
-    record { trailer = p .0; settings = p .1; faultless = p .2; contents = p .3 }
+is-whole l c e = by-cases l c (trailerRefused l) (headerRefused (headerIn l)) (anyFaulty (recordsIn l)) refl refl refl e
 
 pub reads-whole : (l : List ℕ) (c : Contents) → IsWhole l c → readWhole l ≡ given c
 unfolding readWhole
