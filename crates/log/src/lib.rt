@@ -4,6 +4,7 @@ use codec::Record;
 
 mod faults;
 mod reading;
+mod refusing;
 mod turns;
 mod whole;
 mod writing;

@@ -1,0 +1,2 @@
+-- Laws of the log's C interface.
+pub mod Answered

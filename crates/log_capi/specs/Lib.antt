@@ -1,0 +1,2 @@
+-- The C interface of the log.
+pub mod Codes
