@@ -1,0 +1,161 @@
+//! Compares the library's log with a model written from the papers alone.
+//!
+//!   logs               the fixed seed; the same calls each time
+//!   logs counts        the same, and prints how often each thing was reached
+//!   logs seed N        one round with the seed N
+//!   logs part NAME     one part of the round with the fixed seed: writer, reader
+//!   logs soak SECONDS  rounds with new seeds until the time is over
+//!   logs page FILE     the worked log of docs/LOG.md
+//!
+//! All memory stands right before a page that nobody may touch, and then right after one.
+//! It ends with 1 at the first difference, with 2 if the calls did not reach everything, and
+//! with 3 if it was not understood.
+
+mod coverage;
+mod failure;
+mod log;
+mod memory;
+#[path = "../compare/random.rs"]
+mod random;
+mod stop;
+
+use coverage::Coverage;
+use failure::Failure;
+use random::Random;
+use std::panic::{catch_unwind, AssertUnwindSafe};
+use std::process::exit;
+use std::time::{Duration, Instant, SystemTime, UNIX_EPOCH};
+
+const SEED: u64 = 8_033;
+
+/// One part of a round: its name, what it must reach, and its calls in memory before or after a
+/// guarded page.
+struct Part {
+    name: &'static str,
+    coverage: fn() -> Coverage,
+    round: fn(&mut Random, bool, &mut Coverage) -> Result<(), Failure>,
+}
+
+const PARTS: [Part; 2] = [
+    Part { name: "writer", coverage: log::writer_labels::coverage, round: log::writer::round },
+    Part { name: "reader", coverage: log::reader_labels::coverage, round: log::reader::round },
+];
+
+/// Runs a part, and ends the program with 1 if it fails.
+fn require(place: &str, run: impl FnOnce() -> Result<(), Failure>) {
+    stop::set_place(place);
+    let failure = match catch_unwind(AssertUnwindSafe(run)) {
+        Ok(Ok(())) => return,
+        Ok(Err(Failure(lines))) => lines,
+        Err(_) => "the model stopped".to_string(),
+    };
+    println!("logs: difference in {place}");
+    println!("{failure}");
+    exit(1);
+}
+
+/// One part of a round, in memory before and after a guarded page.
+fn run(number: usize, seed: u64, reached: &mut Coverage) {
+    let part = &PARTS[number];
+    for at_end in [true, false] {
+        let side = if at_end { "before" } else { "after" };
+        let place = format!("{}, memory {side} a guarded page (seed {seed})", part.name);
+        let mut mixed = Random::new(seed ^ (2 * number as u64 + u64::from(at_end)) << 48);
+        let mut r = Random::new(mixed.number());
+        require(&place, || (part.round)(&mut r, at_end, reached));
+    }
+}
+
+fn round(seed: u64, reached: &mut [Coverage]) {
+    for (number, reached) in reached.iter_mut().enumerate() {
+        run(number, seed, reached);
+    }
+}
+
+fn print(reached: &[Coverage], all: bool) {
+    for (part, coverage) in PARTS.iter().zip(reached) {
+        println!("{}: {} calls", part.name, coverage.calls);
+        coverage.print(all);
+    }
+}
+
+/// Ends the program with 2 if anything was not reached.
+fn require_all(reached: &[Coverage]) {
+    let missing: Vec<String> = reached.iter().flat_map(Coverage::missing).collect();
+    for label in &missing {
+        println!("logs: not reached: {label}");
+    }
+    if !missing.is_empty() {
+        exit(2);
+    }
+}
+
+fn begin() -> Vec<Coverage> {
+    PARTS.iter().map(|part| (part.coverage)()).collect()
+}
+
+fn calls(reached: &[Coverage]) -> u64 {
+    reached.iter().map(|coverage| coverage.calls).sum()
+}
+
+fn one_round(seed: u64, all: bool) {
+    let mut reached = begin();
+    round(seed, &mut reached);
+    print(&reached, all);
+    require_all(&reached);
+    println!("logs: {} calls, no difference", calls(&reached));
+}
+
+fn one_part(name: &str) {
+    let number = PARTS.iter().position(|part| part.name == name);
+    let number = number.unwrap_or_else(|| misunderstood());
+    let mut reached = (PARTS[number].coverage)();
+    run(number, SEED, &mut reached);
+    println!("logs: {} calls of {name}, no difference", reached.calls);
+}
+
+/// Whole rounds until the time is over.
+fn soak(seconds: u64) {
+    let end = Instant::now() + Duration::from_secs(seconds);
+    let now = SystemTime::now().duration_since(UNIX_EPOCH).unwrap_or_default();
+    let mut seeds = Random::new(now.as_nanos() as u64);
+    let mut reached = begin();
+    while Instant::now() < end {
+        let seed = seeds.number() >> 16;
+        println!("seed {seed}");
+        round(seed, &mut reached);
+    }
+    print(&reached, false);
+    require_all(&reached);
+    println!("logs: soak of {seconds} seconds, {} calls, no difference", calls(&reached));
+}
+
+fn page(file: &str) {
+    let text = std::fs::read_to_string(file).unwrap_or_else(|_| misunderstood());
+    require("the page's worked log", || log::page::check(&text));
+    println!("logs: the page's worked log is the writer's, byte by byte");
+}
+
+fn misunderstood() -> ! {
+    println!("logs: usage: logs [counts | seed N | part NAME | soak SECONDS | page FILE]");
+    exit(3);
+}
+
+fn number(word: &str) -> u64 {
+    word.parse().unwrap_or_else(|_| misunderstood())
+}
+
+fn main() {
+    stop::install();
+    let arguments: Vec<String> = std::env::args().skip(1).collect();
+    let words: Vec<&str> = arguments.iter().map(String::as_str).collect();
+    match words[..] {
+        [] => one_round(SEED, false),
+        ["counts"] => one_round(SEED, true),
+        ["seed", seed] => one_round(number(seed), false),
+        ["part", name] => one_part(name),
+        ["soak", seconds] => soak(number(seconds)),
+        ["page", file] => page(file),
+        _ => misunderstood(),
+    }
+}
