@@ -1,0 +1,184 @@
+/*
+ * The header's records and numbers of the log against docs/LOG.md and the tickets; they stand here
+ * a second time, by hand. Then the library writes and reads the page's worked log through the
+ * header's records, and each field must stand where the page has it.
+ * It prints each mistake and ends with 1 if there is any.
+ */
+#include <obikuteru.h>
+
+#include <inttypes.h>
+#include <stdio.h>
+#include <string.h>
+
+static int checks, mistakes;
+
+static void expect(const char *what, uint64_t found, uint64_t wanted)
+{
+    checks++;
+    if (found != wanted) {
+        mistakes++;
+        printf("layout_log: %s is %" PRIu64 ", and not %" PRIu64 ".\n", what, found, wanted);
+    }
+}
+
+#define FIELD(record, field, place, width)                                                        \
+    expect("the place of " #record "." #field, offsetof(struct obikuteru_##record, field), place); \
+    expect("the width of " #record "." #field, sizeof((struct obikuteru_##record *)0)->field, width)
+
+#define WHOLE(record, size) \
+    expect("the size of " #record, sizeof(struct obikuteru_##record), size)
+
+static void records(void)
+{
+    FIELD(settings, target, 0, 8);
+    FIELD(settings, buffer, 8, 4);
+    FIELD(settings, slots, 12, 4);
+    FIELD(settings, clock, 16, 8);
+    FIELD(settings, unused, 24, 8);
+    WHOLE(settings, 32);
+    FIELD(record, kind, 0, 1);
+    FIELD(record, ecn, 1, 1);
+    FIELD(record, unused, 2, 2);
+    FIELD(record, handle, 4, 4);
+    FIELD(record, clock, 8, 8);
+    FIELD(record, size, 16, 4);
+    FIELD(record, u, 20, 4);
+    FIELD(record, verdict, 24, 4);
+    FIELD(record, bytes, 28, 4);
+    FIELD(record, probability, 32, 8);
+    WHOLE(record, 40);
+    FIELD(log, offset, 0, 4);
+    FIELD(log, count, 4, 4);
+    WHOLE(log, 8);
+    FIELD(part, from, 0, 8);
+    FIELD(part, length, 8, 8);
+    WHOLE(part, 16);
+}
+
+static void results(void)
+{
+    FIELD(replayed, record, 0, 8);
+    FIELD(replayed, refusal, 8, 8);
+    FIELD(replayed, verdict, 16, 8);
+    FIELD(replayed, probability, 24, 8);
+    FIELD(replayed, bytes, 32, 8);
+    WHOLE(replayed, 40);
+    FIELD(compared, whose, 0, 8);
+    FIELD(compared, record, 8, 8);
+    FIELD(compared, part, 16, 16);
+    WHOLE(compared, 32);
+}
+
+static void constants(void)
+{
+    const struct obikuteru_log longest = {4128, 100000};
+
+    expect("NOTE_MOST", OBIKUTERU_NOTE_MOST, 4096);
+    expect("RECORDS_MOST", OBIKUTERU_RECORDS_MOST, 100000);
+    expect("LOG_MOST", OBIKUTERU_LOG_MOST, 4004144);
+    expect("the length of the longest log", obikuteru_log_length(&longest), 4004144);
+    expect("REFUSED_LOG", OBIKUTERU_REFUSED_LOG, 111);
+    expect("REFUSED_HEADER", OBIKUTERU_REFUSED_HEADER, 112);
+    expect("REFUSED_RECORD", OBIKUTERU_REFUSED_RECORD, 113);
+    expect("REFUSED_ROOM", OBIKUTERU_REFUSED_ROOM, 114);
+    expect("END", OBIKUTERU_END, 1);
+    expect("DISAGREES_VERDICT", OBIKUTERU_DISAGREES_VERDICT, 1);
+    expect("DISAGREES_PROBABILITY", OBIKUTERU_DISAGREES_PROBABILITY, 2);
+    expect("DISAGREES_BYTES", OBIKUTERU_DISAGREES_BYTES, 3);
+    expect("SETTINGS_DIFFER", OBIKUTERU_SETTINGS_DIFFER, 1);
+    expect("NOTES_DIFFER", OBIKUTERU_NOTES_DIFFER, 2);
+    expect("RECORDS_DIFFER", OBIKUTERU_RECORDS_DIFFER, 3);
+    expect("FIRST_ENDS", OBIKUTERU_FIRST_ENDS, 4);
+    expect("SECOND_ENDS", OBIKUTERU_SECOND_ENDS, 5);
+    for (uint32_t answer = 111; answer <= 114; answer++)
+        expect("a refusal known as one", obikuteru_refused(answer), true);
+}
+
+/* A number of the log, little-endian. */
+static uint64_t number(const uint8_t *bytes, size_t at, size_t width)
+{
+    uint64_t n = 0;
+    while (width-- > 0)
+        n = n << 8 | bytes[at + width];
+    return n;
+}
+
+static uint8_t bytes[32 + 7 + 2 * 40 + 16];
+static const struct obikuteru_record arrival = {
+    .kind = 'a', .ecn = 1, .handle = 0x01020304, .clock = UINT64_C(0x050607080910),
+    .size = 0x1112, .u = 0x13141516, .verdict = 3, .bytes = 0x171819, .probability = 0x20212223};
+static const struct obikuteru_record departure = {
+    .kind = 'd', .clock = UINT64_C(0x050607080911), .verdict = 0x24252627};
+
+/* Each field of what was written, no two of them alike. */
+static void run_writer(struct obikuteru_log *log)
+{
+    const struct obikuteru_settings settings = {.target = 15000, .buffer = 64000, .slots = 4, .clock = 99};
+    struct obikuteru_record fault = departure;
+
+    fault.size = 1;
+    expect("begin", obikuteru_log_begin(log, &settings, (const uint8_t *)"coach 7", 7, bytes, sizeof bytes),
+           OBIKUTERU_ACCEPTED);
+    expect("add", obikuteru_log_add(log, &arrival, bytes, sizeof bytes), OBIKUTERU_ACCEPTED);
+    expect("a fault", obikuteru_log_add(log, &fault, bytes, sizeof bytes), OBIKUTERU_REFUSED_RECORD);
+    expect("add", obikuteru_log_add(log, &departure, bytes, sizeof bytes), OBIKUTERU_ACCEPTED);
+    expect("no room", obikuteru_log_add(log, &departure, bytes, sizeof bytes), OBIKUTERU_REFUSED_ROOM);
+    expect("no such state", obikuteru_log_add(log, &departure, bytes, 134), OBIKUTERU_REFUSED_LOG);
+    expect("the length", obikuteru_log_length(log), sizeof bytes);
+    expect("target", number(bytes, 0, 8), 15000);
+    expect("buffer", number(bytes, 8, 4), 64000);
+    expect("slots", number(bytes, 12, 4), 4);
+    expect("start clock", number(bytes, 16, 8), 99);
+    expect("unused", number(bytes, 24, 8), 0);
+    expect("the note", (uint64_t)memcmp(bytes + 32, "coach 7", 7), 0);
+    expect("kind, ecn, unused and handle", number(bytes, 39, 8), UINT64_C(0x0102030400000161));
+    expect("clock", number(bytes, 47, 8), UINT64_C(0x050607080910));
+    expect("size and u", number(bytes, 55, 8), UINT64_C(0x1314151600001112));
+    expect("verdict and bytes", number(bytes, 63, 8), UINT64_C(0x0017181900000003));
+    expect("probability", number(bytes, 71, 8), 0x20212223);
+    expect("the second kind", number(bytes, 79, 8), 'd');
+    expect("the handle that left", number(bytes, 103, 4), 0x24252627);
+    expect("offset and count", number(bytes, 119, 8), UINT64_C(0x0000000200000027));
+    expect("size and letters", number(bytes, 127, 8), UINT64_C(0x474f4c5100000028));
+}
+
+static void run_reader(void)
+{
+    struct obikuteru_record record;
+    struct obikuteru_settings settings;
+    struct obikuteru_part note;
+    uint64_t place = 0;
+
+    expect("a record", obikuteru_log_read(bytes, sizeof bytes, &place, &record), OBIKUTERU_ACCEPTED);
+    expect("the record itself", (uint64_t)memcmp(&record, &arrival, sizeof record), 0);
+    expect("a record", obikuteru_log_read(bytes, sizeof bytes, &place, &record), OBIKUTERU_ACCEPTED);
+    expect("the record itself", (uint64_t)memcmp(&record, &departure, sizeof record), 0);
+    expect("the end", obikuteru_log_read(bytes, sizeof bytes, &place, &record), OBIKUTERU_END);
+    expect("the place", place, 2);
+    expect("a short log", obikuteru_log_read(bytes, sizeof bytes - 1, &place, &record), OBIKUTERU_REFUSED_LOG);
+    expect("settings", obikuteru_log_settings(bytes, sizeof bytes, &settings), OBIKUTERU_ACCEPTED);
+    expect("target", settings.target, 15000);
+    expect("buffer", settings.buffer, 64000);
+    expect("slots", settings.slots, 4);
+    expect("start clock", settings.clock, 99);
+    expect("note", obikuteru_log_note(bytes, sizeof bytes, &note), OBIKUTERU_ACCEPTED);
+    expect("its place", note.from, 32);
+    expect("its length", note.length, 7);
+    bytes[31] = 1;
+    expect("an unused byte", obikuteru_log_settings(bytes, sizeof bytes, &settings), OBIKUTERU_REFUSED_HEADER);
+}
+
+int main(void)
+{
+    struct obikuteru_log log;
+
+    records();
+    results();
+    constants();
+    run_writer(&log);
+    run_reader();
+    if (mistakes > 0)
+        return 1;
+    printf("layout_log: %d numbers, all as defined\n", checks);
+    return 0;
+}
