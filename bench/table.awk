@@ -4,7 +4,7 @@
 #   verdicts STREAM ENQUEUED MARKED BYTES SLOTS EARLY
 #   rounds STREAM N                                once for each process
 #   time STREAM WHAT SIDE MEDIAN LEAST GREATEST    ratios to plain C, once for each process
-#   count STREAM WHAT SIDE INSTRUCTIONS            per call, or per line of a script
+#   count STREAM WHAT SIDE INSTRUCTIONS            per call, per line of a script, or per record of a log
 
 $1 == "tool" { name = $2; sub(/^tool [^ ]+ /, ""); tool[name] = $0 }
 $1 == "events" {
@@ -62,17 +62,20 @@ function rows(s) {
     row(s, "tick", "tick")
     if ((s, "script", "library") in median)
         row(s, "script", "script, a line")
+    if ((s, "add", "library") in median) {
+        row(s, "add", "log: add")
+    }
 }
 
 function by_clang(s, what) {
     return sprintf("%s %.2f and %s", what, median[s, what, "clang"], count_ratio(s, what, "clang"))
 }
 
-# The goals hold for each of the three entries.
-function miss(s, what) {
-    if (median[s, what, "library"] > 1.05)
+# What is asked of a row: at most so many times plain C in time, and in instructions.
+function miss(s, what, most, most_counted) {
+    if (median[s, what, "library"] > most)
         missed = missed sprintf(", %s of %s in time (%.3f)", what, s, median[s, what, "library"])
-    if (count[s, what, "library"] > count[s, what, "plain"])
+    if (count[s, what, "library"] > most_counted * count[s, what, "plain"])
         missed = missed sprintf(", %s of %s in instructions (%.3f)", what, s,
             count[s, what, "library"] / count[s, what, "plain"])
 }
@@ -108,10 +111,11 @@ END {
             printf "Plain C by %s to plain C by gcc, stream %s, time and instructions: %s; %s; %s; %s.\n",
                 tool["clang"], s, by_clang(s, "mix"), by_clang(s, "arrival"),
                 by_clang(s, "departure"), by_clang(s, "tick")
-        miss(s, "arrival")
-        miss(s, "departure")
-        miss(s, "tick")
+        miss(s, "arrival", 1.05, 1.0)
+        miss(s, "departure", 1.05, 1.0)
+        miss(s, "tick", 1.05, 1.0)
+        miss(s, "add", 1.1, 1.1)
     }
-    printf "At most 1.05 times plain C in time%s: ", counted ? " and 1.0 in instructions" : ""
+    printf "Asked: the queue's entries at most 1.05 times plain C in time and 1.0 in instructions, add 1.1 in both: "
     print missed == "" ? "reached." : "missed by " substr(missed, 3) "."
 }
