@@ -19,7 +19,7 @@ $1 == "events" {
 $1 == "verdicts" { for (i = 1; i <= 5; i++) verdict[$2, i] = $(i + 2) }
 $1 == "rounds" { rounds = $3; processes[$2]++ }
 $1 == "time" { add_time($2 SUBSEP $3 SUBSEP $4, $5, $6, $7) }
-$1 == "count" { count[$2, $3, $4] = $5; counted = 1 }
+$1 == "count" { count[$2, $3, $4] = $5 }
 
 # Keeps the medians of the processes in ascending order, and their middle as the median.
 function add_time(key, middle, least, greatest,    i) {
