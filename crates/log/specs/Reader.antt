@@ -13,6 +13,7 @@ use Rattle.log.specs.Faults.{faulty, headerRefused}
 use Rattle.log.specs.Layout.{countIn, headerIn, lengthOf, letters, lettersIn, noteIn, offsetIn, recordIn, sizeIn}
 use Rattle.log.specs.declared.Reader.{Reader}
 
+-- the shortest log, the trailer's numbers in range, its letters, and exactly the length that it gives
 abbrev pub trailerConditions : (log : List ℕ) → List Bool
 trailerConditions l =
     leb 48 (length l)
