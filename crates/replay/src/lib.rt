@@ -3,7 +3,10 @@ use queue::State;
 
 mod calling;
 mod comparing;
+mod replaying;
 mod running;
+
+pub use replaying::replay;
 
 // What a replay found.
 pub struct Replayed {

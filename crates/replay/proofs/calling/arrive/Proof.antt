@@ -3,64 +3,46 @@ use Rattle.replay.proofs.Ruled.{arrival-decided, arrival-refused, same-
 use borrow.Author.Needs.{needs}
 use Rattle.replay.proofs.calling.arrive.Statement.{statement}
 use Rattle.replay.proofs.calling.arrive.Tie as tie
-use Rattle.replay.proofs.calling.arrive.Reads as reads
-use Rattle.replay.proofs.calling.arrive.Lts as lts
-use Rattle.pie.proofs.Verdict.place.Reads as place-reads
-use Rattle.queue.proofs.Refusal.number.Reads as number-reads
-use Rattle.queue.proofs.State.arrival.Reads as arrival-reads
 
--- src/calling.rt:28:15
 cast-t15 : tie.Need-cast-t15
 cast-t15 c = search needs
 
--- src/calling.rt:23:9
 arrival-requires : tie.Need-arrival-requires
 arrival-requires c κs = search needs
 
--- src/calling.rt:35:32
 enum-known-answer : tie.Need-enum-known-answer
 enum-known-answer c = search needs
 
--- src/calling.rt:36:22
 number-requires : tie.Need-number-requires
 number-requires c κs = search needs
 
--- src/calling.rt:40:32
 enum-known-answer-2 : tie.Need-enum-known-answer-2
 enum-known-answer-2 c = search needs
 
--- src/calling.rt:42:22
 place-requires : tie.Need-place-requires
 place-requires c κs = search needs
 
--- src/calling.rt:42:22
 cast-t21 : tie.Need-cast-t21
 cast-t21 c = search needs
 
--- src/calling.rt:15:1
 same-length : tie.Need-same-length
 same-length c = search needs
 
--- src/calling.rt:15:1
 same-length-2 : tie.Need-same-length-2
 same-length-2 c = search needs
 
--- src/calling.rt:15:1
 returns : tie.Need-returns
 returns c =
     let a = c .before .before .before .before .before .before .before .before .before .arrival .ensures in
     let g = arrival-refused (a .0) (c .before .before .answer .given .1) (c .number .ensures .0) in
     ((g .0, g .1), same-queue _ _ _ _ _ _ (g .2) (a .1 .0) (a .1 .1))
 
--- src/calling.rt:15:1
 same-length-3 : tie.Need-same-length-3
 same-length-3 c = search needs
 
--- src/calling.rt:15:1
 same-length-4 : tie.Need-same-length-4
 same-length-4 c = search needs
 
--- src/calling.rt:15:1
 returns-2 : tie.Need-returns-2
 returns-2 c =
     let a = c .before .before .before .before .before .before .before .before .before .arrival .ensures in

@@ -2,53 +2,38 @@
 use borrow.Author.Needs.{needs}
 use Rattle.replay.proofs.calling.call.Statement.{statement}
 use Rattle.replay.proofs.calling.call.Tie as tie
-use Rattle.replay.proofs.calling.call.Reads as reads
-use Rattle.replay.proofs.calling.call.Lts as lts
-use Rattle.replay.proofs.calling.arrive.Reads as arrive-reads
-use Rattle.replay.proofs.calling.depart.Reads as depart-reads
-use Rattle.replay.proofs.calling.update.Reads as update-reads
 
--- src/calling.rt:102:9
 arrive-requires : tie.Need-arrive-requires
 arrive-requires c κs = search needs
 
--- src/calling.rt:102:9
 same-length : tie.Need-same-length
 same-length c = search needs
 
--- src/calling.rt:102:9
 same-length-2 : tie.Need-same-length-2
 same-length-2 c = search needs
 
--- src/calling.rt:102:9
 returns : tie.Need-returns
 returns c =
     let a = c .before .before .before .before .arrive .ensures in
     rw (c .before .before .before .before .before .before .before .if1 .taken) (a .0, a .1)
 
--- src/calling.rt:106:9
 depart-requires : tie.Need-depart-requires
 depart-requires c κs = search needs
 
--- src/calling.rt:106:9
 same-length-3 : tie.Need-same-length-3
 same-length-3 c = search needs
 
--- src/calling.rt:106:9
 same-length-4 : tie.Need-same-length-4
 same-length-4 c = search needs
 
--- src/calling.rt:106:9
 returns-2 : tie.Need-returns-2
 returns-2 c =
     let a = c .depart .ensures in
     rw (c .before .before .before .before .before .if1 .left, c .before .before .before .if2 .taken) (a .0, a .1)
 
--- src/calling.rt:108:5
 update-requires : tie.Need-update-requires
 update-requires c κs = search needs
 
--- src/calling.rt:94:1
 returns-3 : tie.Need-returns-3
 returns-3 c =
     let a = c .update .ensures in

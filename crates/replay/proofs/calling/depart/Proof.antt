@@ -4,35 +4,25 @@ use Rattle.replay.proofs.Ruled.{accepted, refused}
 use borrow.Author.Needs.{needs}
 use Rattle.replay.proofs.calling.depart.Statement.{statement}
 use Rattle.replay.proofs.calling.depart.Tie as tie
-use Rattle.replay.proofs.calling.depart.Reads as reads
-use Rattle.replay.proofs.calling.depart.Lts as lts
-use Rattle.queue.proofs.Refusal.number.Reads as number-reads
-use Rattle.queue.proofs.State.departure.Reads as departure-reads
 
--- src/calling.rt:54:9
 departure-requires : tie.Need-departure-requires
 departure-requires c κs = search needs
 
--- src/calling.rt:59:22
 enum-known-accepted : tie.Need-enum-known-accepted
 enum-known-accepted c = search needs
 
--- src/calling.rt:60:22
 number-requires : tie.Need-number-requires
 number-requires c κs = search needs
 
--- src/calling.rt:64:26
 enum-told : tie.Need-enum-told
 enum-told c = search needs
 
--- src/calling.rt:48:1
 returns : tie.Need-returns
 returns c =
     let d = c .before .before .before .before .before .departure .ensures in
     let g = refused (departed _ _) (d .0) (c .before .before .accepted .given .1) (c .number .ensures .0) in
     ((g .0, g .1), cc (g .2))
 
--- src/calling.rt:48:1
 returns-2 : tie.Need-returns-2
 returns-2 c =
     let d = c .before .before .before .departure .ensures in

@@ -4,35 +4,25 @@ use Rattle.replay.proofs.Ruled.{accepted, refused}
 use borrow.Author.Needs.{needs}
 use Rattle.replay.proofs.calling.update.Statement.{statement}
 use Rattle.replay.proofs.calling.update.Tie as tie
-use Rattle.replay.proofs.calling.update.Reads as reads
-use Rattle.replay.proofs.calling.update.Lts as lts
-use Rattle.queue.proofs.Refusal.number.Reads as number-reads
-use Rattle.queue.proofs.State.tick.Reads as tick-reads
 
--- src/calling.rt:77:9
 tick-requires : tie.Need-tick-requires
 tick-requires c κs = search needs
 
--- src/calling.rt:81:22
 enum-known-accepted : tie.Need-enum-known-accepted
 enum-known-accepted c = search needs
 
--- src/calling.rt:82:22
 number-requires : tie.Need-number-requires
 number-requires c κs = search needs
 
--- src/calling.rt:86:26
 enum-told : tie.Need-enum-told
 enum-told c = search needs
 
--- src/calling.rt:73:1
 returns : tie.Need-returns
 returns c =
     let t = c .before .before .before .before .before .tick .ensures in
     let g = refused ticked t (c .before .before .accepted .given .1) (c .number .ensures .0) in
     (g .0, g .1, g .2)
 
--- src/calling.rt:73:1
 returns-2 : tie.Need-returns-2
 returns-2 c =
     let t = c .before .before .before .tick .ensures in

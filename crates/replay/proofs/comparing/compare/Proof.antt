@@ -2,30 +2,22 @@
 use borrow.Author.Needs.{needs}
 use Rattle.replay.proofs.comparing.compare.Statement.{statement}
 use Rattle.replay.proofs.comparing.compare.Tie as tie
-use Rattle.replay.proofs.comparing.compare.Reads as reads
-use Rattle.replay.proofs.comparing.compare.Lts as lts
 
--- src/comparing.rt:14:9
 returns : tie.Need-returns
 returns c = rw (c .if1 .taken)
 
--- src/comparing.rt:18:9
 returns-2 : tie.Need-returns-2
 returns-2 c = rw (c .before .before .before .if1 .left, c .if2 .taken)
 
--- src/comparing.rt:22:9
 returns-3 : tie.Need-returns-3
 returns-3 c = rw (c .before .before .before .before .before .before .if1 .left, c .before .before .before .if2 .left, c .if3 .taken)
 
--- src/comparing.rt:24:19
 cast-bytes : tie.Need-cast-bytes
 cast-bytes c = search needs
 
--- src/comparing.rt:26:9
 returns-4 : tie.Need-returns-4
 returns-4 c = rw (c .before .before .before .before .before .before .before .before .before .if1 .left, c .before .before .before .before .before .before .if2 .left, c .before .before .before .if3 .left, c .if4 .taken)
 
--- src/comparing.rt:9:1
 returns-5 : tie.Need-returns-5
 returns-5 c = rw (c .before .before .before .before .before .before .before .before .before .if1 .left, c .before .before .before .before .before .before .if2 .left, c .before .before .before .if3 .left, c .if4 .left)
 
