@@ -1,0 +1,2 @@
+-- What the entry's proof needs of a replay.
+pub mod Numbers
