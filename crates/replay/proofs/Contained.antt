@@ -7,6 +7,7 @@ use native.Mathlib.Omega.{arith}
 use lib.Dec.{eqb}
 use lib.ListN.{length}
 use Rattle.laws.proofs.Tests.{or-neither}
+use Rattle.queue.specs.Answer.{made}
 use Rattle.queue.specs.Fresh.{fresh, freshState, settingsOf}
 use Rattle.queue.specs.Refusals.{settingsRefused}
 use Rattle.queue.specs.declared.State.{State}
@@ -58,10 +59,16 @@ contained l o n e =
     }
 
 -- settings that 12 does not refuse are those of a fresh queue
-fresh-state : (h : Header) → headerRefused h ≡ false → let settings = settingsOf (h .target) (h .buffer) (h .slots) in
+pub fresh-state : (h : Header) → headerRefused h ≡ false → let settings = settingsOf (h .target) (h .buffer) (h .slots) in
     (fresh settings (h .clock)) .state ≡ freshState settings (h .clock)
 unfolding headerRefused fresh
 fresh-state h e =
+    let settings = settingsOf (h .target) (h .buffer) (h .slots) in
+    let p = or-neither (settingsRefused settings (h .clock)) (not (eqb (h .unused) 0)) e in rw (p .0)
+
+pub fresh-made : (h : Header) → headerRefused h ≡ false → (fresh (settingsOf (h .target) (h .buffer) (h .slots)) (h .clock)) .answer ≡ made
+unfolding headerRefused fresh
+fresh-made h e =
     let settings = settingsOf (h .target) (h .buffer) (h .slots) in
     let p = or-neither (settingsRefused settings (h .clock)) (not (eqb (h .unused) 0)) e in rw (p .0)
 

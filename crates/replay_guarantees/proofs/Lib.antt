@@ -1,0 +1,6 @@
+-- The proofs of the claims in specs/, each in the file of its name, and what they share.
+pub mod SameCalls
+pub mod Agrees
+pub mod Fine
+pub mod Written
+pub mod AlwaysAccepted
