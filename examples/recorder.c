@@ -142,6 +142,22 @@ static void count_verdicts(const uint8_t *log, size_t length)
         printf("  %-15s %4" PRIu64 "\n", names[v], counts[v]);
 }
 
+/* Replays the log, over tables of its slots; what they hold beforehand does not matter. */
+static void replay(const uint8_t *log, size_t length)
+{
+    struct obikuteru_replayed found;
+    uint32_t answer = obikuteru_replay(log, length, handles, SLOTS, sizes, SLOTS, &found);
+
+    stop_if_refused(answer, "the log");
+    if (answer == OBIKUTERU_ACCEPTED)
+        printf("accepted   %" PRIu64 " records\n", found.record);
+    else if (found.refusal != 0)
+        printf("disagrees  record %" PRIu64 ": the rules refuse the call by %" PRIu64 "\n", found.record, found.refusal);
+    else
+        printf("disagrees  record %" PRIu64 ": the rules say %" PRIu64 ", probability %" PRIu64 ", bytes %" PRIu64 "\n",
+               found.record, found.verdict, found.probability, found.bytes);
+}
+
 int main(int argc, char **argv)
 {
     static uint8_t copy[ROOM];
@@ -156,5 +172,8 @@ int main(int argc, char **argv)
     write_file(argv[1]);
     length = read_file(argv[1], copy);
     count_verdicts(copy, length);
+    replay(copy, length);
+    copy[length - 16 - 40 + 28] ^= 1; /* in the last record, the bytes after the call */
+    replay(copy, length);
     return 0;
 }
