@@ -1,9 +1,9 @@
-//! Compares the library's log with a model written from the papers alone.
+//! Compares the library's log and replay with models written from the papers alone.
 //!
 //!   logs               the fixed seed; the same calls each time
 //!   logs counts        the same, and prints how often each thing was reached
 //!   logs seed N        one round with the seed N
-//!   logs part NAME     one part of the round with the fixed seed: writer, reader
+//!   logs part NAME     one part of the round with the fixed seed: writer, reader, replay
 //!   logs soak SECONDS  rounds with new seeds until the time is over
 //!   logs page FILE     the worked log of docs/LOG.md
 //!
@@ -13,10 +13,20 @@
 
 mod coverage;
 mod failure;
+#[allow(dead_code)]
+#[path = "../compare/library.rs"]
+mod library;
 mod log;
 mod memory;
+#[allow(dead_code)]
+#[path = "../compare/model.rs"]
+mod model;
+#[allow(dead_code)]
+#[path = "../compare/plans.rs"]
+mod plans;
 #[path = "../compare/random.rs"]
 mod random;
+mod replay;
 mod stop;
 
 use coverage::Coverage;
@@ -36,9 +46,10 @@ struct Part {
     round: fn(&mut Random, bool, &mut Coverage) -> Result<(), Failure>,
 }
 
-const PARTS: [Part; 2] = [
+const PARTS: [Part; 3] = [
     Part { name: "writer", coverage: log::writer_labels::coverage, round: log::writer::round },
     Part { name: "reader", coverage: log::reader_labels::coverage, round: log::reader::round },
+    Part { name: "replay", coverage: replay::labels::coverage, round: replay::player::round },
 ];
 
 /// Runs a part, and ends the program with 1 if it fails.

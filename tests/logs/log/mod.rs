@@ -10,5 +10,6 @@ mod range_labels;
 pub mod reader;
 pub mod reader_labels;
 pub mod types;
+pub mod whole;
 pub mod writer;
 pub mod writer_labels;

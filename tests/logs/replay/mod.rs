@@ -1,0 +1,10 @@
+//! The replay of a log.
+
+mod changes;
+mod figures;
+pub mod labels;
+mod lender;
+mod model;
+mod own;
+pub mod player;
+pub mod runs;
