@@ -2,22 +2,26 @@
  * The library's log against the same in plain C, in one process, on a log of 100,000 records.
  *
  *   log_bench time STREAM        checks that both answer alike, then times them; prints ratios to plain C
- *   log_bench count STREAM SIDE  adds once on one side, for callgrind to count
+ *   log_bench count STREAM SIDE  adds and replays once on one side, for callgrind to count
  *
  * Method. The log holds the first 100,000 accepted events of a stream (events.c), run by the rules in
  * plain C, with no note. Then come the timed rounds, the sides taking turns part by part:
- *   add: all records to an empty log, 2,000 to a part.
- * How ratios are made of the times: ratios.h.
+ *   add: all records to an empty log, 2,000 to a part;
+ *   replay: the log, read whole and replayed, one replay to a part.
+ * A replay takes milliseconds, so it is timed by the processor time of the thread: what else runs
+ * meanwhile is not counted. How ratios are made of the times: ratios.h.
  */
 #include "events.h"
 #include "obikuteru.h"
 #include "plain.h"
 #include "plain_log.h"
+#include "plain_replay.h"
 #include "timer.h"
 
 #include <stdio.h>
 #include <stdlib.h>
 #include <string.h>
+#include <time.h>
 
 #define RECORDS 100000u
 #define EVENTS 120000u /* enough of them are accepted */
@@ -25,6 +29,7 @@
 #define PAGE 4096
 #define CHUNK 2000u
 #define PARTS (RECORDS / CHUNK) /* the most parts of a round */
+#define CALLS 4u                /* replays of a round */
 #define ROUNDS 21u
 
 static const struct stream *stream;
@@ -37,6 +42,7 @@ struct side {
     uint32_t (*begin)(void);
     uint64_t (*add)(size_t, size_t);
     const uint8_t *(*written)(void);
+    uint64_t (*replay)(void);
 };
 
 #define SIDE(name) on_plain_##name
@@ -50,7 +56,7 @@ struct side {
 #include "log_side.h"
 
 #define ENTRIES(side)                                                                             \
-    {#side, on_##side##_begin, on_##side##_add, on_##side##_written}
+    {#side, on_##side##_begin, on_##side##_add, on_##side##_written, on_##side##_replay}
 
 static const struct side sides[] = {ENTRIES(plain), ENTRIES(library)};
 
@@ -108,17 +114,19 @@ static void make_logs(void)
         fail("too few events are accepted.");
 }
 
-/* Each side writes the same log. */
+/* Each side writes the same log and accepts it. */
 static void check(void)
 {
     for (size_t s = 0; s < SIDES; s++) {
         if (sides[s].begin() != 0 || sides[s].add(0, RECORDS) != 0
             || memcmp(sides[s].written(), first_log, LONGEST) != 0)
             fail("the logs that were written differ.");
+        if (sides[s].replay() != RECORDS)
+            fail("a replay does not accept the log.");
     }
 }
 
-/* Answers the number of parts. */
+/* All answer the number of parts. */
 static size_t time_add(size_t round)
 {
     for (size_t s = 0; s < SIDES; s++)
@@ -133,12 +141,31 @@ static size_t time_add(size_t round)
     return PARTS;
 }
 
+static uint64_t processor_time(void)
+{
+    struct timespec t;
+    clock_gettime(CLOCK_THREAD_CPUTIME_ID, &t);
+    return (uint64_t)t.tv_sec * 1000000000u + (uint64_t)t.tv_nsec;
+}
+
+static size_t time_replay(size_t round)
+{
+    for (size_t part = 0; part < CALLS; part++)
+        for (size_t turn = 0; turn < SIDES; turn++) {
+            size_t s = (turn + part + round) % SIDES;
+            uint64_t begin = processor_time();
+            sink += sides[s].replay();
+            times[s][part][round] = processor_time() - begin;
+        }
+    return CALLS;
+}
+
 static void run_times(void)
 {
     static const struct {
         const char *name;
         size_t (*time)(size_t);
-    } rows[] = {{"add", time_add}};
+    } rows[] = {{"add", time_add}, {"replay", time_replay}};
     check();
     for (size_t i = 0; i < sizeof rows / sizeof *rows; i++) {
         size_t parts = 0;
@@ -153,6 +180,7 @@ static void run_count(const char *name)
     for (size_t s = 0; s < SIDES; s++)
         if (strcmp(sides[s].name, name) == 0) {
             sink += sides[s].begin() + sides[s].add(0, RECORDS);
+            sink += sides[s].replay();
             return;
         }
     fail("count takes one of: plain, library.");

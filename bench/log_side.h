@@ -13,7 +13,10 @@ static struct TYPE(log) SIDE(log);
  * to: a processor takes a load that follows a store at the same place of another page for its own. */
 static _Alignas(PAGE) struct TYPE(record) SIDE(records)[RECORDS];
 static _Alignas(PAGE) uint8_t SIDE(room)[PAGE / 2 + LONGEST];
+static _Alignas(PAGE) uint32_t SIDE(handles)[MOST_SLOTS];
+static _Alignas(PAGE) uint32_t SIDE(sizes)[MOST_SLOTS];
 static uint8_t *const SIDE(bytes) = SIDE(room) + PAGE / 2;
+static struct TYPE(replayed) SIDE(replayed);
 
 /* An empty log, and the records to add. */
 static uint32_t SIDE(begin)(void)
@@ -35,6 +38,13 @@ static uint64_t SIDE(add)(size_t from, size_t n)
 static const uint8_t *SIDE(written)(void)
 {
     return SIDE(bytes);
+}
+
+static uint64_t SIDE(replay)(void)
+{
+    size_t slots = stream->slots;
+    return CALL(replay)(first_log, LONGEST, SIDE(handles), slots, SIDE(sizes), slots, &SIDE(replayed))
+        + SIDE(replayed).record;
 }
 
 #undef SIDE

@@ -62,8 +62,9 @@ function rows(s) {
     row(s, "tick", "tick")
     if ((s, "script", "library") in median)
         row(s, "script", "script, a line")
-    if ((s, "add", "library") in median) {
+    if ((s, "replay", "library") in median) {
         row(s, "add", "log: add")
+        row(s, "replay", "log: replay, a record")
     }
 }
 
@@ -115,7 +116,8 @@ END {
         miss(s, "departure", 1.05, 1.0)
         miss(s, "tick", 1.05, 1.0)
         miss(s, "add", 1.1, 1.1)
+        miss(s, "replay", 1.1, 1.1)
     }
-    printf "Asked: the queue's entries at most 1.05 times plain C in time and 1.0 in instructions, add 1.1 in both: "
+    printf "Asked: the queue's entries at most 1.05 times plain C in time and 1.0 in instructions, add and replay 1.1 in both: "
     print missed == "" ? "reached." : "missed by " substr(missed, 3) "."
 }
