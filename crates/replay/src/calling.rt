@@ -33,7 +33,7 @@ fn by_verdict(verdict: u32, state: State) -> Called
     }
 }
 
-// One function: with one for each kind the compiler lays the loop out by a quarter slower (docs/PERFORMANCE.md).
+// One function: with one for each kind the compiler lays the loop out slower (docs/changes/Q-10.md).
 pub(crate) fn call(s: State, r: Record, handles: &mut [u32], sizes: &mut [u32]) -> Called
     ensures { λ c. ⌜ (let a = answerOf (queueOf s (now (handles .entry)) (now (sizes .entry))) (requestOf r) in
         (c .refusal ≡ refusalIn a) × (c .verdict ≡ verdictIn a)) ⌝ }

@@ -3,4 +3,5 @@ pub mod SameCalls
 pub mod Agrees
 pub mod Fine
 pub mod Written
+pub mod ExactlyIf
 pub mod AlwaysAccepted
