@@ -1,9 +1,9 @@
-//! Compares the library's log and replay with models written from the papers alone.
+//! Compares the library's log, replay and comparison with models written from the papers alone.
 //!
 //!   logs               the fixed seed; the same calls each time
 //!   logs counts        the same, and prints how often each thing was reached
 //!   logs seed N        one round with the seed N
-//!   logs part NAME     one part of the round with the fixed seed: writer, reader, replay
+//!   logs part NAME     one part of the round with the fixed seed: writer, reader, replay, compare
 //!   logs soak SECONDS  rounds with new seeds until the time is over
 //!   logs page FILE     the worked log of docs/LOG.md
 //!
@@ -11,6 +11,7 @@
 //! It ends with 1 at the first difference, with 2 if the calls did not reach everything, and
 //! with 3 if it was not understood.
 
+mod compare;
 mod coverage;
 mod failure;
 #[allow(dead_code)]
@@ -46,10 +47,11 @@ struct Part {
     round: fn(&mut Random, bool, &mut Coverage) -> Result<(), Failure>,
 }
 
-const PARTS: [Part; 3] = [
+const PARTS: [Part; 4] = [
     Part { name: "writer", coverage: log::writer_labels::coverage, round: log::writer::round },
     Part { name: "reader", coverage: log::reader_labels::coverage, round: log::reader::round },
     Part { name: "replay", coverage: replay::labels::coverage, round: replay::player::round },
+    Part { name: "compare", coverage: compare::labels::coverage, round: compare::comparer::round },
 ];
 
 /// Runs a part, and ends the program with 1 if it fails.

@@ -1,10 +1,11 @@
 //! A log read whole, by the model of the reader.
 
-use super::model::{self, Refusals};
+use super::model::{self, Refusals, SETTINGS};
 use super::types::{Record, Settings};
 
 pub struct Whole {
     pub settings: Settings,
+    pub note: Vec<u8>,
     pub records: Vec<Record>,
 }
 
@@ -28,9 +29,10 @@ pub fn read(log: &[u8]) -> Result<Whole, u32> {
 }
 
 fn parts(log: &[u8]) -> Whole {
-    let count = u64::from(model::trailer_of(log).count);
+    let trailer = model::trailer_of(log);
     Whole {
         settings: model::settings(log).1,
-        records: (0..count).map(|i| model::record_at(log, i)).collect(),
+        note: log[SETTINGS..trailer.offset as usize].to_vec(),
+        records: (0..u64::from(trailer.count)).map(|i| model::record_at(log, i)).collect(),
     }
 }
