@@ -2,18 +2,20 @@
  * The library's log against the same in plain C, in one process, on a log of 100,000 records.
  *
  *   log_bench time STREAM        checks that both answer alike, then times them; prints ratios to plain C
- *   log_bench count STREAM SIDE  adds and replays once on one side, for callgrind to count
+ *   log_bench count STREAM SIDE  adds, replays and compares once on one side, for callgrind to count
  *
  * Method. The log holds the first 100,000 accepted events of a stream (events.c), run by the rules in
  * plain C, with no note. Then come the timed rounds, the sides taking turns part by part:
  *   add: all records to an empty log, 2,000 to a part;
- *   replay: the log, read whole and replayed, one replay to a part.
- * A replay takes milliseconds, so it is timed by the processor time of the thread: what else runs
- * meanwhile is not counted. How ratios are made of the times: ratios.h.
+ *   replay: the log, read whole and replayed, one replay to a part;
+ *   compare: the log and its copy, both read whole and compared, one comparison to a part.
+ * A replay or comparison takes milliseconds, so these two are timed by the processor time of the
+ * thread: what else runs meanwhile is not counted. How ratios are made of the times: ratios.h.
  */
 #include "events.h"
 #include "obikuteru.h"
 #include "plain.h"
+#include "plain_compare.h"
 #include "plain_log.h"
 #include "plain_replay.h"
 #include "timer.h"
@@ -29,12 +31,13 @@
 #define PAGE 4096
 #define CHUNK 2000u
 #define PARTS (RECORDS / CHUNK) /* the most parts of a round */
-#define CALLS 4u                /* replays of a round */
+#define CALLS 4u                /* replays or comparisons of a round */
 #define ROUNDS 21u
 
 static const struct stream *stream;
 static struct event events[EVENTS];
 static _Alignas(PAGE) uint8_t first_log[LONGEST];
+static _Alignas(PAGE) uint8_t second_log[LONGEST];
 static volatile uint64_t sink;
 
 struct side {
@@ -43,6 +46,7 @@ struct side {
     uint64_t (*add)(size_t, size_t);
     const uint8_t *(*written)(void);
     uint64_t (*replay)(void);
+    uint64_t (*compare)(void);
 };
 
 #define SIDE(name) on_plain_##name
@@ -56,7 +60,8 @@ struct side {
 #include "log_side.h"
 
 #define ENTRIES(side)                                                                             \
-    {#side, on_##side##_begin, on_##side##_add, on_##side##_written, on_##side##_replay}
+    {#side, on_##side##_begin, on_##side##_add, on_##side##_written, on_##side##_replay,          \
+     on_##side##_compare}
 
 static const struct side sides[] = {ENTRIES(plain), ENTRIES(library)};
 
@@ -95,7 +100,7 @@ static bool accepted(struct plain_state *state, uint32_t *handles, uint32_t *siz
     return answer < 100;
 }
 
-/* The log of the stream's first accepted events. */
+/* The log of the stream's first accepted events, and its copy. */
 static void make_logs(void)
 {
     static uint32_t handles[MOST_SLOTS], sizes[MOST_SLOTS];
@@ -112,9 +117,10 @@ static void make_logs(void)
             fail("plain C refuses a record.");
     if (log.count != RECORDS)
         fail("too few events are accepted.");
+    memcpy(second_log, first_log, LONGEST);
 }
 
-/* Each side writes the same log and accepts it. */
+/* Each side writes the same log, accepts it, and finds it equal to its copy. */
 static void check(void)
 {
     for (size_t s = 0; s < SIDES; s++) {
@@ -123,6 +129,8 @@ static void check(void)
             fail("the logs that were written differ.");
         if (sides[s].replay() != RECORDS)
             fail("a replay does not accept the log.");
+        if (sides[s].compare() != RECORDS)
+            fail("a comparison does not find the logs equal.");
     }
 }
 
@@ -160,12 +168,24 @@ static size_t time_replay(size_t round)
     return CALLS;
 }
 
+static size_t time_compare(size_t round)
+{
+    for (size_t part = 0; part < CALLS; part++)
+        for (size_t turn = 0; turn < SIDES; turn++) {
+            size_t s = (turn + part + round) % SIDES;
+            uint64_t begin = processor_time();
+            sink += sides[s].compare();
+            times[s][part][round] = processor_time() - begin;
+        }
+    return CALLS;
+}
+
 static void run_times(void)
 {
     static const struct {
         const char *name;
         size_t (*time)(size_t);
-    } rows[] = {{"add", time_add}, {"replay", time_replay}};
+    } rows[] = {{"add", time_add}, {"replay", time_replay}, {"compare", time_compare}};
     check();
     for (size_t i = 0; i < sizeof rows / sizeof *rows; i++) {
         size_t parts = 0;
@@ -180,7 +200,7 @@ static void run_count(const char *name)
     for (size_t s = 0; s < SIDES; s++)
         if (strcmp(sides[s].name, name) == 0) {
             sink += sides[s].begin() + sides[s].add(0, RECORDS);
-            sink += sides[s].replay();
+            sink += sides[s].replay() + sides[s].compare();
             return;
         }
     fail("count takes one of: plain, library.");

@@ -17,6 +17,7 @@ static _Alignas(PAGE) uint32_t SIDE(handles)[MOST_SLOTS];
 static _Alignas(PAGE) uint32_t SIDE(sizes)[MOST_SLOTS];
 static uint8_t *const SIDE(bytes) = SIDE(room) + PAGE / 2;
 static struct TYPE(replayed) SIDE(replayed);
+static struct TYPE(compared) SIDE(compared);
 
 /* An empty log, and the records to add. */
 static uint32_t SIDE(begin)(void)
@@ -45,6 +46,12 @@ static uint64_t SIDE(replay)(void)
     size_t slots = stream->slots;
     return CALL(replay)(first_log, LONGEST, SIDE(handles), slots, SIDE(sizes), slots, &SIDE(replayed))
         + SIDE(replayed).record;
+}
+
+static uint64_t SIDE(compare)(void)
+{
+    return CALL(compare)(first_log, LONGEST, second_log, LONGEST, &SIDE(compared))
+        + SIDE(compared).record;
 }
 
 #undef SIDE

@@ -65,6 +65,7 @@ function rows(s) {
     if ((s, "replay", "library") in median) {
         row(s, "add", "log: add")
         row(s, "replay", "log: replay, a record")
+        row(s, "compare", "log: compare, a record")
     }
 }
 
@@ -118,6 +119,8 @@ END {
         miss(s, "add", 1.1, 1.1)
         miss(s, "replay", 1.1, 1.1)
     }
-    printf "Asked: the queue's entries at most 1.05 times plain C in time and 1.0 in instructions, add and replay 1.1 in both: "
+    printf "Asked: the queue's entries at most 1.05 times plain C in time and 1.0 in instructions, add and replay 1.1, compare 1.5: "
+        miss(s, "replay", 1.1, 1.1)
+        miss(s, "compare", 1.5, 1.5)
     print missed == "" ? "reached." : "missed by " substr(missed, 3) "."
 }
