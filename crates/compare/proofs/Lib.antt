@@ -1,0 +1,6 @@
+-- Laws of the comparison.
+pub mod Same
+pub mod InTurn
+pub mod Contents
+pub mod Whole
+pub mod Fits

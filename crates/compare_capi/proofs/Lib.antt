@@ -1,0 +1,2 @@
+-- Laws of the comparison's C interface.
+pub mod Compares
