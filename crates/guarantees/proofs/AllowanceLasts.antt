@@ -16,9 +16,9 @@ use Rattle.queue.specs.Tick.{tickedState}
 use Rattle.queue.specs.declared.State.{State}
 use Rattle.queue.proofs.WhenAccepted.{TickAccepted}
 use Rattle.guarantees.specs.AllowanceLasts.{AllowanceLasts, lastsUntil}
-use Rattle.guarantees.specs.Calls.{ByLimitsBefore, Call, Entry, entry, limitsVerdict, reply, trace}
+use Rattle.guarantees.specs.Calls.{ByLimitsBefore, Call, Entry, entry, limitsVerdict, reply, ringCalls, trace}
 use Rattle.guarantees.proofs.Replies.{at-reply}
-use Rattle.guarantees.proofs.Traces.{along}
+use Rattle.calls.proofs.Traces.{along}
 
 -- an update takes at most one period from the allowance
 pub takes-at-most-a-period : (pie : Pie) (target bytes : ℕ) → pie .allowance .0 ≤ fullAllowance →
@@ -69,7 +69,7 @@ lasting-by-limits end s l =
 pub allowance-lasts : AllowanceLasts
 allowance-lasts start calls =
     let end = lastsUntil start in
-    along (Lasting end) (ByLimitsBefore end) (reply-lasts end) (lasting-by-limits end) start calls (omega arith)
+    along ringCalls (Lasting end) (ByLimitsBefore end) (reply-lasts end) (lasting-by-limits end) start calls (omega arith)
 
 -- and below any earlier clock
 pub lasts-before : (end : ℕ) (start : State) (calls : List Call) → end ≤ lastsUntil start →

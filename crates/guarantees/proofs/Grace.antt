@@ -10,11 +10,11 @@ use Rattle.queue.specs.Tick.{tickedState}
 use Rattle.queue.specs.declared.State.{State}
 use Rattle.queue.proofs.Kept.{made-accepted}
 use Rattle.guarantees.specs.AllowanceLasts.{periods}
-use Rattle.guarantees.specs.Calls.{ByLimitsBefore, Call, Entry, reply, update}
+use Rattle.guarantees.specs.Calls.{ByLimitsBefore, Call, Entry, reply, ringCalls, update}
 use Rattle.guarantees.specs.Grace.{FreshGrace, Grace}
 use Rattle.guarantees.proofs.AllowanceLasts.{lasts-before}
 use Rattle.guarantees.proofs.Replies.{at-reply}
-use Rattle.guarantees.proofs.Traces.{Cut, cut}
+use Rattle.calls.proofs.Traces.{Cut, cut}
 
 ticked-last : (s : State) (c : Call) (t : ℕ) → c ≡ update t → (reply s c) .answer ≡ ticked → (reply s c) .state .last .0 ≡ t
 unfolding tickedState
@@ -27,7 +27,7 @@ ticked-last s c t =
     c
 
 -- after an accepted tick, while the allowance that it returned lasts
-pub ticked-by-limits : {P : State → Type 0} (e : Entry) (later : List Entry) (t end : ℕ) → Cut P e later →
+pub ticked-by-limits : {P : State → Type 0} (e : Entry) (later : List Entry) (t end : ℕ) → Cut ringCalls P e later →
     e .call ≡ update t → e .answer ≡ ticked → end ≤ t + period * periods (e .returned .pie .allowance .0) →
     (a : Entry) → List·Memᴰ a later → ByLimitsBefore end a
 ticked-by-limits e later t end k =
@@ -37,7 +37,7 @@ ticked-by-limits e later t end k =
 -- any state serves: a call that is accepted was given a well-formed one
 pub grace : Grace
 grace start calls before e later t w q ec ea full =
-    let k = cut (λ n x. tt) (λ n s. Unit {0}) (λ n s h c. tt) (tt {0}) start calls before e later tt q in
+    let k = cut ringCalls (λ n x. tt) (λ n s. Unit {0}) (λ n s h c. tt) (tt {0}) start calls before e later tt q in
     ticked-by-limits e later t _ k ec ea (omega arith)
 
 pub fresh-grace : FreshGrace

@@ -7,10 +7,10 @@ use lib.Dec.{eqb}
 use Rattle.queue.specs.State.{wellFormed}
 use Rattle.queue.specs.declared.State.{State}
 use Rattle.queue.proofs.Facts.{facts}
-use Rattle.guarantees.specs.Calls.{Entry}
+use Rattle.guarantees.specs.Calls.{Entry, ringCalls}
 use Rattle.guarantees.specs.MeasuredWhileQueued.{MeasuredWhileQueued, QueuedIfMeasuring}
 use Rattle.guarantees.proofs.Replies.{reply-well-formed}
-use Rattle.guarantees.proofs.Traces.{along}
+use Rattle.calls.proofs.Traces.{along}
 
 some-queued : (runs : Bool) (count : ℕ) → not (runs && eqb count 0) ≡ true → runs ≡ true → 0 < count
 some-queued true zero busy e = absurd (false≢true busy)
@@ -22,7 +22,7 @@ formed-queued s w = some-queued (s .pie .rate .measuring) (s .backlog .count) (f
 
 pub measured-while-queued : MeasuredWhileQueued
 measured-while-queued start calls w =
-    along (λ s. wellFormed s ≡ true) (λ (a : Entry). QueuedIfMeasuring (a .given) × QueuedIfMeasuring (a .returned))
+    along ringCalls (λ s. wellFormed s ≡ true) (λ (a : Entry). QueuedIfMeasuring (a .given) × QueuedIfMeasuring (a .returned))
     reply-well-formed
     (λ s h c. (formed-queued s h, formed-queued _ (reply-well-formed s h c)))
     start calls w

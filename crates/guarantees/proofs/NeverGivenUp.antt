@@ -20,10 +20,10 @@ use Rattle.queue.specs.Fresh.{fresh}
 use Rattle.queue.specs.Tick.{tickedState}
 use Rattle.queue.specs.declared.State.{State}
 use Rattle.queue.proofs.Kept.{made-accepted}
-use Rattle.guarantees.specs.Calls.{Call, entry, reply}
+use Rattle.guarantees.specs.Calls.{Call, entry, reply, ringCalls}
 use Rattle.guarantees.specs.NeverGivenUp.{EnoughQueued, GivesNothingUp, NeverGivenUp}
 use Rattle.guarantees.proofs.Replies.{at-reply}
-use Rattle.guarantees.proofs.Traces.{along}
+use Rattle.calls.proofs.Traces.{along}
 
 -- of a rate, with so many bytes queued
 abbrev Enough : (bytes : ℕ) → Rate → Type 0
@@ -86,4 +86,4 @@ pub never-given-up : NeverGivenUp
 unfolding fresh
 never-given-up settings clock calls e =
     rw (made-accepted settings clock e)
-    (along EnoughQueued GivesNothingUp reply-enough entry-gives-nothing-up _ calls (λ m. absurd (false≢true m)))
+    (along ringCalls EnoughQueued GivesNothingUp reply-enough entry-gives-nothing-up _ calls (λ m. absurd (false≢true m)))

@@ -16,13 +16,13 @@ use Rattle.queue.specs.Refusals.{emptyRefused, headRefused}
 use Rattle.queue.specs.State.{wellFormed}
 use Rattle.queue.proofs.Facts.{facts}
 use Rattle.guarantees.specs.Calls.{Call, arrive, depart, update, reply}
-use Rattle.guarantees.specs.Conservation.{bytesOf}
-use Rattle.guarantees.specs.Handed.{Packet, Request, Run, askArrival, askDeparture, askTick, queued}
+use Rattle.calls.specs.Packets.{Packet, Sized, bytesOf}
+use Rattle.calls.specs.Ring.{ring, slot}
+use Rattle.calls.proofs.Packets.{sized-bytes}
+use Rattle.calls.proofs.Ring.{leaves, length-listed}
+use Rattle.guarantees.specs.Handed.{Queue, Request, askArrival, askDeparture, askTick, queued}
 use Rattle.guarantees.specs.Refusals.{Applies, rowsOf}
-use Rattle.guarantees.proofs.Packets.{Sized, sized-bytes}
 use Rattle.guarantees.proofs.Refusals.{calls-refused}
-use Rattle.guarantees.proofs.Ring.{leaves, length-listed, ring, slot}
-use Rattle.guarantees.proofs.RunKept.{Kept}
 
 -- whether a test of this number holds
 abbrev pub testOf : (n : ℕ) → List (ℕ × Bool) → Bool
@@ -83,12 +83,11 @@ at-request P a d t (askArrival clock handle size ecn u) = a clock handle size ec
 at-request P a d t (askDeparture clock) = d clock
 at-request P a d t (askTick clock) = t clock
 
--- the head of a queue that is handed back untouched may leave
-pub head-leaves : (r : Run) → Kept r → r .queue .state .backlog .count ≢ 0 →
-    headRefused (r .queue .state .backlog) (headOf (r .queue .state) (r .queue .sizes)) ≡ false
+-- the head of a queue that holds packets of a size that may arrive may leave
+pub head-leaves : (q : Queue) → wellFormed (q .state) ≡ true → q .state .backlog .bytes .0 ≡ bytesOf (queued q) → Sized (queued q) →
+    q .state .backlog .count ≢ 0 → headRefused (q .state .backlog) (headOf (q .state) (q .sizes)) ≡ false
 unfolding headRefused
-head-leaves r k some =
-    let q = r .queue in
+head-leaves q formed held all-sized some =
     let s = q .state in
     let b = s .backlog .bytes .0 in
     let n = s .backlog .count in
@@ -96,9 +95,9 @@ head-leaves r k some =
     let size = headOf s (q .sizes) in
     let rest : List Packet = ring ((s .first + 1) % slots) slots (q .handles) (q .sizes) (n - 1) in
     let split : queued q ≡ slot (q .handles) (q .sizes) (s .first) ∷ rest
-    = leaves (s .first) slots (q .handles) (q .sizes) (facts s (k .formed) .first-high) n (omega arith) in
-    let sized : Sized (slot (q .handles) (q .sizes) (s .first) ∷ rest) = rw split at (k .sized) in
-    let all : b ≡ size + bytesOf rest = cc (k .bytes, split) in
+    = leaves (s .first) slots (q .handles) (q .sizes) (facts s formed .first-high) n (omega arith) in
+    let sized : Sized (slot (q .handles) (q .sizes) (s .first) ∷ rest) = rw split at all-sized in
+    let all : b ≡ size + bytesOf rest = cc (held, split) in
     let range = sized-bytes rest (sized .2) in
     let others : length rest ≡ n - 1 = length-listed (n - 1) _ in
     rw (

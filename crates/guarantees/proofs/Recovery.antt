@@ -15,7 +15,7 @@ use Rattle.queue.specs.Tick.{tickedState}
 use Rattle.queue.specs.declared.State.{State}
 use Rattle.queue.proofs.Facts.{facts}
 use Rattle.queue.proofs.WhenAccepted.{TickAccepted}
-use Rattle.guarantees.specs.Calls.{Call, Entry, entry, update}
+use Rattle.guarantees.specs.Calls.{Call, Entry, entry, ringCalls, update}
 use Rattle.guarantees.specs.Recovery.{Recovery, RecoversAfter, Tally, noted, nothingYet, tally}
 use Rattle.guarantees.proofs.Bound.{bound, floor, worst}
 use Rattle.guarantees.proofs.Fading.{faded, no-delay, two-or-more}
@@ -23,7 +23,7 @@ use Rattle.pie.proofs.IdleStep.{fall}
 use Rattle.guarantees.proofs.Grace.{ticked-by-limits}
 use Rattle.guarantees.proofs.Replies.{at-reply}
 use Rattle.guarantees.proofs.Tallies.{Told, at-start, counted-empty, reply-told, ticked-told}
-use Rattle.guarantees.proofs.Traces.{cut}
+use Rattle.calls.proofs.Traces.{cut}
 
 -- rule 8 fills the allowance
 refilled : (pie : Pie) (target : ℕ) → 0 < target → pie .old .0 ≡ 0 → (updated pie target 0) .prob .0 ≡ 0 →
@@ -63,7 +63,7 @@ pub recovers-after : (ticks least : ℕ) → bound least ticks ≡ 0 →
 recovers-after ticks least reached start w h calls before e later q =
     let n = start .backlog .count in
     let note : Tally → Entry → Tally = λ t a. noted n t (a .answer) in
-    let k = cut note (Told least n) (λ t s. reply-told least n t s) nothingYet start calls before e later (at-start least start w h) q in
+    let k = cut ringCalls note (Told least n) (λ t s. reply-told least n t s) nothingYet start calls before e later (at-start least start w h) q in
     let more : tally n (before ++ e ∷ []) ≡ note (tally n before) e = foldl-append note nothingYet before (e ∷ []) in
     let clear : AllClear ticks n (tally n before) e
     = rw (← k .replied) (all-clear ticks least reached n (tally n before) (e .given) (k .holds) (e .call)) in

@@ -20,10 +20,10 @@ use Rattle.queue.specs.Tick.{tickedState}
 use Rattle.queue.specs.declared.State.{State}
 use Rattle.pie.specs.Update.{updated}
 use Rattle.queue.proofs.Facts.{facts}
-use Rattle.guarantees.specs.Calls.{Call, Entry, entry, reply, trace}
+use Rattle.guarantees.specs.Calls.{Call, Entry, entry, reply, ringCalls, trace}
 use Rattle.guarantees.specs.Spacing.{EarlyAtLeastApart, EarlyAtMostApart, added, addedAt, addedBy, isEarlyAnswer}
 use Rattle.guarantees.proofs.Replies.{at-reply, reply-well-formed}
-use Rattle.guarantees.proofs.Traces.{Cut, cut, nil-not-cons, same-head, same-rest}
+use Rattle.calls.proofs.Traces.{Cut, cut, nil-not-cons, same-head, same-rest}
 
 -- ── one call ──
 
@@ -119,7 +119,7 @@ early-leaves-none s c e = reply-next s c ∙ rw e
 far-enough : (s : State) (calls : List Call) (between : List Entry) (next : Entry) (later : List Entry) → accumulated s ≡ 0 →
     trace s calls ≡ between ++ next ∷ later → isEarlyAnswer (next .answer) ≡ true → 17 * whole ≤ 20 * added (between ++ next ∷ [])
 far-enough s calls between next later z q e =
-    let k = cut more NoMore no-more-kept 0 s calls between next later (omega arith) q in
+    let k = cut ringCalls more NoMore no-more-kept 0 s calls between next later (omega arith) q in
     let same : (reply (next .given) (next .call)) .answer ≡ next .answer = ap (λ (x : Entry). x .answer) (k .replied) in
     let d = reply-due (next .given) (next .call) (ap isEarlyAnswer same ∙ e) in
     let by : addedBy (next .given) (next .answer) ≡ next .given .pie .prob .0 = ap (addedBy (next .given)) (sym same) ∙ d .1 in
@@ -127,7 +127,7 @@ far-enough s calls between next later z q e =
 
 pub early-at-least-apart : EarlyAtLeastApart
 early-at-least-apart start calls before first between next later q ef en =
-    let k = cut (λ n x. tt) (λ n s. Unit {0}) (λ n s h c. tt) (tt {0}) start calls before first (between ++ next ∷ later) tt q in
+    let k = cut ringCalls (λ n x. tt) (λ n s. Unit {0}) (λ n s h c. tt) (tt {0}) start calls before first (between ++ next ∷ later) tt q in
     let same : (reply (first .given) (first .call)) .answer ≡ first .answer = ap (λ (x : Entry). x .answer) (k .replied) in
     far-enough _ (k .calls) between next later (early-leaves-none (first .given) (first .call) (ap isEarlyAnswer same ∙ ef)) (k .onward) en
 

@@ -5,17 +5,11 @@ use Prim.Native.Nat.{_+_, _*_, _≤_}
 use native.Mathlib.Omega.{arith}
 use lib.ListN.{length}
 use Rattle.pie.specs.Constants.{largest}
-use Rattle.guarantees.specs.Conservation.{bytesOf}
-use Rattle.guarantees.specs.Handed.{Packet}
+use Rattle.calls.specs.Packets.{Packet, Sized, bytesOf}
 
 pub bytes-append : (ps qs : List Packet) → bytesOf (ps ++ qs) ≡ bytesOf ps + bytesOf qs
 bytes-append [] qs = omega arith
 bytes-append (p ∷ ps) qs = omega (arith, bytes-append ps qs)
-
--- each size is from 1 to 65,535
-abbrev pub Sized : List Packet → Type 0
-Sized [] = Unit {0}
-Sized (p ∷ ps) = (1 ≤ p .size) × (p .size ≤ largest) × Sized ps
 
 pub sized-append : (ps qs : List Packet) → Sized ps → Sized qs → Sized (ps ++ qs)
 sized-append [] qs a b = b

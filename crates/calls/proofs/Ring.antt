@@ -11,7 +11,8 @@ use borrow.Author.Tests.{ltb-true, ltb-false}
 use lib.Dec.{ltb}
 use lib.ListN.{length, getD, set}
 use lib.Seq.{getD-set-same, getD-set-other}
-use Rattle.guarantees.specs.Handed.{Packet, listed}
+use Rattle.calls.specs.Packets.{Packet}
+use Rattle.calls.specs.Ring.{listed, ring, slot}
 
 -- ── places ──
 
@@ -57,14 +58,6 @@ length-listed zero f = refl
 length-listed (suc n) f = ap suc (length-listed n (λ i. f (suc i)))
 
 -- ── the ring ──
-
--- the packet at a place of the tables
-abbrev pub slot : (handles sizes : List ℕ) (place : ℕ) → Packet
-slot handles sizes place = record { handle = getD handles place 0; size = getD sizes place 0 }
-
--- the packets from the head on
-abbrev pub ring : (first slots : ℕ) (handles sizes : List ℕ) (count : ℕ) → List Packet
-ring first slots handles sizes count = listed count (λ i. slot handles sizes ((first + i) % slots))
 
 module _ (first slots : ℕ) (handles sizes : List ℕ) (inside : first < slots) where
   pub enters : (count handle size : ℕ) → count < slots → length handles ≡ slots → length sizes ≡ slots →
