@@ -11,7 +11,8 @@ use Rattle.laws.specs.Every.{Every}
 use Rattle.laws.proofs.Choice.{at-cond, either}
 use Rattle.queue.specs.Answer.{Reply, made, refused}
 use Rattle.queue.specs.Fresh.{fresh, settingsOf, zeroState}
-use Rattle.queue.specs.Refusals.{firstRefusal, settingsRefused, tablesRefused}
+use Rattle.refusals.specs.Rows.{firstRefusal}
+use Rattle.queue.specs.Refusals.{settingsRefused, tablesRefused}
 use Rattle.queue.specs.declared.State.{State}
 use Rattle.queue.proofs.Kept.{made-accepted}
 use Rattle.guarantees.specs.Calls.{Entry, reply, ringCalls}

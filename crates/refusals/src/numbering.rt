@@ -2,7 +2,7 @@
 use crate::Refusal;
 ghost use mathlib.Core.Path.{_≡_};
 ghost use Prim.Native.Nat.{_≤_};
-ghost use Rattle.queue.specs.Answer.{numberOf};
+ghost use Rattle.refusals.specs.Numbers.{numberOf};
 
 impl Refusal {
     pub fn number(self) -> u32

@@ -1,10 +1,10 @@
--- `departing::wrong_head`: a head larger than the queue first, so that the differences are true ones.
+-- `heads::wrong_head`: a head larger than the queue first, so that the differences are true ones.
 use borrow.Author.Needs.{needs}
 use borrow.Author.Tests.{lt-ltb, le-ltb}
 use mathlib.Core.Bool.{or-true, or-false}
-use Rattle.queue.specs.Refusals.{headRefused}
-use Rattle.queue.proofs.departing.wrong_head.Statement.{statement}
-use Rattle.queue.proofs.departing.wrong_head.Tie as tie
+use Rattle.refusals.specs.Tests.{headRefused}
+use Rattle.refusals.proofs.heads.wrong_head.Statement.{statement}
+use Rattle.refusals.proofs.heads.wrong_head.Tie as tie
 
 returns : tie.Need-returns
 unfolding headRefused

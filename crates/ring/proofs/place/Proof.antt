@@ -1,10 +1,10 @@
--- `ring::place`: each branch is one of the remainder's two ways.
+-- `place`: each branch is one of the remainder's two ways.
 use borrow.Author.Needs.{needs}
 use mathlib.Core.Path.{refl}
 use mathlib.Core.Logic.{inl, inr}
-use Rattle.queue.proofs.Places.{place-is-remainder}
-use Rattle.queue.proofs.ring.place.Statement.{statement}
-use Rattle.queue.proofs.ring.place.Tie as tie
+use Rattle.ring.proofs.Places.{place-is-remainder}
+use Rattle.ring.proofs.place.Statement.{statement}
+use Rattle.ring.proofs.place.Tie as tie
 
 add-at : tie.Need-add-at
 add-at c = search needs

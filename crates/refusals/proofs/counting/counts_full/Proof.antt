@@ -1,4 +1,4 @@
--- `arriving::counts_full`: the last count is all that the others leave of 2^48.
+-- `counting::counts_full`: the last count is all that the others leave of 2^48.
 use borrow.Author.Needs.{needs}
 use borrow.Author.Tests.{eq-eqb, eqb-false, eqb-true, ne-eqb}
 use mathlib.Core.Path.{_≡_, refl}
@@ -9,9 +9,9 @@ use native.Mathlib.Omega.{arith}
 use lib.Dec.{eqb}
 use lib.ListN.{getD}
 use Rattle.pie.specs.Constants.{mostVerdicts}
-use Rattle.queue.proofs.FiveCounts.{total-five}
-use Rattle.queue.proofs.arriving.counts_full.Statement.{statement}
-use Rattle.queue.proofs.arriving.counts_full.Tie as tie
+use Rattle.refusals.proofs.FiveCounts.{total-five}
+use Rattle.refusals.proofs.counting.counts_full.Statement.{statement}
+use Rattle.refusals.proofs.counting.counts_full.Tie as tie
 
 all-that-is-left : (rest part m : ℕ) → rest + part ≤ m → eqb part (m - rest) ≡ eqb (rest + part) m
 all-that-is-left rest part m h = go (eqb (rest + part) m) refl

@@ -1,4 +1,4 @@
--- `well_formed::counts_fit`: what is left of 2^48 after each count.
+-- `counting::counts_fit`: what is left of 2^48 after each count.
 use borrow.Author.Tests.{leb-false, leb-true, le-leb, lt-leb}
 use mathlib.Core.Path.{_≡_, refl, sym}
 use mathlib.Core.Bool.{Bool, true, false}
@@ -9,9 +9,9 @@ use lib.Dec.{leb, lit<}
 use lib.ListN.{getD, length}
 use Rattle.pie.specs.Constants.{mostVerdicts}
 use Rattle.pie.specs.Verdicts.{total}
-use Rattle.queue.proofs.FiveCounts.{total-five}
-use Rattle.queue.proofs.well_formed.counts_fit.Statement.{statement}
-use Rattle.queue.proofs.well_formed.counts_fit.Tie as tie
+use Rattle.refusals.proofs.FiveCounts.{total-five}
+use Rattle.refusals.proofs.counting.counts_fit.Statement.{statement}
+use Rattle.refusals.proofs.counting.counts_fit.Tie as tie
 
 -- ── the sum of five counts, whatever the trace ──
 

@@ -2,16 +2,10 @@
 use mathlib.Core.Path.{_≡_, refl}
 use mathlib.Core.Bool.{Bool, true, false, _&&_}
 use mathlib.Core.List.{List, [], _∷_, foldl}
-use Prim.Native.Nat.{ℕ, zero, suc, _<_}
-use native.Mathlib.Omega.{arith}
-use borrow.Author.Tests.{ltb-true}
-use lib.Dec.{ltb}
+use Prim.Native.Nat.{ℕ, zero, suc}
 use lib.ListN.{getD}
+use Rattle.laws.specs.Tests.{all}
 use Rattle.laws.proofs.Tests.{and-left, and-right}
-use Rattle.queue.specs.State.{all}
-use Rattle.queue.specs.Refusals.{firstRefusal}
-
--- ── lists of tests ──
 
 -- where a test and those of a list pass, it passes and each of them does
 pub first-of : (a : Bool) (tests : List Bool) → foldl _&&_ a tests ≡ true → a ≡ true
@@ -31,21 +25,6 @@ all-at tests e i = at-from true tests e i
 pub at-all : (tests : List Bool) → ((i : ℕ) → getD tests i true ≡ true) → all tests ≡ true
 at-all [] e = refl
 at-all (t ∷ tests) e = rw (e 0) (at-all tests (λ i. e (suc i)))
-
--- ── tables of refusals ──
-
--- every number is above 0
-abbrev pub numbered : List (ℕ × Bool) → Bool
-numbered [] = true
-numbered ((number, test) ∷ rows) = ltb 0 number && numbered rows
-
--- where no refusal is given, each test is false
-pub none-refuses : (rows : List (ℕ × Bool)) → numbered rows ≡ true → firstRefusal rows ≡ 0 → (i : ℕ) → getD rows i (0, false) .1 ≡ false
-none-refuses [] n e i = refl
-none-refuses ((number, true) ∷ rows) n e i =
-    let above : 0 < number = ltb-true 0 number (and-left (ltb 0 number) (numbered rows) n) in absurd (omega arith)
-none-refuses ((number, false) ∷ rows) n e zero = refl
-none-refuses ((number, false) ∷ rows) n e (suc i) = none-refuses rows (and-right (ltb 0 number) (numbered rows) n) e i
 
 -- a test that cannot be true is false
 pub false-of : (b : Bool) → (b ≡ true → ⊥) → false ≡ b
