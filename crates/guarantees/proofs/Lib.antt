@@ -2,12 +2,9 @@
 pub mod Replies
 pub mod Refusals
 pub mod WhichVerdict
-pub mod Fall
-pub mod Bound
-pub mod Fading
+pub mod RingSheds
 pub mod AllowanceLasts
 pub mod Grace
-pub mod Tallies
 pub mod Recovery
 pub mod Moves
 pub mod Answers

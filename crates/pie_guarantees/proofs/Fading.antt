@@ -7,8 +7,8 @@ use Rattle.units.specs.Kinds.{whole}
 use Rattle.pie.specs.Update.{delayOf, divisorOf, lookup, nextProb, updated}
 use Rattle.pie.specs.declared.Pie.{Pie}
 use Rattle.pie.proofs.Ranges.{next-prob-le}
-use Rattle.guarantees.specs.Fading.{Fading, FadesWithin, times}
-use Rattle.guarantees.proofs.Bound.{bound, bound-next, bound-stays, floor, worst}
+use Rattle.pie_guarantees.specs.Fading.{Fading, FadesWithin, times}
+use Rattle.pie_guarantees.proofs.Bound.{bound, bound-next, bound-stays, floor, worst}
 use Rattle.pie.proofs.IdleStep.{fall}
 
 -- after n ticks in succession that each found the queue empty
