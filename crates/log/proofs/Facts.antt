@@ -7,8 +7,8 @@ use lib.Dec.{leb, ltb}
 use lib.ListN.{getD, length}
 use borrow.Author.Tests.{eqb-true, leb-false, leb-true, ltb-false, not-false}
 use Rattle.laws.proofs.Tests.{or-neither}
-use Rattle.queue.specs.State.{all}
-use Rattle.queue.proofs.Tests.{all-at}
+use Rattle.laws.specs.Tests.{all}
+use Rattle.laws.proofs.TestLists.{all-at}
 use Rattle.codec.specs.Numbers.{numberOf}
 use Rattle.log.specs.Layout.{countIn, lengthOf, letters, lettersIn, offsetIn, sizeIn}
 use Rattle.log.specs.Reader.{trailerConditions, trailerRefused}

@@ -7,7 +7,7 @@ use Rattle.units.specs.Kinds.{whole}
 use Rattle.pie.specs.Constants.{largest, latest}
 use Rattle.queue.specs.Fresh.{settingsOf}
 use Rattle.queue.specs.Refusals.{settingsRefused}
-use Rattle.queue.specs.State.{all}
+use Rattle.laws.specs.Tests.{all}
 use Rattle.codec.specs.declared.Header.{Header}
 use Rattle.codec.specs.declared.Record.{Record}
 

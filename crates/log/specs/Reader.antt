@@ -5,7 +5,7 @@ use Prim.Native.Nat.{ℕ, _+_}
 use lib.Dec.{eqb, leb}
 use lib.ListN.{length}
 use denote.Ref.{RefT, now}
-use Rattle.queue.specs.State.{all}
+use Rattle.laws.specs.Tests.{all}
 use Rattle.codec.specs.Numbers.{numberOf}
 use Rattle.codec.specs.declared.Header.{Header}
 use Rattle.log.specs.Answers.{Answer, Turn, end, given, handed, refused}

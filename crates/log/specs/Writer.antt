@@ -5,8 +5,8 @@ use Prim.Native.Nat.{ℕ, zero, suc, _+_, _*_}
 use lib.Dec.{leb, ltb}
 use lib.ListN.{length}
 use lib.Seq.{sets}
-use Rattle.queue.specs.Refusals.{firstRefusal}
-use Rattle.queue.specs.State.{all}
+use Rattle.refusals.specs.Rows.{firstRefusal}
+use Rattle.laws.specs.Tests.{all}
 use Rattle.codec.specs.Headers.{encodedHeader}
 use Rattle.codec.specs.Records.{encoded}
 use Rattle.codec.specs.declared.Header.{Header}

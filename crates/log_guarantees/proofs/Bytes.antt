@@ -12,8 +12,9 @@ use Rattle.laws.proofs.Tests.{and-left, and-right, or-neither}
 use Rattle.pie.specs.Constants.{latest}
 use Rattle.queue.specs.Fresh.{settingsOf}
 use Rattle.queue.specs.Refusals.{settingsRefused}
-use Rattle.queue.specs.State.{all, settingsConditions}
-use Rattle.queue.proofs.Tests.{all-at}
+use Rattle.laws.specs.Tests.{all}
+use Rattle.queue.specs.State.{settingsConditions}
+use Rattle.laws.proofs.TestLists.{all-at}
 use Rattle.codec.specs.Headers.{HeaderInRange, encodedHeader}
 use Rattle.codec.specs.Numbers.{numberOf}
 use Rattle.codec.specs.Records.{encoded}

@@ -9,7 +9,7 @@ use lib.ListN.{length, length-append}
 use lib.Seq.{length-sets, sets}
 use borrow.Author.Tests.{ltb-false, ne-eqb}
 use Rattle.laws.proofs.Tests.{or-neither}
-use Rattle.queue.proofs.Tests.{none-refuses}
+use Rattle.refusals.proofs.Ordered.{none-refuses}
 use Rattle.codec.specs.Headers.{encodedHeader}
 use Rattle.codec.specs.Records.{encoded}
 use Rattle.codec.specs.declared.Header.{Header}

@@ -8,7 +8,7 @@ use lib.Dec.{leb, ltb}
 use lib.ListN.{length, length-replicate, replicate}
 use lib.Seq.{length-sets}
 use borrow.Author.Tests.{le-leb, le-ltb, lt-leb}
-use Rattle.queue.specs.State.{all}
+use Rattle.laws.specs.Tests.{all}
 use Rattle.codec.specs.Headers.{encodedHeader}
 use Rattle.codec.specs.Records.{encoded}
 use Rattle.codec.specs.declared.Header.{Header}

@@ -4,7 +4,7 @@ use mathlib.Core.Bool.{true}
 use mathlib.Core.List.{List}
 use Prim.Native.Nat.{ℕ}
 use lib.ListN.{length}
-use Rattle.queue.specs.State.{all}
+use Rattle.laws.specs.Tests.{all}
 use Rattle.codec.specs.declared.Header.{Header}
 use Rattle.codec.specs.declared.Record.{Record}
 use Rattle.log.specs.Writer.{begin, writerConditions}

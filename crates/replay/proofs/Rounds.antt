@@ -9,7 +9,7 @@ use Rattle.codec.specs.Records.{decoded}
 use Rattle.codec.specs.declared.Record.{Record}
 use Rattle.queue.specs.Answer.{Answer, admits}
 use Rattle.queue.specs.Arrival.{stored, tailPlace}
-use Rattle.queue.specs.Refusals.{firstRefusal}
+use Rattle.refusals.specs.Rows.{firstRefusal}
 use Rattle.queue.specs.declared.State.{State}
 use Rattle.guarantees.specs.Handed.{Queue, Request, after, answerOf, askArrival, askDeparture, askTick}
 use Rattle.log.specs.Layout.{recordsFrom}

@@ -5,7 +5,7 @@ use Prim.Native.Nat.{ℕ}
 use lib.Dec.{eqb}
 use Rattle.pie.specs.Verdicts.{placeOf}
 use Rattle.queue.specs.Answer.{Answer, departed, made, refused, ticked, verdict}
-use Rattle.queue.specs.Refusals.{firstRefusal}
+use Rattle.refusals.specs.Rows.{firstRefusal}
 use Rattle.queue.specs.declared.State.{State}
 use Rattle.codec.specs.declared.Record.{Record}
 use Rattle.guarantees.specs.Handed.{Request, askArrival, askDeparture, askTick}

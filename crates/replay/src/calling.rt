@@ -1,14 +1,14 @@
 // The call that a record holds, made by the rules.
 use crate::Called;
 use codec::Record;
-use queue::Accepted;
 use queue::ArrivalAnswer;
-use queue::Refusal;
 use queue::State;
+use refusals::Accepted;
+use refusals::Refusal;
 use units::Bytes;
 use units::Micros;
 ghost use mathlib.Core.Path.{_≡_};
-ghost use Rattle.queue.specs.Answer.{numberOf};
+ghost use Rattle.refusals.specs.Numbers.{numberOf};
 ghost use Rattle.guarantees.specs.Handed.{after, answerOf};
 ghost use Rattle.replay.specs.Agreement.{refusalIn, requestOf, verdictIn};
 ghost use Rattle.replay.specs.Replay.{queueOf};

@@ -2,7 +2,7 @@
 use crate::Called;
 use codec::Record;
 ghost use mathlib.Core.Path.{_≡_};
-ghost use Rattle.queue.specs.Refusals.{firstRefusal};
+ghost use Rattle.refusals.specs.Rows.{firstRefusal};
 ghost use Rattle.replay.specs.Agreement.{disagreements};
 
 // The first field that disagrees: 1 verdict, 2 probability, 3 bytes; 0 where none does.

@@ -9,7 +9,7 @@ use borrow.Author.Tests.{eq-eqb}
 use lib.Dec.{eqb}
 use lib.ListN.{length}
 use Rattle.queue.specs.Answer.{Answer, Reply, refused}
-use Rattle.queue.specs.Refusals.{firstRefusal}
+use Rattle.refusals.specs.Rows.{firstRefusal}
 use Rattle.queue.specs.declared.State.{State}
 use Rattle.codec.specs.declared.Record.{Record}
 use Rattle.guarantees.specs.Calls.{Call, arrive, depart, update}

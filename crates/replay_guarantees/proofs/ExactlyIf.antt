@@ -9,7 +9,7 @@ use borrow.Author.Tests.{eq-eqb, eqb-false, eqb-true}
 use lib.Dec.{eqb}
 use lib.ListN.{length}
 use Rattle.queue.specs.Answer.{Answer}
-use Rattle.queue.specs.Refusals.{firstRefusal}
+use Rattle.refusals.specs.Rows.{firstRefusal}
 use Rattle.queue.specs.declared.State.{State}
 use Rattle.codec.specs.declared.Record.{Record}
 use Rattle.guarantees.specs.Handed.{Queue, answerOf}

@@ -9,7 +9,7 @@ use lib.Dec.{eqb, leb, ltb}
 use lib.ListN.{length, length-append}
 use lib.Seq.{length-sets}
 use Rattle.laws.proofs.Tests.{or-neither}
-use Rattle.queue.specs.State.{all}
+use Rattle.laws.specs.Tests.{all}
 use Rattle.codec.specs.declared.Header.{Header}
 use Rattle.codec.specs.declared.Record.{Record}
 use Rattle.log.specs.Faults.{faulty}
