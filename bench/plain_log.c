@@ -26,15 +26,16 @@ static bool settings_fault(const struct plain_settings *s)
         || LATEST < s->clock || s->unused != 0;
 }
 
+/* No jump by the kind but for a fault: which kind comes next cannot be foreseen. */
 static bool record_fault(const struct plain_record *r)
 {
     if (r->unused != 0 || LATEST < r->clock || MOST_BYTES < r->bytes || WHOLE < r->probability)
         return true;
-    if (r->kind == 'a')
-        return 1 < r->ecn || r->size < 1 || LARGEST < r->size || 4 < r->verdict;
-    if (r->ecn != 0 || r->handle != 0 || r->size != 0 || r->u != 0)
-        return true;
-    return r->kind != 'd' && (r->kind != 't' || r->verdict != 0);
+    bool arrival = r->kind == 'a', departure = r->kind == 'd', tick = r->kind == 't';
+    return !(arrival | departure | tick) | (arrival < r->ecn)
+        | (arrival & ((r->size == 0) | (LARGEST < r->size) | (4 < r->verdict)))
+        | (!arrival & ((r->handle | r->size | r->u) != 0))
+        | (tick & (r->verdict != 0));
 }
 
 /* The length of a log with so many records. */

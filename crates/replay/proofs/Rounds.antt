@@ -1,5 +1,5 @@
 -- One round of the replay: the record that is reached, and the records after it.
-use mathlib.Core.Path.{_≡_, refl, sym, _∙_}
+use mathlib.Core.Path.{_≡_, refl, _∙_}
 use mathlib.Core.Bool.{Bool, true, false, cond}
 use mathlib.Core.List.{List, [], _∷_}
 use Prim.Native.Nat.{ℕ, zero, suc, _+_, _-_, _<_}
@@ -14,7 +14,7 @@ use Rattle.queue.specs.declared.State.{State}
 use Rattle.guarantees.specs.Handed.{Queue, Request, after, answerOf, askArrival, askDeparture, askTick}
 use Rattle.log.specs.Layout.{recordsFrom}
 use Rattle.replay.specs.Agreement.{disagreement, disagreements, refusalIn, requestOf, verdictIn}
-use Rattle.replay.specs.Replay.{Replay, accepted, disagrees, replayFrom, unlessDisagrees}
+use Rattle.replay.specs.Replay.{Replay, disagrees, replayFrom, unlessDisagrees}
 use Rattle.replay.specs.Replied.{bytesIn, handlesAfter, probIn, replayedOf, sizesAfter}
 use Rattle.replay.specs.declared.Replayed.{Replayed}
 

@@ -2,7 +2,6 @@
 use mathlib.Core.List.{List}
 use Prim.Native.Nat.{ℕ}
 use Rattle.queue.specs.declared.State.{State}
-use Rattle.guarantees.specs.Handed.{Queue}
 use Rattle.replay.specs.Agreement.{refusalIn, verdictIn}
 use Rattle.replay.specs.Replay.{Replay, accepted, disagrees, refused}
 use Rattle.replay.specs.declared.Replayed.{Replayed}

@@ -1,5 +1,5 @@
 -- The numbers of a replay's refusals, and the code that follows from what it handed back.
-use mathlib.Core.Path.{_≡_, refl, sym, ap, _∙_}
+use mathlib.Core.Path.{_≡_, refl}
 use mathlib.Core.Bool.{Bool, true, false, cond}
 use mathlib.Core.List.{List, [], _∷_}
 use Prim.Native.Nat.{ℕ, zero, suc, _+_, _<_, _≤_}
@@ -9,7 +9,7 @@ use Rattle.queue.specs.Answer.{Answer}
 use Rattle.queue.specs.Refusals.{tablesRefused}
 use Rattle.codec.specs.declared.Record.{Record}
 use Rattle.guarantees.specs.Handed.{Queue, after, answerOf}
-use Rattle.log.specs.Answers.{Answer as LogAnswer, given, refused as logRefused}
+use Rattle.log.specs.Answers.{given, refused as logRefused}
 use Rattle.log.specs.Faults.{headerRefused}
 use Rattle.log.specs.Layout.{headerIn, noteIn, recordsIn}
 use Rattle.log.specs.Reader.{trailerRefused}

@@ -1,8 +1,8 @@
 -- The records of any list of calls, replayed from a queue with the same state and packets, are accepted.
 use mathlib.Core.Path.{_≡_, refl, sym, ap, subst, _∙_}
-use mathlib.Core.Bool.{Bool, true, false, cond}
+use mathlib.Core.Bool.{Bool, true, false}
 use mathlib.Core.Logic.{_≢_}
-use mathlib.Core.List.{List, [], _∷_, _++_, foldl}
+use mathlib.Core.List.{List, [], _∷_, foldl}
 use Prim.Native.Nat.{ℕ, zero, suc, _+_}
 use native.Mathlib.Omega.{arith}
 use borrow.Author.Tests.{eq-eqb}
@@ -13,11 +13,11 @@ use Rattle.refusals.specs.Rows.{firstRefusal}
 use Rattle.queue.specs.declared.State.{State}
 use Rattle.codec.specs.declared.Record.{Record}
 use Rattle.guarantees.specs.Calls.{Call, arrive, depart, update}
-use Rattle.guarantees.specs.Handed.{Queue, Request, after, answerOf, askArrival, askDeparture, askTick, callOf, queued}
+use Rattle.guarantees.specs.Handed.{Queue, Request, after, answerOf, askArrival, askDeparture, askTick, callOf}
 use Rattle.guarantees.proofs.Refusals.{refusals}
 use Rattle.guarantees.proofs.Replies.{acceptance, number-refuses, numberGiven}
 use Rattle.replay.specs.Agreement.{disagreements, refusalIn, requestOf, verdictIn}
-use Rattle.replay.specs.Replay.{Replay, accepted, replayFrom}
+use Rattle.replay.specs.Replay.{accepted, replayFrom}
 use Rattle.replay.specs.Replied.{bytesIn, probIn}
 use Rattle.replay.proofs.Rounds.{Round, goes-on}
 use Rattle.replay_guarantees.specs.AlwaysAccepted.{AcceptedAs}

@@ -1,30 +1,25 @@
 -- A log that the writer made of a fresh queue's accepted calls is accepted.
-use mathlib.Core.Path.{_≡_, refl, sym, ap, subst, _∙_}
-use mathlib.Core.Bool.{Bool, true, false, not, cond, _&&_}
+use mathlib.Core.Path.{_≡_, refl, sym, ap, _∙_}
+use mathlib.Core.Bool.{false}
 use mathlib.Core.List.{List, [], _∷_, foldl}
 use Prim.Native.Nat.{ℕ, _+_}
 use native.Mathlib.Omega.{arith}
 use borrow.Author.Tests.{eq-eqb}
-use lib.Dec.{eqb}
 use lib.ListN.{length}
-use Rattle.queue.specs.Answer.{made}
-use Rattle.queue.specs.Fresh.{fresh, freshState, settingsOf}
+use Rattle.queue.specs.Fresh.{settingsOf}
 use Rattle.queue.specs.declared.Settings.{Settings}
-use Rattle.queue.specs.declared.State.{State}
 use Rattle.codec.specs.declared.Header.{Header}
-use Rattle.codec.specs.declared.Record.{Record}
-use Rattle.guarantees.specs.Handed.{Queue, Request, Run, after, begin, queued, run, step}
+use Rattle.guarantees.specs.Handed.{Queue, Request, Run, after, begin, queued, step}
 use Rattle.guarantees.proofs.RunKept.{run-kept}
 use Rattle.log.specs.Answers.{given}
 use Rattle.log.specs.Faults.{headerRefused}
 use Rattle.log.specs.Whole.{Contents, readWhole}
-use Rattle.log.specs.Writer.{begin as beginLog}
 use Rattle.log_guarantees.specs.Run.{logOf, run as write}
 use Rattle.log_guarantees.proofs.AlwaysWhole.{always-whole}
 use Rattle.log_guarantees.proofs.Kept.{at-start}
-use Rattle.replay.specs.Replay.{Replay, freshQueue, queueOf, replay, replayFrom}
+use Rattle.replay.specs.Replay.{Replay, freshQueue, replay, replayFrom}
 use Rattle.replay.proofs.Contained.{fresh-made, fresh-state}
-use Rattle.replay_guarantees.specs.AlwaysAccepted.{AcceptedAs, AlwaysAccepted}
+use Rattle.replay_guarantees.specs.AlwaysAccepted.{AlwaysAccepted}
 use Rattle.replay_guarantees.specs.Recorded.{recorded}
 use Rattle.replay_guarantees.proofs.Agrees.{all-agree}
 use Rattle.replay_guarantees.proofs.Fine.{Sound, all-fine}

@@ -1,22 +1,20 @@
 -- What the replay of a list of records says of each of them.
-use mathlib.Core.Path.{_≡_, refl, sym, ap, subst, _∙_}
+use mathlib.Core.Path.{_≡_, refl, ap, subst, _∙_}
 use mathlib.Core.Bool.{Bool, true, false, cond, not}
-use mathlib.Core.Logic.{_≢_}
-use mathlib.Core.List.{List, [], _∷_, _++_, foldl}
+use mathlib.Core.List.{List, [], _∷_}
 use Prim.Native.Nat.{ℕ, zero, suc, _+_}
 use native.Mathlib.Omega.{arith}
 use borrow.Author.Tests.{eq-eqb, eqb-false, eqb-true}
 use lib.Dec.{eqb}
 use lib.ListN.{length}
 use Rattle.queue.specs.Answer.{Answer}
-use Rattle.refusals.specs.Rows.{firstRefusal}
 use Rattle.queue.specs.declared.State.{State}
 use Rattle.codec.specs.declared.Record.{Record}
 use Rattle.guarantees.specs.Handed.{Queue, answerOf}
-use Rattle.replay.specs.Agreement.{disagreement, disagreements, refusalIn, requestOf, verdictIn}
+use Rattle.replay.specs.Agreement.{disagreement, refusalIn, requestOf, verdictIn}
 use Rattle.replay.specs.Replay.{Replay, accepted, disagrees, replayFrom, unlessDisagrees}
 use Rattle.replay.specs.Replied.{bytesIn, probIn}
-use Rattle.replay_guarantees.specs.ExactlyIf.{AllAgree, Exactly, ExactlyIf, Field, FirstWrong, afterAll, afterRecord}
+use Rattle.replay_guarantees.specs.ExactlyIf.{AllAgree, ExactlyIf, Field, FirstWrong, afterAll, afterRecord}
 use Rattle.replay_guarantees.specs.ExactlyIf.{bytes, none, probability, refused, verdict}
 
 -- ── one record ──

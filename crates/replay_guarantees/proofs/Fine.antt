@@ -1,6 +1,6 @@
 -- The records of accepted calls have no fault, and each of their fields fits its width.
-use mathlib.Core.Path.{_≡_, refl, sym, ap, subst, _∙_}
-use mathlib.Core.Bool.{Bool, true, false, cond, _||_}
+use mathlib.Core.Path.{_≡_, refl, sym, subst}
+use mathlib.Core.Bool.{Bool, true, false, cond}
 use mathlib.Core.List.{List, [], _∷_, _++_}
 use Prim.Native.Nat.{ℕ, zero, suc, _+_, _^_, _<_, _≤_}
 use native.Mathlib.Omega.{arith}
@@ -29,7 +29,7 @@ use Rattle.log.specs.Whole.{anyFaulty}
 use Rattle.log_guarantees.specs.Run.{AllInRange}
 use Rattle.replay.specs.Agreement.{verdictIn}
 use Rattle.replay.specs.Replied.{bytesIn, probIn}
-use Rattle.replay_guarantees.specs.Recorded.{AllFit, Fits, line, recordOf, recorded}
+use Rattle.replay_guarantees.specs.Recorded.{AllFit, Fits, line, recorded}
 use Rattle.replay_guarantees.proofs.Agrees.{kept, recorded-accepted, recorded-refused}
 use Rattle.replay_guarantees.proofs.SameCalls.{accepted-reply, after-state}
 

@@ -1,12 +1,10 @@
 -- Two queues with the same state and the same packets queued, whatever else their tables hold: a call that one accepts the other accepts,
 -- with the same answer, and they stay so.
 use mathlib.Core.Path.{_≡_, refl, sym, ap, subst, _∙_}
-use mathlib.Core.Bool.{Bool}
 use mathlib.Core.List.{List, [], _∷_, _++_}
-use Prim.Native.Nat.{ℕ, _+_, _%_, _<_, _≤_}
-use native.Mathlib.Omega.{arith}
+use Prim.Native.Nat.{ℕ, _+_, _<_, _≤_}
 use lib.ListN.{length}
-use Rattle.queue.specs.Answer.{Answer, Reply}
+use Rattle.queue.specs.Answer.{Reply}
 use Rattle.queue.specs.Arrival.{arrivalRefusal, arrivedState}
 use Rattle.queue.specs.Departure.{departedState, departureRefusal, headOf}
 use Rattle.queue.specs.Tick.{tickedState}

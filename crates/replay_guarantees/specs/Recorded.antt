@@ -1,5 +1,5 @@
 -- The records of a queue's calls: each accepted call, in order, with its answer, and probability and bytes after it (docs/LOG.md).
-use mathlib.Core.Bool.{Bool, cond}
+use mathlib.Core.Bool.{cond}
 use mathlib.Core.List.{List, [], _∷_, _++_}
 use Prim.Native.Nat.{ℕ, _<_, _^_}
 use Rattle.queue.specs.Answer.{Answer, departed, made, refused, ticked, verdict}
