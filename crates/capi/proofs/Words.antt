@@ -20,8 +20,8 @@ use Rattle.pie.specs.declared.Verdict.the-variants.{Enqueued, Marked, DroppedBy
 use Rattle.queue.specs.Answer.{Reply, acceptedAnswer, departed, verdict}
 use Rattle.queue.specs.Arrival.{arrival, arrivedState}
 use Rattle.queue.specs.Departure.{departedState, departure}
-use Rattle.queue.specs.declared.Accepted.{Accepted}
-use Rattle.queue.specs.declared.Accepted.the-variants.{Yes}
+use Rattle.refusals.specs.declared.Accepted.{Accepted}
+use Rattle.refusals.specs.declared.Accepted.the-variants.{Yes}
 use Rattle.queue.specs.declared.State.{State}
 use Rattle.queue.proofs.Replies.{decided, taken}
 use Rattle.queue.proofs.WhenAccepted.{arrival-accepted}

@@ -10,7 +10,7 @@ use Rattle.queue.specs.Fresh.{settingsOf}
 use Rattle.queue.specs.declared.Settings.{Settings}
 use Rattle.codec.specs.declared.Header.{Header}
 use Rattle.guarantees.specs.Handed.{Queue, Request, Run, after, begin, queued, step}
-use Rattle.guarantees.proofs.RunKept.{run-kept}
+use Rattle.queue.proofs.Kept.{fresh-well-formed}
 use Rattle.log.specs.Answers.{given}
 use Rattle.log.specs.Faults.{headerRefused}
 use Rattle.log.specs.Whole.{Contents, readWhole}
@@ -47,8 +47,7 @@ module _ (h : Header) (ok : headerRefused h ≡ false) where
 
   start-sound : (handles sizes : List ℕ) → Sound (start handles sizes)
   start-sound handles sizes =
-      let k = run-kept settings (h .clock) handles sizes [] (fresh-made h ok) in
-      record { formed = k .formed; small = rw (fresh-state h ok) tt }
+      record { formed = fresh-well-formed settings (h .clock) (fresh-made h ok); small = rw (fresh-state h ok) tt }
 
 -- a log that reads whole, over tables that fit
 replays : (log : List ℕ) (c : Contents) (handles sizes : List ℕ) → readWhole log ≡ given c → length handles ≡ c .header .slots →

@@ -21,7 +21,8 @@ use Rattle.queue.proofs.Facts.{Facts, facts}
 use Rattle.queue.proofs.WhenAccepted.{arrival-accepted, departure-accepted, tick-accepted}
 use Rattle.codec.specs.Records.{InRange}
 use Rattle.codec.specs.declared.Record.{Record}
-use Rattle.guarantees.specs.Handed.{Packet, Queue, Request, admittedBy, after, answerOf, askArrival, askDeparture, askTick, brought, callOf, departedBy, queued}
+use Rattle.calls.specs.Packets.{Packet}
+use Rattle.guarantees.specs.Handed.{Queue, Request, admittedBy, after, answerOf, askArrival, askDeparture, askTick, brought, callOf, departedBy, queued}
 use Rattle.guarantees.proofs.Moves.{moved}
 use Rattle.guarantees.proofs.Replies.{numberGiven, reply-well-formed}
 use Rattle.log.specs.Faults.{faulty, mostBytes}

@@ -12,10 +12,12 @@ use Rattle.queue.specs.declared.Settings.{Settings}
 use Rattle.queue.specs.declared.State.{State}
 use Rattle.queue.proofs.WhenAccepted.{arrival-accepted, departure-accepted}
 use Rattle.guarantees.specs.Calls.{Call, arrive, depart, reply, update}
-use Rattle.guarantees.specs.Handed.{Packet, Queue, Request, admittedBy, after, answerOf, askArrival, askDeparture, askTick, callOf, departedBy, queued}
+use Rattle.calls.specs.Packets.{Packet}
+use Rattle.guarantees.specs.Handed.{Queue, Request, admittedBy, after, answerOf, askArrival, askDeparture, askTick, callOf, departedBy, queued}
 use Rattle.guarantees.proofs.Moves.{moved}
 use Rattle.guarantees.proofs.Replies.{acceptance, at-one-reply, by-number, numberGiven}
-use Rattle.guarantees.proofs.Ring.{leaves, slot}
+use Rattle.calls.specs.Ring.{slot}
+use Rattle.calls.proofs.Ring.{leaves}
 use Rattle.replay.specs.Replay.{queueOf}
 use Rattle.replay.proofs.Rounds.{after-long}
 
