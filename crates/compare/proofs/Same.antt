@@ -22,6 +22,7 @@ window-next l at end h k = rw (less, drop-cons l at 0 (omega arith), up) refl
   where
     less : end - at ≡ suc (end - (at + 1))
     less = omega arith
+
     up : suc at ≡ at + 1
     up = omega arith
 

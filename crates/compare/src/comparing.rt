@@ -38,7 +38,14 @@ fn compare_records(first: &[u8], second: &[u8], offset: usize, count: u64, other
 }
 
 // Two logs that are read whole: offset and count of the first, and of the second.
-fn compare_whole(first: &[u8], second: &[u8], offset: u32, count: u32, start: u32, others: u32) -> Compared
+fn compare_whole(
+    first: &[u8],
+    second: &[u8],
+    offset: u32,
+    count: u32,
+    start: u32,
+    others: u32,
+) -> Compared
     requires { ⌜ (32 ≤ offset) × (length (now first) ≡ offset + 40 * count + 16) ⌝ }
     requires { ⌜ (32 ≤ start) × (length (now second) ≡ start + 40 * others + 16) ⌝ }
     ensures { λ r. ⌜ comparisonOf r

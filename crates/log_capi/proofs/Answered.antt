@@ -49,6 +49,7 @@ sets-whole l a e = sets-eq a l 0 (omega (arith, e)) ∙ rw (up, none l) (append-
   where
     up : 0 + length a ≡ length l
     up = omega (arith, e)
+
     none : (l : List ℕ) → drop (length l) l ≡ []
     none [] = refl
     none (x ∷ l) = none l

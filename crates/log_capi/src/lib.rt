@@ -15,13 +15,11 @@ ghost use Rattle.log_capi.specs.Codes.{answerCode, codeOf, noteWords, pa
 // What 40 and 32 bytes are known to be.
 fn forty(b: [u8; 40])
     ensures { λ _. ⌜ length b ≡ 40 ⌝ }
-{
-}
+{}
 
 fn thirty_two(b: [u8; 32])
     ensures { λ _. ⌜ length b ≡ 32 ⌝ }
-{
-}
+{}
 
 fn code(accepted: Accepted) -> u32
     ensures { λ r. ⌜ r ≡ codeOf (refusalIn accepted) ⌝ }
@@ -33,7 +31,12 @@ fn code(accepted: Accepted) -> u32
 }
 
 #[no_mangle]
-pub extern "C" fn obikuteru_log_begin(words: &mut [u32; 2], settings: &[u8; 32], note: &[u8], bytes: &mut [u8]) -> u32
+pub extern "C" fn obikuteru_log_begin(
+    words: &mut [u32; 2],
+    settings: &[u8; 32],
+    note: &[u8],
+    bytes: &mut [u8],
+) -> u32
     ensures { λ r. ⌜ (let a = begin (decodedHeader (now (settings .entry)) 0) (now (note .entry)) (now (bytes .entry)) in
         (r ≡ codeOf (a .refusal)) × (now (words .exit) ≡ writerWords (a .writer)) × (now (bytes .exit) ≡ a .bytes)) ⌝ }
 {

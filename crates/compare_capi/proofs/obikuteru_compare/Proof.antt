@@ -48,7 +48,7 @@ last-from-requires c κs = let a = c .before .before .before .before .before .be
 
 mul-t19 : tie.Need-mul-t19
 mul-t19 c =
-    let a = c .before .before .before .before .before .before .before .args in 
+    let a = c .before .before .before .before .before .before .before .args in
     let h = second-fits (a .first .now) (a .second .now) (sym (c .before .before .before .before .compare .ensures) ∙ ap comparisonOf (c .before .before .found4 .given .1)) in omega (arith, h)
 
 enum-known-found-5 : tie.Need-enum-known-found-5
@@ -59,7 +59,7 @@ last-from-requires-2 c κs = let a = c .before .before .before .before .before .
 
 mul-t23 : tie.Need-mul-t23
 mul-t23 c =
-    let a = c .before .before .before .before .before .before .before .args in 
+    let a = c .before .before .before .before .before .before .before .args in
     let h = first-fits (a .first .now) (a .second .now) (sym (c .before .before .before .before .compare .ensures) ∙ ap comparisonOf (c .before .before .found5 .given .1)) in omega (arith, h)
 
 enum-known-found-6 : tie.Need-enum-known-found-6
@@ -82,13 +82,13 @@ returns-5 c = let a = c .before .before .before .before .before .before .before 
 
 returns-6 : tie.Need-returns-6
 returns-6 c =
-    let a = c .before .before .before .before .before .before .before .before .args in 
+    let a = c .before .before .before .before .before .before .before .before .args in
     longer-place (a .first .now) (a .second .now) (c .before .before .before .before .before .compare .ensures) (c .before .before .before .found4 .given .1)
     (ap (λ (p : ℕ). 2 ∷ c .before .before .before .found4 .given .0 .0 ∷ p ∷ 40 * c .before .before .before .found4 .given .0 .1 .0 ∷ []) (c .before .last-from .ensures)) refl
 
 returns-7 : tie.Need-returns-7
 returns-7 c =
-    let a = c .before .before .before .before .before .before .before .before .args in 
+    let a = c .before .before .before .before .before .before .before .before .args in
     longer-place (a .first .now) (a .second .now) (c .before .before .before .before .before .compare .ensures) (c .before .before .before .found5 .given .1)
     (ap (λ (p : ℕ). 1 ∷ c .before .before .before .found5 .given .0 .0 ∷ p ∷ 40 * c .before .before .before .found5 .given .0 .1 .0 ∷ []) (c .before .last-from2 .ensures)) refl
 

@@ -75,13 +75,16 @@ loop-less c = omega arith
 loop-again : tie.Need-loop-again Inv-loop μ-loop
 loop-again c =
     let l = c .before .before .before .before .before .before .loop in
-    let a = c .before .before .before .before .before .before .before .before .before .args in
-    (omega arith, omega arith, omega (arith, l .inv .2),
-    l .inv .3 ∙ turn-same (a .first .now) (a .second .now) (a .count) (a .others) (l .number) (l .at) (omega arith) (omega arith)
-    (c .before .before .before .get .ensures)
-    (c .before .before .get2 .ensures)
-    (c .before .same-record .ensures)
-    (not-false _ (c .if2 .left)))
+    let a = c .before .before .before .before .before .before .before .before .before .args in (
+      omega arith,
+      omega arith,
+      omega (arith, l .inv .2),
+      l .inv .3 ∙ turn-same (a .first .now) (a .second .now) (a .count) (a .others) (l .number) (l .at) (omega arith) (omega arith)
+          (c .before .before .before .get .ensures)
+          (c .before .before .get2 .ensures)
+          (c .before .same-record .ensures)
+          (not-false _ (c .if2 .left)),
+    )
 
 -- src/comparing.rt:31:9
 returns-3 : tie.Need-returns-3 Inv-loop μ-loop

@@ -52,10 +52,12 @@ loop-less c = omega arith
 loop-again : tie.Need-loop-again Inv-loop μ-loop
 loop-again c =
     let l = c .before .before .before .before .loop in
-    let a = c .before .before .before .before .before .args in
-    (omega arith, omega arith,
-    l .inv .2 ∙ byte-same (a .first .now) (a .second .now) (l .at) (a .end) (omega arith) (omega arith) (omega arith)
-    refl (not-false _ (c .if1 .left)))
+    let a = c .before .before .before .before .before .args in (
+      omega arith,
+      omega arith,
+      l .inv .2 ∙ byte-same (a .first .now) (a .second .now) (l .at) (a .end) (omega arith) (omega arith) (omega arith)
+          refl (not-false _ (c .if1 .left)),
+    )
 
 -- src/sameness.rt:32:1
 returns-2 : tie.Need-returns-2 Inv-loop μ-loop
