@@ -15,8 +15,8 @@ ghost use Rattle.guarantees.specs.Handed.{after, answerOf};
 ghost use Rattle.replay.specs.Agreement.{refusalIn, requestOf, verdictIn};
 ghost use Rattle.replay.specs.Replay.{queueOf};
 
-// The same state, made anew. A copy would take the padding beside `measuring` along from call to call, and the loop would take half as
-// long again (docs/changes/Q-10.md).
+// The same state, made of its fields. A copy would take the padding beside `measuring` along from call to call, and the loop half as
+// much time again (docs/changes/Q-10.md).
 fn made_anew(s: State) -> State
     ensures { λ r. ⌜ r ≡ s ⌝ }
 {
