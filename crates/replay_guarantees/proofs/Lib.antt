@@ -4,4 +4,5 @@ pub mod Agrees
 pub mod Fine
 pub mod Written
 pub mod ExactlyIf
+pub mod AnyTables
 pub mod AlwaysAccepted

@@ -68,7 +68,7 @@ module _ (s : State) (h z h′ z′ : List ℕ) (long-handles : length h′ ≡ 
   abbrev q′ : Queue
   q′ = queueOf s h′ z′
 
-  same-head : s .first < s .settings .slots → 1 ≤ s .backlog .count → slot h′ z′ (s .first) ≡ slot h z (s .first)
+  pub same-head : s .first < s .settings .slots → 1 ≤ s .backlog .count → slot h′ z′ (s .first) ≡ slot h z (s .first)
   same-head inside some =
       first-same (sym (leaves (s .first) (s .settings .slots) h′ z′ inside (s .backlog .count) some)
       ∙ packets
