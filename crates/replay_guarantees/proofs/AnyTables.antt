@@ -16,7 +16,8 @@ use Rattle.queue.specs.declared.Settings.{Settings}
 use Rattle.queue.specs.declared.State.{State}
 use Rattle.queue.proofs.Facts.{facts}
 use Rattle.codec.specs.declared.Record.{Record}
-use Rattle.guarantees.specs.Handed.{Packet, Queue, Request, after, answerOf, askArrival, askDeparture, askTick, callOf, queued}
+use Rattle.calls.specs.Packets.{Packet}
+use Rattle.guarantees.specs.Handed.{Queue, Request, after, answerOf, askArrival, askDeparture, askTick, callOf, queued}
 use Rattle.guarantees.proofs.Refusals.{refusals}
 use Rattle.guarantees.proofs.Replies.{number-refuses, numberGiven}
 use Rattle.log.specs.Answers.{Answer as LogAnswer, given, refused as logRefused}
