@@ -27,7 +27,7 @@ ghost use Rattle.queue.specs.Answer.{arrivalReply, refusalIn};
 ghost use Rattle.queue.specs.Arrival.{arrival, arrivalRefusal, arrivedPie, arrivedState, stored, tailPlace, verdictOf};
 
 // Whether the five counts, whose sum is in range, sum to 2^48.
-fn counts_full(counts: [u64; 5]) -> bool
+pub fn counts_full(counts: [u64; 5]) -> bool
     requires { ⌜ total counts ≤ mostVerdicts ⌝ }
     ensures { λ r. ⌜ r ≡ eqb (total counts) mostVerdicts ⌝ }
 {

@@ -21,7 +21,7 @@ ghost use Rattle.queue.specs.Refusals.{headRefused};
 ghost use Rattle.queue.specs.Departure.{departedState, departure, departureRefusal, headOf};
 
 // Refusal 9: the head cannot be of this size.
-fn wrong_head(backlog: Backlog, size: u64) -> bool
+pub fn wrong_head(backlog: Backlog, size: u64) -> bool
     requires { ⌜ (0 < backlog .count) × (backlog .count ≤ 65536) ⌝ }
     ensures { λ r. ⌜ r ≡ headRefused backlog size ⌝ }
 {

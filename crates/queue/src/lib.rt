@@ -73,3 +73,8 @@ pub struct Departed {
     pub size: u32,
     pub state: State,
 }
+
+pub use arriving::counts_full;
+pub use departing::wrong_head;
+pub use ring::place;
+pub use well_formed::counts_fit;

@@ -1,0 +1,42 @@
+-- A fresh flow (docs/DOCSIS-PIE.md, parts 2 and 3).
+use mathlib.Core.Bool.{cond}
+use mathlib.Core.List.{List}
+use Prim.Native.Nat.{ℕ}
+use Rattle.units.specs.Kinds.{bytes, micros, none, prob, rate}
+use Rattle.queue.specs.Answer.{made, refused}
+use Rattle.docsis_pie.specs.Constants.{inactive}
+use Rattle.docsis_pie.specs.Update.{phase}
+use Rattle.docsis.specs.Answer.{FlowReply, Reply}
+use Rattle.docsis.specs.Refusals.{forFlow, settingsRefused}
+use Rattle.docsis.specs.declared.Settings.{Settings}
+use Rattle.docsis.specs.declared.State.{State}
+
+abbrev pub settingsOf : (target buffer slots peak sustained : ℕ) → Settings
+settingsOf target buffer slots peak sustained =
+    record { target = micros target; buffer = bytes buffer; slots = slots; peak = rate peak; sustained = rate sustained }
+
+-- last tick equals the clock, everything that is not given is 0
+abbrev pub freshState : Settings → (clock : ℕ) → State
+freshState settings clock =
+    record {
+      settings = settings;
+      clock = micros clock;
+      last = micros clock;
+      pie = record { prob = prob none; accumulated = prob none; old = micros 0; allowance = micros 0; phase = phase inactive 0 };
+      backlog = record { count = 0; bytes = bytes 0 };
+      first = 0;
+    }
+
+-- the all-zero record
+abbrev pub zeroState : State
+zeroState = freshState (settingsOf 0 0 0 0 0) 0
+
+-- refusal 1, or a fresh flow
+unfoldable pub flowFresh : Settings → (clock : ℕ) → FlowReply
+flowFresh settings clock =
+    cond (settingsRefused settings clock)
+    (record { answer = refused 1; state = zeroState })
+    (record { answer = made; state = freshState settings clock })
+
+unfoldable pub fresh : (counts : List (List ℕ)) (flow : ℕ) → Settings → (clock : ℕ) → Reply
+fresh counts flow settings clock = forFlow flow zeroState counts (flowFresh settings clock)

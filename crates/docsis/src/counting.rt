@@ -1,0 +1,57 @@
+// The table of counts: sixteen rows of five, by value.
+use crate::Outcome;
+use crate::Replied;
+use crate::Returned;
+use pie::Verdict;
+ghost use mathlib.Core.Path.{_≡_};
+ghost use mathlib.Core.List.{[]};
+ghost use Prim.Native.Nat.{_<_, _≤_};
+ghost use lib.ListN.{set};
+ghost use Rattle.pie.specs.Constants.{mostVerdicts};
+ghost use Rattle.pie.specs.Verdicts.{raised, total};
+ghost use Rattle.queue.specs.Answer.{made, verdict};
+ghost use Rattle.docsis.specs.Counts.{countsAfter, rowOf};
+ghost use Rattle.docsis.specs.Answer.{returnedOf};
+
+// The row of a flow.
+pub(crate) fn row_of(counts: [[u64; 5]; 16], flow: u64) -> [u64; 5]
+    requires { ⌜ flow ≤ 15 ⌝ }
+    ensures { λ r. ⌜ r ≡ rowOf counts flow ⌝ }
+{
+    counts[flow as usize]
+}
+
+// One count of the flow's row rises by one.
+pub(crate) fn raise_in(counts: [[u64; 5]; 16], flow: u64, v: Verdict) -> [[u64; 5]; 16]
+    requires { ⌜ (flow ≤ 15) × (total (rowOf counts flow) < mostVerdicts) ⌝ }
+    ensures { λ r. ⌜ r ≡ countsAfter counts flow (verdict v) ⌝ }
+{
+    let mut next = counts;
+    let row = flow as usize;
+    let at = v.place();
+    next[row][at] = next[row][at] + 1;
+    next
+}
+
+// The flow's row is set to 0.
+pub(crate) fn clear_in(counts: [[u64; 5]; 16], flow: u64) -> [[u64; 5]; 16]
+    requires { ⌜ flow ≤ 15 ⌝ }
+    ensures { λ r. ⌜ r ≡ countsAfter counts flow made ⌝ }
+{
+    let mut next = counts;
+    next[flow as usize] = [0, 0, 0, 0, 0];
+    next
+}
+
+pub(crate) fn returned(replied: Replied, counts: [[u64; 5]; 16]) -> Returned
+    ensures { λ r. ⌜ r ≡ returnedOf replied counts ⌝ }
+{
+    Returned { replied, counts }
+}
+
+// The counts that a call returns.
+pub fn counts_of(r: Returned) -> [[u64; 5]; 16]
+    ensures { λ c. ⌜ c ≡ r .counts ⌝ }
+{
+    r.counts
+}

@@ -1,0 +1,77 @@
+// A tick of one flow.
+use crate::Accepted;
+use crate::Outcome;
+use crate::Refusal;
+use crate::Replied;
+use crate::State;
+use docsis_pie::PERIOD;
+use pie::LATEST;
+use units::Bytes;
+use units::Micros;
+ghost use mathlib.Core.Path.{_≡_};
+ghost use mathlib.Core.Bool.{true};
+ghost use Rattle.docsis.specs.State.{wellFormed};
+ghost use Rattle.docsis.specs.Answer.{HandsOut, flowReply, refusalIn};
+ghost use Rattle.docsis.specs.Tick.{flowTick, tickRefusal, tickedState};
+
+impl State {
+    // Refusals 2, 4 and 5.
+    fn check_tick(self, row: [u64; 5], clock: Micros) -> Accepted
+        ensures { λ r. ⌜ refusalIn r ≡ tickRefusal self row (clock .0) ⌝ }
+    {
+        let formed = self.well_formed(row);
+        if !formed {
+            return Accepted::No(Refusal::Malformed);
+        }
+        let wrong_clock = (clock.0 < self.clock.0) | (LATEST < clock.0);
+        if wrong_clock {
+            return Accepted::No(Refusal::Clock);
+        }
+        let too_soon = clock.0 < self.last.0 + PERIOD;
+        if too_soon {
+            return Accepted::No(Refusal::TooSoon);
+        }
+        Accepted::Yes
+    }
+
+    // The state after a tick.
+    fn ticked(self, row: [u64; 5], clock: Micros, credits: Bytes) -> State
+        requires { ⌜ wellFormed self row ≡ true ⌝ }
+        ensures { λ r. ⌜ r ≡ tickedState self (clock .0) (credits .0) ⌝ }
+    {
+        let settings = self.settings;
+        let before = self.pie;
+        let queued = self.backlog;
+        let pie = before.update(settings.target, queued.bytes, credits, settings.peak, settings.sustained);
+        State {
+            clock,
+            last: clock,
+            pie,
+            ..self
+        }
+    }
+
+    // The periodic update of one flow, with the bytes that it may send at the peak rate.
+    pub fn update(self, row: [u64; 5], clock: Micros, credits: Bytes) -> Replied
+        ensures { λ r. ⌜ (let a = flowTick self row (clock .0) (credits .0) in (flowReply r ≡ a) × HandsOut r (a .answer)) ⌝ }
+    {
+        let checked = self.check_tick(row, clock);
+        match checked {
+            Accepted::No(refusal) => Replied {
+                outcome: Outcome::Refused(refusal),
+                handle: 0,
+                size: 0,
+                state: self,
+            },
+            Accepted::Yes => {
+                let state = self.ticked(row, clock, credits);
+                Replied {
+                    outcome: Outcome::Ticked,
+                    handle: 0,
+                    size: 0,
+                    state,
+                }
+            }
+        }
+    }
+}
