@@ -1,1 +1,4 @@
--- Laws.
+-- What the functions' proofs share, and laws that other crates may cite.
+pub mod Limits
+pub mod Sizes
+pub mod Ranges

@@ -1,41 +1,61 @@
+-- `DocsisPie::draw`: each branch's tests choose its line of the rules.
 use borrow.Author.Needs.{needs}
+use mathlib.Core.Path.{_≡_, refl, sym}
+use mathlib.Core.Bool.{Bool, true, false, cond, _||_, false≢true}
+use Rattle.pie.specs.declared.Verdict.{Verdict}
+use Rattle.pie.specs.declared.Verdict.the-variants.{DroppedEarly, Enqueued}
+use Rattle.docsis_pie.specs.DropDecision.{drawn, drawnWith}
 use Rattle.docsis_pie.proofs.DocsisPie.draw.Statement.{statement}
 use Rattle.docsis_pie.proofs.DocsisPie.draw.Tie as tie
-use Rattle.docsis_pie.proofs.DocsisPie.draw.Reads as reads
-use Rattle.docsis_pie.proofs.DocsisPie.draw.Lts as lts
-use Rattle.docsis_pie.proofs.DocsisPie.drop_early.Reads as drop-early-reads
 
--- src/decision.rt:116:31
+-- rules 12 and 13, joined
+either-drops : (a b : Bool) (v w : Verdict) → a || b ≡ true → cond a v (cond b v w) ≡ v
+either-drops true b v w e = refl
+either-drops false true v w e = refl
+either-drops false false v w e = absurd (false≢true e)
+
+neither-drops : (a b : Bool) (v w : Verdict) → a || b ≡ false → cond a v (cond b v w) ≡ w
+neither-drops true b v w e = absurd (false≢true (sym e))
+neither-drops false true v w e = absurd (false≢true (sym e))
+neither-drops false false v w e = refl
+
 mul-lightly-loaded : tie.Need-mul-lightly-loaded
 mul-lightly-loaded c = search needs
 
--- src/decision.rt:116:61
 mul-lightly-loaded-2 : tie.Need-mul-lightly-loaded-2
 mul-lightly-loaded-2 c = search needs
 
--- src/decision.rt:118:13
 returns : tie.Need-returns
-returns c = ?
+unfolding drawnWith drawn
+returns c = rw (c .if1 .taken)
 
--- src/decision.rt:122:13
 returns-2 : tie.Need-returns-2
-returns-2 c = ?
+unfolding drawnWith drawn
+returns-2 c = rw (c .before .before .if1 .left, c .if2 .taken)
 
--- src/decision.rt:126:13
 returns-3 : tie.Need-returns-3
-returns-3 c = ?
+unfolding drawnWith drawn
+returns-3 c =
+    let e2 = c .before .before in
+    rw (e2 .before .before .if1 .left, e2 .if2 .left, c .if3 .taken)
 
--- src/decision.rt:130:17
 drop-early-requires : tie.Need-drop-early-requires
 drop-early-requires c κs = search needs
 
--- src/decision.rt:131:13
 returns-4 : tie.Need-returns-4
-returns-4 c = ?
+unfolding drawnWith drawn
+returns-4 c =
+    let e4 = c .before in
+    let e3 = e4 .before .before .before in
+    let e2 = e3 .before .before in
+    rw (e2 .before .before .if1 .left, e2 .if2 .left, e3 .if3 .left, either-drops _ _ DroppedEarly Enqueued (e4 .if4 .taken), c .drop-early .ensures)
 
--- src/decision.rt:108:5
 returns-5 : tie.Need-returns-5
-returns-5 c = ?
+unfolding drawnWith drawn
+returns-5 c =
+    let e3 = c .before .before .before in
+    let e2 = e3 .before .before in
+    rw (e2 .before .before .if1 .left, e2 .if2 .left, e3 .if3 .left, neither-drops _ _ DroppedEarly Enqueued (c .if4 .left))
 
 pub draw-spec : {M : Type 1} → statement M
 draw-spec =

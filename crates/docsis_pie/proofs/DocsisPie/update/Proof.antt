@@ -1,37 +1,43 @@
+-- `DocsisPie::update`: a delay is in range, and the result holds what each call gives.
 use borrow.Author.Needs.{needs}
+use Prim.Native.Nat.{_≤_}
+use Rattle.pie.specs.Constants.{longest}
+use Rattle.docsis_pie.specs.Update.{updated}
+use Rattle.docsis_pie.proofs.Ranges.{delay-le}
 use Rattle.docsis_pie.proofs.DocsisPie.update.Statement.{statement}
 use Rattle.docsis_pie.proofs.DocsisPie.update.Tie as tie
-use Rattle.docsis_pie.proofs.DocsisPie.update.Reads as reads
-use Rattle.docsis_pie.proofs.DocsisPie.update.Lts as lts
-use Rattle.docsis_pie.proofs.Phase.after.Reads as after-reads
-use Rattle.docsis_pie.proofs.delay.delay.Reads as delay-reads
-use Rattle.docsis_pie.proofs.probability.next_prob.Reads as next-prob-reads
-use Rattle.docsis_pie.proofs.update.next_allowance.Reads as next-allowance-reads
-use Rattle.docsis_pie.proofs.update.quiet.Reads as quiet-reads
 
--- src/update.rt:90:13
+now-le : (c : tie.After-delay) → c .delay .result .0 ≤ longest
+now-le c = rw (c .delay .ensures) (delay-le _ _ _ _)
+
 delay-requires : tie.Need-delay-requires
 delay-requires c κs = search needs
 
--- src/update.rt:91:13
 next-prob-requires : tie.Need-next-prob-requires
-next-prob-requires c κs = ?
+next-prob-requires c κs = let h = now-le c in search needs
 
--- src/update.rt:92:13
 next-allowance-requires : tie.Need-next-allowance-requires
 next-allowance-requires c κs = search needs
 
--- src/update.rt:94:34
 quiet-requires : tie.Need-quiet-requires
-quiet-requires c κs = ?
+quiet-requires c κs = let h = now-le (c .before .before .before) in search needs
 
--- src/update.rt:94:13
 after-requires : tie.Need-after-requires
 after-requires c κs = search needs
 
--- src/update.rt:84:5
 returns : tie.Need-returns
-returns c = ?
+unfolding updated
+returns c =
+    let a = c .before in
+    let q = a .before in
+    let n = q .before .before in
+    simp (
+      a .after .ensures,
+      q .quiet .ensures,
+      n .«next-allowance» .ensures,
+      n .before .«next-prob» .ensures,
+      n .before .before .delay .ensures,
+    )
 
 pub update-spec : {M : Type 1} → statement M
 update-spec =

@@ -1,41 +1,43 @@
+-- `Phase::after`: each branch's tests choose its case.
 use borrow.Author.Needs.{needs}
+use Rattle.docsis_pie.specs.Update.{phaseAfter}
 use Rattle.docsis_pie.proofs.Phase.after.Statement.{statement}
 use Rattle.docsis_pie.proofs.Phase.after.Tie as tie
-use Rattle.docsis_pie.proofs.Phase.after.Reads as reads
-use Rattle.docsis_pie.proofs.Phase.after.Lts as lts
-use Rattle.docsis_pie.proofs.update.wait.Reads as wait-reads
 
--- src/update.rt:64:17
 returns : tie.Need-returns
-returns c = ?
+unfolding phaseAfter
+returns c = simp (c .before .if1 .taken, c .if2 .taken)
 
--- src/update.rt:69:13
 returns-2 : tie.Need-returns-2
-returns-2 c = ?
+unfolding phaseAfter
+returns-2 c = simp (c .before .if1 .taken, c .if2 .left)
 
--- src/update.rt:74:29
 add-wait : tie.Need-add-wait
 add-wait c = search needs
 
--- src/update.rt:74:17
 wait-requires : tie.Need-wait-requires
 wait-requires c κs = search needs
 
--- src/update.rt:74:17
 returns-3 : tie.Need-returns-3
-returns-3 c = ?
+unfolding phaseAfter
+returns-3 c =
+    let e4 = c .before .before in
+    let e3 = e4 .before in
+    simp (e3 .before .before .before .if1 .left, e3 .if3 .taken, e4 .if4 .taken, c .wait .ensures)
 
--- src/update.rt:76:13
 wait-requires-2 : tie.Need-wait-requires-2
 wait-requires-2 c κs = search needs
 
--- src/update.rt:76:13
 returns-4 : tie.Need-returns-4
-returns-4 c = ?
+unfolding phaseAfter
+returns-4 c =
+    let e4 = c .before in
+    let e3 = e4 .before in
+    simp (e3 .before .before .before .if1 .left, e3 .if3 .taken, e4 .if4 .left, c .wait2 .ensures)
 
--- src/update.rt:57:5
 returns-5 : tie.Need-returns-5
-returns-5 c = ?
+unfolding phaseAfter
+returns-5 c = simp (c .before .before .before .if1 .left, c .if3 .left)
 
 pub after-spec : {M : Type 1} → statement M
 after-spec =

@@ -1,19 +1,25 @@
+-- `decision::scaled`: the product fits, and the test's order gives the least.
+use mathlib.Core.Path.{ap}
+use native.Mathlib.Nat.{mul-le-mul, lt-of-le-of-lt}
+use native.Mathlib.Omega.{arith}
+use lib.Dec.{lit<}
+use Rattle.units.specs.Kinds.{prob}
+use Rattle.docsis_pie.specs.DropDecision.{scaledOf}
 use Rattle.docsis_pie.proofs.decision.scaled.Statement.{statement}
 use Rattle.docsis_pie.proofs.decision.scaled.Tie as tie
-use Rattle.docsis_pie.proofs.decision.scaled.Reads as reads
-use Rattle.docsis_pie.proofs.decision.scaled.Lts as lts
 
--- src/decision.rt:27:13
 mul-n : tie.Need-mul-n
-mul-n c = ?
+mul-n c =
+    let h = c .before .before .pre in
+    record { fits = lt-of-le-of-lt (mul-le-mul (h .0) (h .1)) (lit< tt) }
 
--- src/decision.rt:29:9
 returns : tie.Need-returns
-returns c = ?
+unfolding scaledOf
+returns c = ap prob (omega arith)
 
--- src/decision.rt:23:1
 returns-2 : tie.Need-returns-2
-returns-2 c = ?
+unfolding scaledOf
+returns-2 c = ap prob (omega arith)
 
 pub scaled-spec : {M : Type 1} → statement M
 scaled-spec = tie.close (tie.spec mul-n returns returns-2)

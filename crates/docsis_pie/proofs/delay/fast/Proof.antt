@@ -1,15 +1,15 @@
+-- `delay::fast`: the test's order gives the smaller one.
+use mathlib.Core.Path.{ap}
+use native.Mathlib.Omega.{arith}
+use Rattle.units.specs.Kinds.{bytes}
 use Rattle.docsis_pie.proofs.delay.fast.Statement.{statement}
 use Rattle.docsis_pie.proofs.delay.fast.Tie as tie
-use Rattle.docsis_pie.proofs.delay.fast.Reads as reads
-use Rattle.docsis_pie.proofs.delay.fast.Lts as lts
 
--- src/delay.rt:16:9
 returns : tie.Need-returns
-returns c = ?
+returns c = ap bytes (omega arith)
 
--- src/delay.rt:12:1
 returns-2 : tie.Need-returns-2
-returns-2 c = ?
+returns-2 c = ap bytes (omega arith)
 
 pub fast-spec : {M : Type 1} → statement M
 fast-spec = tie.close (tie.spec returns returns-2)

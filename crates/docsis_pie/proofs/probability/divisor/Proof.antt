@@ -1,43 +1,45 @@
+-- `probability::divisor`: each arm's range is a row of the table.
+use native.Mathlib.Omega.{arith}
+use Rattle.pie.proofs.Rows.{in-row}
+use Rattle.docsis_pie.specs.Probability.{divisorOf, table}
 use Rattle.docsis_pie.proofs.probability.divisor.Statement.{statement}
 use Rattle.docsis_pie.proofs.probability.divisor.Tie as tie
-use Rattle.docsis_pie.proofs.probability.divisor.Reads as reads
-use Rattle.docsis_pie.proofs.probability.divisor.Lts as lts
 
--- src/probability.rt:18:1
 returns : tie.Need-returns
-returns c = ?
+unfolding divisorOf
+returns c = in-row table 0 _ (omega arith)
 
--- src/probability.rt:18:1
 returns-2 : tie.Need-returns-2
-returns-2 c = ?
+unfolding divisorOf
+returns-2 c = in-row table 1 _ (omega arith)
 
--- src/probability.rt:18:1
 returns-3 : tie.Need-returns-3
-returns-3 c = ?
+unfolding divisorOf
+returns-3 c = in-row table 2 _ (omega arith)
 
--- src/probability.rt:18:1
 returns-4 : tie.Need-returns-4
-returns-4 c = ?
+unfolding divisorOf
+returns-4 c = in-row table 3 _ (omega arith)
 
--- src/probability.rt:18:1
 returns-5 : tie.Need-returns-5
-returns-5 c = ?
+unfolding divisorOf
+returns-5 c = in-row table 4 _ (omega arith)
 
--- src/probability.rt:18:1
 returns-6 : tie.Need-returns-6
-returns-6 c = ?
+unfolding divisorOf
+returns-6 c = in-row table 5 _ (omega arith)
 
--- src/probability.rt:18:1
 returns-7 : tie.Need-returns-7
-returns-7 c = ?
+unfolding divisorOf
+returns-7 c = in-row table 6 _ (omega arith)
 
--- src/probability.rt:18:1
 returns-8 : tie.Need-returns-8
-returns-8 c = ?
+unfolding divisorOf
+returns-8 c = in-row table 7 _ (omega arith)
 
--- src/probability.rt:18:1
 returns-9 : tie.Need-returns-9
-returns-9 c = ?
+unfolding divisorOf
+returns-9 c = in-row table 8 _ (omega arith)
 
 pub divisor-spec : {M : Type 1} → statement M
 divisor-spec =

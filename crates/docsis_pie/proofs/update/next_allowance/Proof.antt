@@ -1,14 +1,14 @@
+-- `update::next_allowance`: a difference of natural numbers is not below 0.
 use borrow.Author.Needs.{needs}
+use mathlib.Core.Path.{ap}
+use native.Mathlib.Omega.{arith}
+use Rattle.units.specs.Kinds.{micros}
 use Rattle.docsis_pie.proofs.update.next_allowance.Statement.{statement}
 use Rattle.docsis_pie.proofs.update.next_allowance.Tie as tie
-use Rattle.docsis_pie.proofs.update.next_allowance.Reads as reads
-use Rattle.docsis_pie.proofs.update.next_allowance.Lts as lts
 
--- src/update.rt:25:9
 returns : tie.Need-returns
-returns c = ?
+returns c = ap micros (omega arith)
 
--- src/update.rt:21:1
 returns-2 : tie.Need-returns-2
 returns-2 c = search needs
 
