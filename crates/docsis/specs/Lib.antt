@@ -1,9 +1,4 @@
--- The cable modem's queues (docs/DOCSIS-PIE.md): a flow's state, its refusals and its four calls, and the table of sixteen rows of counts.
-pub mod State
-pub mod Answer
+-- The sixteen service flows of a cable modem (docs/DOCSIS-PIE.md): the table of verdict counts, refusal 10, and the four calls.
 pub mod Counts
-pub mod Refusals
-pub mod Fresh
-pub mod Arrival
-pub mod Departure
-pub mod Tick
+pub mod Answer
+pub mod Calls

@@ -80,7 +80,14 @@ impl State {
     }
 
     // The head of a flow leaves. The tables are only read.
-    pub fn departure(self, counts: [[u64; 5]; 16], flow: u64, handles: &[u32], sizes: &[u32], clock: Micros) -> Returned
+    pub fn departure(
+        self,
+        counts: [[u64; 5]; 16],
+        flow: u64,
+        handles: &[u32],
+        sizes: &[u32],
+        clock: Micros,
+    ) -> Returned
         ensures { λ r. ⌜ (let a = departure self counts flow (now (handles .entry)) (now (sizes .entry)) (clock .0) in
             (replyOf r ≡ a) × HandsOut (r .replied) (a .answer)) ⌝ }
     {
@@ -88,7 +95,10 @@ impl State {
         if unknown {
             return self.no_flow(counts);
         }
-        returned(self.depart(row_of(counts, flow), handles, sizes, clock), counts)
+        returned(
+            self.depart(row_of(counts, flow), handles, sizes, clock),
+            counts,
+        )
     }
 
     // The periodic update of a flow.

@@ -14,6 +14,7 @@ pub const RESET_TIMEOUT: u64 = 1_000_000;
 
 // Below the low delay the probability decays, above the high one it ramps up, in microseconds.
 pub const LOW_DELAY: u64 = 5_000;
+
 pub const HIGH_DELAY: u64 = 200_000;
 
 // The mean packet, in bytes.

@@ -18,7 +18,12 @@ fn fast(queued: Bytes, credits: Bytes) -> Bytes
     credits
 }
 
-pub fn delay(queued: Bytes, credits: Bytes, peak: BytesPerSecond, sustained: BytesPerSecond) -> Micros
+pub fn delay(
+    queued: Bytes,
+    credits: Bytes,
+    peak: BytesPerSecond,
+    sustained: BytesPerSecond,
+) -> Micros
     requires { ⌜ (queued .0 ≤ 2 ^ 24) × (1 ≤ peak .0) × (1 ≤ sustained .0) ⌝ }
     ensures { λ r. ⌜ r ≡ micros (delayOf (queued .0) (credits .0) (peak .0) (sustained .0)) ⌝ }
 {

@@ -14,7 +14,9 @@ pub struct Activity(pub u64);
 
 impl Activity {
     pub const INACTIVE: Activity = Activity(0);
+
     pub const QUIESCENT: Activity = Activity(1);
+
     pub const ACTIVE: Activity = Activity(2);
 }
 

@@ -81,7 +81,14 @@ impl Phase {
 
 impl DocsisPie {
     // A tick with so many bytes queued, and so many credits.
-    pub fn update(self, target: Micros, bytes: Bytes, credits: Bytes, peak: BytesPerSecond, sustained: BytesPerSecond) -> DocsisPie
+    pub fn update(
+        self,
+        target: Micros,
+        bytes: Bytes,
+        credits: Bytes,
+        peak: BytesPerSecond,
+        sustained: BytesPerSecond,
+    ) -> DocsisPie
         requires { ⌜ (self .prob .0 ≤ mostProb) × (self .old .0 ≤ longest) × (self .phase .reset .0 ≤ resetTimeout) ⌝ }
         requires { ⌜ (target .0 ≤ 100000) × (bytes .0 ≤ 2 ^ 24) × (1 ≤ peak .0) × (1 ≤ sustained .0) ⌝ }
         ensures { λ r. ⌜ r ≡ updated self (target .0) (bytes .0) (credits .0) (peak .0) (sustained .0) ⌝ }

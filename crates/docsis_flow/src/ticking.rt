@@ -1,4 +1,4 @@
-// A tick of one flow.
+// A tick.
 use crate::Accepted;
 use crate::Outcome;
 use crate::Refusal;
@@ -10,9 +10,9 @@ use units::Bytes;
 use units::Micros;
 ghost use mathlib.Core.Path.{_≡_};
 ghost use mathlib.Core.Bool.{true};
-ghost use Rattle.docsis.specs.State.{wellFormed};
-ghost use Rattle.docsis.specs.Answer.{HandsOut, flowReply, refusalIn};
-ghost use Rattle.docsis.specs.Tick.{flowTick, tickRefusal, tickedState};
+ghost use Rattle.docsis_flow.specs.State.{formed};
+ghost use Rattle.docsis_flow.specs.Answer.{HandsOut, replyIn, refusalIn};
+ghost use Rattle.docsis_flow.specs.Tick.{tick, tickRefusal, tickedState};
 
 impl State {
     // Refusals 2, 4 and 5.
@@ -35,14 +35,20 @@ impl State {
     }
 
     // The state after a tick.
-    fn ticked(self, row: [u64; 5], clock: Micros, credits: Bytes) -> State
-        requires { ⌜ wellFormed self row ≡ true ⌝ }
+    fn ticked(self, clock: Micros, credits: Bytes) -> State
+        requires { ⌜ formed self ≡ true ⌝ }
         ensures { λ r. ⌜ r ≡ tickedState self (clock .0) (credits .0) ⌝ }
     {
         let settings = self.settings;
         let before = self.pie;
         let queued = self.backlog;
-        let pie = before.update(settings.target, queued.bytes, credits, settings.peak, settings.sustained);
+        let pie = before.update(
+            settings.target,
+            queued.bytes,
+            credits,
+            settings.peak,
+            settings.sustained,
+        );
         State {
             clock,
             last: clock,
@@ -51,9 +57,9 @@ impl State {
         }
     }
 
-    // The periodic update of one flow, with the bytes that it may send at the peak rate.
-    pub fn update(self, row: [u64; 5], clock: Micros, credits: Bytes) -> Replied
-        ensures { λ r. ⌜ (let a = flowTick self row (clock .0) (credits .0) in (flowReply r ≡ a) × HandsOut r (a .answer)) ⌝ }
+    // The periodic update, with the credits for bytes that leave at the peak rate.
+    pub fn tick(self, row: [u64; 5], clock: Micros, credits: Bytes) -> Replied
+        ensures { λ r. ⌜ (let a = tick self row (clock .0) (credits .0) in (replyIn r ≡ a) × HandsOut r (a .answer)) ⌝ }
     {
         let checked = self.check_tick(row, clock);
         match checked {
@@ -64,7 +70,7 @@ impl State {
                 state: self,
             },
             Accepted::Yes => {
-                let state = self.ticked(row, clock, credits);
+                let state = self.ticked(clock, credits);
                 Replied {
                     outcome: Outcome::Ticked,
                     handle: 0,

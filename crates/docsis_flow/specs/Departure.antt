@@ -7,16 +7,14 @@ use Rattle.units.specs.Kinds.{micros}
 use Rattle.pie.specs.Backlog.{left}
 use Rattle.queue.specs.Answer.{departed}
 use Rattle.queue.specs.Refusals.{firstRefusal, headRefused}
-use Rattle.docsis.specs.Answer.{FlowReply, Reply, unlessRefused}
-use Rattle.docsis.specs.Counts.{rowOf}
-use Rattle.docsis.specs.Refusals.{clockRefused, emptyRefused, forFlow, stateRefused, tablesRefused}
-use Rattle.docsis.specs.declared.State.{State}
+use Rattle.docsis_flow.specs.Answer.{Reply, unlessRefused}
+use Rattle.docsis_flow.specs.Refusals.{clockRefused, emptyRefused, stateRefused, tablesRefused}
+use Rattle.docsis_flow.specs.declared.State.{State}
 
 -- the head's entry in a table
 abbrev pub headOf : State → (table : List ℕ) → ℕ
 headOf s table = getD table (s .first) 0
 
--- with the row of the flow
 abbrev pub departureRefusals : State → (row : List ℕ) (handlesLength sizesLength clock headSize : ℕ) → List (ℕ × Bool)
 departureRefusals s row handlesLength sizesLength clock headSize =
     (2, stateRefused s row)
@@ -42,10 +40,7 @@ departedState s clock size =
       first = (s .first + 1) % s .settings .slots;
     }
 
-unfoldable pub flowDeparture : State → (row handles sizes : List ℕ) (clock : ℕ) → FlowReply
-flowDeparture s row handles sizes clock =
+unfoldable pub departure : State → (row handles sizes : List ℕ) (clock : ℕ) → Reply
+departure s row handles sizes clock =
     unlessRefused (departureRefusal s row (length handles) (length sizes) clock (headOf s sizes)) s
     (record { answer = departed (headOf s handles) (headOf s sizes); state = departedState s clock (headOf s sizes) })
-
-unfoldable pub departure : State → (counts : List (List ℕ)) (flow : ℕ) (handles sizes : List ℕ) (clock : ℕ) → Reply
-departure s counts flow handles sizes clock = forFlow flow s counts (flowDeparture s (rowOf counts flow) handles sizes clock)

@@ -2,7 +2,7 @@
 use crate::Refusal;
 ghost use mathlib.Core.Path.{_≡_};
 ghost use Prim.Native.Nat.{_≤_};
-ghost use Rattle.docsis.specs.Answer.{numberOf};
+ghost use Rattle.docsis_flow.specs.Answer.{numberOf};
 
 impl Refusal {
     pub fn number(self) -> u32

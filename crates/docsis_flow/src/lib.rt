@@ -1,4 +1,4 @@
-// The queues of a cable modem's sixteen service flows: each over two lent tables, as a ring, shedding load by DOCSIS-PIE.
+// One service flow of a cable modem: packet records over two lent tables, as a ring, shedding load by DOCSIS-PIE.
 use docsis_pie::DocsisPie;
 use pie::Backlog;
 use pie::Verdict;
@@ -7,8 +7,6 @@ use units::BytesPerSecond;
 use units::Micros;
 
 mod arriving;
-mod calls;
-mod counting;
 mod departing;
 mod fresh;
 mod refusing;
@@ -23,7 +21,7 @@ pub struct Settings {
     pub sustained: BytesPerSecond,
 }
 
-// The state of one flow. Its verdict counts are a row of a table that goes over and back with each call.
+// Its verdict counts are not in it: a call is given the flow's row of them.
 pub struct State {
     pub settings: Settings,
     pub clock: Micros,
@@ -35,7 +33,7 @@ pub struct State {
     pub first: u64,
 }
 
-// One case for each refusal number, in order, from 1.
+// One case for each refusal number, in order, from 1. `Flow` is given before a flow is called, by the crate `docsis`.
 pub enum Refusal {
     Settings,
     Malformed,
@@ -63,18 +61,10 @@ pub enum Outcome {
     Ticked,
 }
 
-// What a call on one flow returns; handle and size are those of the packet that left, or 0 and 0.
+// What a call returns; handle and size are those of the packet that left, or 0 and 0.
 pub struct Replied {
     pub outcome: Outcome,
     pub handle: u32,
     pub size: u32,
     pub state: State,
 }
-
-// What a call returns, with the counts of all sixteen flows.
-pub struct Returned {
-    pub replied: Replied,
-    pub counts: [[u64; 5]; 16],
-}
-
-pub use counting::counts_of;

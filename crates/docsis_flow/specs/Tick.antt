@@ -6,12 +6,10 @@ use Rattle.units.specs.Kinds.{micros}
 use Rattle.queue.specs.Answer.{ticked}
 use Rattle.queue.specs.Refusals.{firstRefusal}
 use Rattle.docsis_pie.specs.Update.{updated}
-use Rattle.docsis.specs.Answer.{FlowReply, Reply, unlessRefused}
-use Rattle.docsis.specs.Counts.{rowOf}
-use Rattle.docsis.specs.Refusals.{clockRefused, forFlow, stateRefused, tooSoonRefused}
-use Rattle.docsis.specs.declared.State.{State}
+use Rattle.docsis_flow.specs.Answer.{Reply, unlessRefused}
+use Rattle.docsis_flow.specs.Refusals.{clockRefused, stateRefused, tooSoonRefused}
+use Rattle.docsis_flow.specs.declared.State.{State}
 
--- with the row of the flow
 abbrev pub tickRefusals : State → (row : List ℕ) (clock : ℕ) → List (ℕ × Bool)
 tickRefusals s row clock =
     (2, stateRefused s row)
@@ -35,9 +33,6 @@ tickedState s clock credits =
       first = s .first;
     }
 
-unfoldable pub flowTick : State → (row : List ℕ) (clock credits : ℕ) → FlowReply
-flowTick s row clock credits =
+unfoldable pub tick : State → (row : List ℕ) (clock credits : ℕ) → Reply
+tick s row clock credits =
     unlessRefused (tickRefusal s row clock) s (record { answer = ticked; state = tickedState s clock credits })
-
-unfoldable pub tick : State → (counts : List (List ℕ)) (flow clock credits : ℕ) → Reply
-tick s counts flow clock credits = forFlow flow s counts (flowTick s (rowOf counts flow) clock credits)

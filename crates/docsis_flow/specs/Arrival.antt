@@ -13,12 +13,10 @@ use Rattle.queue.specs.Answer.{Answer, admits, verdict}
 use Rattle.queue.specs.Refusals.{firstRefusal, sizeRefused}
 use Rattle.docsis_pie.specs.DropDecision.{decided, withAccumulated}
 use Rattle.docsis_pie.specs.declared.Decided.{Decided}
-use Rattle.docsis.specs.Answer.{FlowReply, Reply, unlessRefused}
-use Rattle.docsis.specs.Counts.{rowOf}
-use Rattle.docsis.specs.Refusals.{clockRefused, countsRefused, forFlow, stateRefused, tablesRefused}
-use Rattle.docsis.specs.declared.State.{State}
+use Rattle.docsis_flow.specs.Answer.{Reply, unlessRefused}
+use Rattle.docsis_flow.specs.Refusals.{clockRefused, countsRefused, stateRefused, tablesRefused}
+use Rattle.docsis_flow.specs.declared.State.{State}
 
--- with the row of the flow
 abbrev pub arrivalRefusals : State → (row : List ℕ) (handlesLength sizesLength clock size : ℕ) → List (ℕ × Bool)
 arrivalRefusals s row handlesLength sizesLength clock size =
     (2, stateRefused s row)
@@ -62,15 +60,11 @@ arrivedState s clock size d =
       first = s .first;
     }
 
-unfoldable pub flowArrival : State → (row handles sizes : List ℕ) (clock size u : ℕ) → FlowReply
-flowArrival s row handles sizes clock size u =
+unfoldable pub arrival : State → (row handles sizes : List ℕ) (clock size u : ℕ) → Reply
+arrival s row handles sizes clock size u =
     let d = decisionOf s size u in
     unlessRefused (arrivalRefusal s row (length handles) (length sizes) clock size) s
     (record { answer = verdict (d .verdict); state = arrivedState s clock size d })
-
-unfoldable pub arrival : State → (counts : List (List ℕ)) (flow : ℕ) (handles sizes : List ℕ) (clock size u : ℕ) → Reply
-arrival s counts flow handles sizes clock size u =
-    forFlow flow s counts (flowArrival s (rowOf counts flow) handles sizes clock size u)
 
 -- the place of the tail: the packet at place i stands at (first + i) modulo slots
 abbrev pub tailPlace : State → ℕ

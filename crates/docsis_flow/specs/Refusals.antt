@@ -1,22 +1,15 @@
--- The refusals (docs/DOCSIS-PIE.md, part 3): the test of each number. 6, 7 and 9 are tested as the ring's.
-use mathlib.Core.Bool.{Bool, cond, not, _&&_, _||_}
+-- The refusals (docs/DOCSIS-PIE.md, part 3): the test of each number but 10; those of 7 and 9 are the ring's.
+use mathlib.Core.Bool.{Bool, not, _&&_, _||_}
 use mathlib.Core.List.{List}
 use Prim.Native.Nat.{ℕ, _+_}
 use lib.Dec.{ltb, leb, eqb}
 use Rattle.pie.specs.Constants.{latest, mostVerdicts}
 use Rattle.pie.specs.Verdicts.{total}
-use Rattle.queue.specs.Answer.{refused}
 use Rattle.queue.specs.State.{all}
 use Rattle.docsis_pie.specs.Constants.{period}
-use Rattle.docsis.specs.Answer.{FlowReply, Reply}
-use Rattle.docsis.specs.Counts.{countsAfter}
-use Rattle.docsis.specs.State.{settingsConditions, wellFormed}
-use Rattle.docsis.specs.declared.Settings.{Settings}
-use Rattle.docsis.specs.declared.State.{State}
-
--- 10: the flow is above 15
-abbrev pub flowRefused : (flow : ℕ) → Bool
-flowRefused flow = ltb 15 flow
+use Rattle.docsis_flow.specs.State.{settingsConditions, wellFormed}
+use Rattle.docsis_flow.specs.declared.Settings.{Settings}
+use Rattle.docsis_flow.specs.declared.State.{State}
 
 -- 1: target, buffer, slots, peak or sustained out of range, or start clock above 2^48
 abbrev pub settingsRefused : Settings → (clock : ℕ) → Bool
@@ -45,9 +38,3 @@ emptyRefused s = eqb (s .backlog .count) 0
 -- 8: the five counts of the row sum to 2^48
 abbrev pub countsRefused : (row : List ℕ) → Bool
 countsRefused row = eqb (total row) mostVerdicts
-
--- 10 is ahead of the others: state and counts come back as they were given; any other call gives what its flow gives
-unfoldable pub forFlow : (flow : ℕ) → State → (counts : List (List ℕ)) → FlowReply → Reply
-forFlow flow given counts r =
-    cond (flowRefused flow) (record { answer = refused 10; state = given; counts = counts })
-    (record { answer = r .answer; state = r .state; counts = countsAfter counts flow (r .answer) })

@@ -1,4 +1,4 @@
-// An arrival at one flow.
+// An arrival.
 use crate::Accepted;
 use crate::Outcome;
 use crate::Refusal;
@@ -20,13 +20,20 @@ ghost use Prim.Native.Nat.{_≤_};
 ghost use lib.ListN.{length, set};
 ghost use Rattle.pie.specs.Constants.{largest};
 ghost use Rattle.pie.specs.Verdicts.{admitted};
-ghost use Rattle.docsis.specs.State.{wellFormed};
-ghost use Rattle.docsis.specs.Answer.{HandsOut, flowReply, refusalIn};
-ghost use Rattle.docsis.specs.Arrival.{arrivalRefusal, arrivedState, decisionOf, flowArrival, stored, tailPlace};
+ghost use Rattle.docsis_flow.specs.State.{formed};
+ghost use Rattle.docsis_flow.specs.Answer.{HandsOut, replyIn, refusalIn};
+ghost use Rattle.docsis_flow.specs.Arrival.{arrivalRefusal, arrivedState, decisionOf, arrival, stored, tailPlace};
 
 impl State {
     // Refusals 2, 3, 4, 7 and 8.
-    fn check_arrival(self, row: [u64; 5], handles: u64, sizes: u64, clock: Micros, size: Bytes) -> Accepted
+    fn check_arrival(
+        self,
+        row: [u64; 5],
+        handles: u64,
+        sizes: u64,
+        clock: Micros,
+        size: Bytes,
+    ) -> Accepted
         ensures { λ r. ⌜ refusalIn r ≡ arrivalRefusal self row handles sizes (clock .0) (size .0) ⌝ }
     {
         let formed = self.well_formed(row);
@@ -54,8 +61,8 @@ impl State {
     }
 
     // Rules 1 to 15.
-    fn decide(self, row: [u64; 5], size: Bytes, u: u32) -> Decided
-        requires { ⌜ wellFormed self row ≡ true ⌝ }
+    fn decide(self, size: Bytes, u: u32) -> Decided
+        requires { ⌜ formed self ≡ true ⌝ }
         requires { ⌜ size .0 ≤ largest ⌝ }
         ensures { λ r. ⌜ r ≡ decisionOf self (size .0) u ⌝ }
     {
@@ -88,8 +95,8 @@ impl State {
     }
 
     // The state after an arrival that was so decided.
-    fn arrived(self, row: [u64; 5], clock: Micros, size: Bytes, decided: Decided) -> State
-        requires { ⌜ wellFormed self row ≡ true ⌝ }
+    fn arrived(self, clock: Micros, size: Bytes, decided: Decided) -> State
+        requires { ⌜ formed self ≡ true ⌝ }
         requires { ⌜ size .0 ≤ largest ⌝ }
         ensures { λ r. ⌜ r ≡ arrivedState self (clock .0) (size .0) decided ⌝ }
     {
@@ -110,8 +117,8 @@ impl State {
     }
 
     // An admitted packet is written at the tail of both tables.
-    fn store(self, row: [u64; 5], handles: &mut [u32], sizes: &mut [u32], v: Verdict, handle: u32, size: u32)
-        requires { ⌜ wellFormed self row ≡ true ⌝ }
+    fn store(self, handles: &mut [u32], sizes: &mut [u32], v: Verdict, handle: u32, size: u32)
+        requires { ⌜ formed self ≡ true ⌝ }
         requires { ⌜ (length (now handles) ≡ self .settings .slots) × (length (now sizes) ≡ self .settings .slots) ⌝ }
         ensures { λ _. ⌜ now (handles .exit)
             ≡ cond (admitted v) (set (now (handles .entry)) (tailPlace self) handle) (now (handles .entry)) ⌝ }
@@ -126,8 +133,8 @@ impl State {
         }
     }
 
-    // A packet of `size` bytes arrives at one flow, with its row; `u` is the packet's random number.
-    pub fn arrive(
+    // A packet of `size` bytes arrives; `u` is its random number.
+    pub fn arrival(
         self,
         row: [u64; 5],
         handles: &mut [u32],
@@ -137,13 +144,19 @@ impl State {
         size: Bytes,
         u: u32,
     ) -> Replied
-        ensures { λ r. ⌜ (let a = flowArrival self row (now (handles .entry)) (now (sizes .entry)) (clock .0) (size .0) u in
-            (flowReply r ≡ a) × HandsOut r (a .answer)) ⌝ }
-        ensures { λ _. ⌜ (let a = flowArrival self row (now (handles .entry)) (now (sizes .entry)) (clock .0) (size .0) u in
+        ensures { λ r. ⌜ (let a = arrival self row (now (handles .entry)) (now (sizes .entry)) (clock .0) (size .0) u in
+            (replyIn r ≡ a) × HandsOut r (a .answer)) ⌝ }
+        ensures { λ _. ⌜ (let a = arrival self row (now (handles .entry)) (now (sizes .entry)) (clock .0) (size .0) u in
             (now (handles .exit) ≡ stored self (a .answer) (now (handles .entry)) handle)
             × (now (sizes .exit) ≡ stored self (a .answer) (now (sizes .entry)) (size .0))) ⌝ }
     {
-        let checked = self.check_arrival(row, handles.len() as u64, sizes.len() as u64, clock, size);
+        let checked = self.check_arrival(
+            row,
+            handles.len() as u64,
+            sizes.len() as u64,
+            clock,
+            size,
+        );
         match checked {
             Accepted::No(refusal) => Replied {
                 outcome: Outcome::Refused(refusal),
@@ -152,10 +165,10 @@ impl State {
                 state: self,
             },
             Accepted::Yes => {
-                let decided = self.decide(row, size, u);
+                let decided = self.decide(size, u);
                 let v = decided.verdict;
-                self.store(row, handles, sizes, v, handle, size.0 as u32);
-                let state = self.arrived(row, clock, size, decided);
+                self.store(handles, sizes, v, handle, size.0 as u32);
+                let state = self.arrived(clock, size, decided);
                 Replied {
                     outcome: Outcome::Decided(v),
                     handle: 0,

@@ -8,8 +8,8 @@ use Rattle.pie.specs.Constants.{largest, latest, longest, mostVerdicts}
 use Rattle.pie.specs.Verdicts.{total}
 use Rattle.queue.specs.State.{all}
 use Rattle.docsis_pie.specs.Constants.{active, fullAllowance, high, mostProb, quiescent, resetTimeout}
-use Rattle.docsis.specs.declared.Settings.{Settings}
-use Rattle.docsis.specs.declared.State.{State}
+use Rattle.docsis_flow.specs.declared.Settings.{Settings}
+use Rattle.docsis_flow.specs.declared.State.{State}
 
 -- target, buffer, slots, peak and sustained in range
 abbrev pub settingsConditions : Settings → List Bool
@@ -26,9 +26,9 @@ settingsConditions s =
     ∷ leb (s .sustained .0) fastest
     ∷ []
 
--- all else that is asked of a state and its row
-abbrev pub stateConditions : State → (row : List ℕ) → List Bool
-stateConditions s row =
+-- all else that is asked of a record
+abbrev pub stateConditions : State → List Bool
+stateConditions s =
     leb (s .last .0) (s .clock .0)
     ∷ leb (s .clock .0) latest
     ∷ leb (s .pie .prob .0) mostProb
@@ -46,8 +46,11 @@ stateConditions s row =
     ∷ (eqb (s .pie .allowance .0) 0 || eqb (s .pie .phase .activity .0) active)
     -- the reset time is 0, or the flow is quiescent and p is 0
     ∷ (eqb (s .pie .phase .reset .0) 0 || (eqb (s .pie .phase .activity .0) quiescent && eqb (s .pie .prob .0) none))
-    ∷ leb (total row) mostVerdicts
     ∷ []
 
+unfoldable pub formed : State → Bool
+formed s = all (settingsConditions (s .settings) ++ stateConditions s)
+
+-- and the five counts of the row sum to at most 2^48
 unfoldable pub wellFormed : State → (row : List ℕ) → Bool
-wellFormed s row = all (settingsConditions (s .settings) ++ stateConditions s row)
+wellFormed s row = formed s && leb (total row) mostVerdicts

@@ -14,8 +14,8 @@ use units::BytesPerSecond;
 use units::Micros;
 use units::Prob;
 ghost use mathlib.Core.Path.{_≡_};
-ghost use Rattle.docsis.specs.Answer.{HandsOut, flowReply};
-ghost use Rattle.docsis.specs.Fresh.{flowFresh, freshState, zeroState};
+ghost use Rattle.docsis_flow.specs.Answer.{HandsOut, replyIn};
+ghost use Rattle.docsis_flow.specs.Fresh.{fresh, freshState, zeroState};
 
 // A flow with nothing queued.
 fn empty(settings: Settings, clock: Micros) -> State
@@ -46,25 +46,24 @@ fn empty(settings: Settings, clock: Micros) -> State
     }
 }
 
-// The all-zero record.
-pub(crate) fn zero() -> State
-    ensures { λ r. ⌜ r ≡ zeroState ⌝ }
-{
-    let none = Settings {
-        target: Micros(0),
-        buffer: Bytes(0),
-        slots: 0,
-        peak: BytesPerSecond(0),
-        sustained: BytesPerSecond(0),
-    };
-    empty(none, Micros(0))
-}
-
 impl State {
-    // A fresh call on one flow: its row becomes 0 where it is accepted.
-    pub fn begin(settings: Settings, clock: Micros) -> Replied
-        ensures { λ r. ⌜ flowReply r ≡ flowFresh settings (clock .0) ⌝ }
-        ensures { λ r. ⌜ HandsOut r ((flowFresh settings (clock .0)) .answer) ⌝ }
+    // The all-zero record.
+    pub fn zero() -> State
+        ensures { λ r. ⌜ r ≡ zeroState ⌝ }
+    {
+        let none = Settings {
+            target: Micros(0),
+            buffer: Bytes(0),
+            slots: 0,
+            peak: BytesPerSecond(0),
+            sustained: BytesPerSecond(0),
+        };
+        empty(none, Micros(0))
+    }
+
+    // A fresh flow; its row of the counts becomes 0 with it.
+    pub fn fresh(settings: Settings, clock: Micros) -> Replied
+        ensures { λ r. ⌜ (let a = fresh settings (clock .0) in (replyIn r ≡ a) × HandsOut r (a .answer)) ⌝ }
     {
         let fits = settings.in_range() & (clock.0 <= LATEST);
         if fits {
@@ -79,7 +78,7 @@ impl State {
             outcome: Outcome::Refused(Refusal::Settings),
             handle: 0,
             size: 0,
-            state: zero(),
+            state: State::zero(),
         }
     }
 }

@@ -1,4 +1,4 @@
-// A departure from one flow.
+// A departure.
 use crate::Accepted;
 use crate::Outcome;
 use crate::Refusal;
@@ -13,9 +13,9 @@ ghost use mathlib.Core.Path.{_≡_};
 ghost use mathlib.Core.Bool.{true};
 ghost use Prim.Native.Nat.{_≤_, _<_};
 ghost use lib.ListN.{length};
-ghost use Rattle.docsis.specs.State.{wellFormed};
-ghost use Rattle.docsis.specs.Answer.{HandsOut, flowReply, refusalIn};
-ghost use Rattle.docsis.specs.Departure.{departedState, departureRefusal, flowDeparture, headOf};
+ghost use Rattle.docsis_flow.specs.State.{formed};
+ghost use Rattle.docsis_flow.specs.Answer.{HandsOut, replyIn, refusalIn};
+ghost use Rattle.docsis_flow.specs.Departure.{departedState, departureRefusal, departure, headOf};
 
 impl State {
     // Refusals 2, 3, 4, 6 and 9.
@@ -51,8 +51,8 @@ impl State {
     }
 
     // The state after the head, of this size, has left.
-    fn departed(self, row: [u64; 5], clock: Micros, size: Bytes) -> State
-        requires { ⌜ wellFormed self row ≡ true ⌝ }
+    fn departed(self, clock: Micros, size: Bytes) -> State
+        requires { ⌜ formed self ≡ true ⌝ }
         requires { ⌜ (0 < self .backlog .count) × (size .0 ≤ self .backlog .bytes .0) ⌝ }
         ensures { λ r. ⌜ r ≡ departedState self (clock .0) (size .0) ⌝ }
     {
@@ -67,10 +67,10 @@ impl State {
         }
     }
 
-    // The head of one flow leaves. The tables are only read.
-    pub fn depart(self, row: [u64; 5], handles: &[u32], sizes: &[u32], clock: Micros) -> Replied
-        ensures { λ r. ⌜ (let a = flowDeparture self row (now (handles .entry)) (now (sizes .entry)) (clock .0) in
-            (flowReply r ≡ a) × HandsOut r (a .answer)) ⌝ }
+    // The head leaves. The tables are only read.
+    pub fn departure(self, row: [u64; 5], handles: &[u32], sizes: &[u32], clock: Micros) -> Replied
+        ensures { λ r. ⌜ (let a = departure self row (now (handles .entry)) (now (sizes .entry)) (clock .0) in
+            (replyIn r ≡ a) × HandsOut r (a .answer)) ⌝ }
     {
         let checked = self.check_departure(row, handles.len() as u64, sizes, clock);
         match checked {
@@ -84,7 +84,7 @@ impl State {
                 let at = self.first as usize;
                 let handle = handles[at];
                 let size = sizes[at];
-                let state = self.departed(row, clock, Bytes(size as u64));
+                let state = self.departed(clock, Bytes(size as u64));
                 Replied {
                     outcome: Outcome::Departed,
                     handle,

@@ -6,10 +6,10 @@ use Rattle.units.specs.Kinds.{bytes, micros, none, prob, rate}
 use Rattle.queue.specs.Answer.{made, refused}
 use Rattle.docsis_pie.specs.Constants.{inactive}
 use Rattle.docsis_pie.specs.Update.{phase}
-use Rattle.docsis.specs.Answer.{FlowReply, Reply}
-use Rattle.docsis.specs.Refusals.{forFlow, settingsRefused}
-use Rattle.docsis.specs.declared.Settings.{Settings}
-use Rattle.docsis.specs.declared.State.{State}
+use Rattle.docsis_flow.specs.Answer.{Reply}
+use Rattle.docsis_flow.specs.Refusals.{settingsRefused}
+use Rattle.docsis_flow.specs.declared.Settings.{Settings}
+use Rattle.docsis_flow.specs.declared.State.{State}
 
 abbrev pub settingsOf : (target buffer slots peak sustained : ℕ) → Settings
 settingsOf target buffer slots peak sustained =
@@ -32,11 +32,8 @@ abbrev pub zeroState : State
 zeroState = freshState (settingsOf 0 0 0 0 0) 0
 
 -- refusal 1, or a fresh flow
-unfoldable pub flowFresh : Settings → (clock : ℕ) → FlowReply
-flowFresh settings clock =
+unfoldable pub fresh : Settings → (clock : ℕ) → Reply
+fresh settings clock =
     cond (settingsRefused settings clock)
     (record { answer = refused 1; state = zeroState })
     (record { answer = made; state = freshState settings clock })
-
-unfoldable pub fresh : (counts : List (List ℕ)) (flow : ℕ) → Settings → (clock : ℕ) → Reply
-fresh counts flow settings clock = forFlow flow zeroState counts (flowFresh settings clock)

@@ -14,11 +14,11 @@ use queue::counts_fit;
 use units::BytesPerSecond;
 ghost use mathlib.Core.Path.{_≡_};
 ghost use mathlib.Core.Bool.{_&&_, _||_};
-ghost use lib.Dec.{eqb, leb};
+ghost use lib.Dec.{eqb};
 ghost use Rattle.units.specs.Kinds.{none};
 ghost use Rattle.docsis_pie.specs.Constants.{active, quiescent};
 ghost use Rattle.queue.specs.State.{all};
-ghost use Rattle.docsis.specs.State.{settingsConditions, wellFormed};
+ghost use Rattle.docsis_flow.specs.State.{formed, settingsConditions, wellFormed};
 
 impl Settings {
     pub fn in_range(self) -> bool
@@ -48,13 +48,10 @@ fn phase_fits(pie: DocsisPie) -> bool
 }
 
 impl State {
-    // The product comes after the tests that bound it.
-    pub fn well_formed(self, row: [u64; 5]) -> bool
-        ensures { λ r. ⌜ r ≡ wellFormed self row ⌝ }
+    // All that is asked of the record itself. The product comes after the tests that bound it.
+    fn formed(self) -> bool
+        ensures { λ r. ⌜ r ≡ formed self ⌝ }
     {
-        if !counts_fit(row) {
-            return false;
-        }
         let settings = self.settings;
         let pie = self.pie;
         let backlog = self.backlog;
@@ -78,5 +75,15 @@ impl State {
             return false;
         }
         phase_fits(pie)
+    }
+
+    pub fn well_formed(self, row: [u64; 5]) -> bool
+        ensures { λ r. ⌜ r ≡ wellFormed self row ⌝ }
+    {
+        let counted = counts_fit(row);
+        if counted {
+            return self.formed();
+        }
+        false
     }
 }
