@@ -2,3 +2,6 @@
 pub mod Limits
 pub mod Sizes
 pub mod Ranges
+pub mod Phases
+pub mod NeverEarly
+pub mod Kept

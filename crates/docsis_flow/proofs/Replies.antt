@@ -1,0 +1,93 @@
+-- What a reply's answer tells: a refusal's number is above 0.
+use mathlib.Core.Path.{_≡_, refl}
+use mathlib.Core.Bool.{cond}
+use mathlib.Core.List.{List}
+use Prim.Native.Nat.{ℕ}
+use lib.ListN.{length, set}
+use Rattle.pie.specs.Verdicts.{admitted}
+use Rattle.queue.specs.Answer.{departed, handleIn, refused, sizeIn, ticked, verdict}
+use Rattle.docsis_pie.specs.declared.Decided.{Decided}
+use Rattle.docsis_flow.specs.Answer.{Reply, numberOf, refusalIn, unlessRefused}
+use Rattle.docsis_flow.specs.Arrival.{arrival, arrivalRefusal, arrivedState, decisionOf, stored, tailPlace}
+use Rattle.docsis_flow.specs.Departure.{departedState, departure, departureRefusal, headOf}
+use Rattle.docsis_flow.specs.Tick.{tick, tickRefusal, tickedState}
+use Rattle.docsis_flow.specs.declared.Accepted.{Accepted}
+use Rattle.docsis_flow.specs.declared.Accepted.the-variants.{No, Yes}
+use Rattle.docsis_flow.specs.declared.Refusal.{Refusal}
+use Rattle.docsis_flow.specs.declared.Refusal.the-variants.{Settings, Malformed, Tables, Clock, TooSoon, Empty, Size, Counts, Head, Flow}
+use Rattle.docsis_flow.specs.declared.State.{State}
+
+pub refused-reply : (r : Refusal) (given : State) (accepted : Reply) →
+    unlessRefused (numberOf r) given accepted ≡ record { answer = refused (numberOf r); state = given }
+refused-reply Settings given accepted = refl
+refused-reply Malformed given accepted = refl
+refused-reply Tables given accepted = refl
+refused-reply Clock given accepted = refl
+refused-reply TooSoon given accepted = refl
+refused-reply Empty given accepted = refl
+refused-reply Size given accepted = refl
+refused-reply Counts given accepted = refl
+refused-reply Head given accepted = refl
+refused-reply Flow given accepted = refl
+
+-- a refused arrival: its reply, and the tables as they were
+pub arrival-refused : (s : State) (row handles sizes : List ℕ) (clock handle size u : ℕ) (checked : Accepted) (r : Refusal) →
+    checked ≡ No r →
+    refusalIn checked ≡ arrivalRefusal s row (length handles) (length sizes) clock size →
+    let reply = arrival s row handles sizes clock size u in
+    ((record { answer = refused (numberOf r); state = s } ≡ reply) × ((0 ≡ handleIn (reply .answer)) × (0 ≡ sizeIn (reply .answer))))
+    × ((handles ≡ stored s (reply .answer) handles handle) × (sizes ≡ stored s (reply .answer) sizes size))
+unfolding arrival
+arrival-refused s row handles sizes clock handle size u checked r found e =
+    rw (← e, found, refused-reply) ((refl, (refl, refl)), (refl, refl))
+
+-- an arrival that is not refused, from what its parts return
+pub arrival-decided : (s : State) (row handles sizes : List ℕ) (clock handle size u : ℕ) (checked : Accepted) (d : Decided) (after : State) (handles' sizes' : List ℕ) →
+    checked ≡ Yes →
+    refusalIn checked ≡ arrivalRefusal s row (length handles) (length sizes) clock size →
+    d ≡ decisionOf s size u →
+    after ≡ arrivedState s clock size d →
+    (handles' ≡ cond (admitted (d .verdict)) (set handles (tailPlace s) handle) handles) × (sizes' ≡ cond (admitted (d .verdict)) (set sizes (tailPlace s) size) sizes) →
+    let reply = arrival s row handles sizes clock size u in
+    ((record { answer = verdict (d .verdict); state = after } ≡ reply) × ((0 ≡ handleIn (reply .answer)) × (0 ≡ sizeIn (reply .answer))))
+    × ((handles' ≡ stored s (reply .answer) handles handle) × (sizes' ≡ stored s (reply .answer) sizes size))
+unfolding arrival
+arrival-decided s row handles sizes clock handle size u checked d after handles' sizes' found e ed ea et =
+    rw (← e, found, ea, ← ed) ((refl, (refl, refl)), et)
+
+-- a refused departure, and one that is not refused
+pub departure-refused : (s : State) (row handles sizes : List ℕ) (clock : ℕ) (checked : Accepted) (r : Refusal) →
+    checked ≡ No r →
+    refusalIn checked ≡ departureRefusal s row (length handles) (length sizes) clock (headOf s sizes) →
+    let reply = departure s row handles sizes clock in
+    (record { answer = refused (numberOf r); state = s } ≡ reply) × ((0 ≡ handleIn (reply .answer)) × (0 ≡ sizeIn (reply .answer)))
+unfolding departure
+departure-refused s row handles sizes clock checked r found e = rw (← e, found, refused-reply) (refl, (refl, refl))
+
+pub departure-taken : (s : State) (row handles sizes : List ℕ) (clock : ℕ) (checked : Accepted) (after : State) →
+    checked ≡ Yes →
+    refusalIn checked ≡ departureRefusal s row (length handles) (length sizes) clock (headOf s sizes) →
+    after ≡ departedState s clock (headOf s sizes) →
+    let reply = departure s row handles sizes clock in
+    (record { answer = departed (headOf s handles) (headOf s sizes); state = after } ≡ reply)
+    × ((headOf s handles ≡ handleIn (reply .answer)) × (headOf s sizes ≡ sizeIn (reply .answer)))
+unfolding departure
+departure-taken s row handles sizes clock checked after found e ea = rw (← e, found, ea) (refl, (refl, refl))
+
+-- a refused tick, and one that is not refused
+pub tick-refused : (s : State) (row : List ℕ) (clock credits : ℕ) (checked : Accepted) (r : Refusal) →
+    checked ≡ No r →
+    refusalIn checked ≡ tickRefusal s row clock →
+    let reply = tick s row clock credits in
+    (record { answer = refused (numberOf r); state = s } ≡ reply) × ((0 ≡ handleIn (reply .answer)) × (0 ≡ sizeIn (reply .answer)))
+unfolding tick
+tick-refused s row clock credits checked r found e = rw (← e, found, refused-reply) (refl, (refl, refl))
+
+pub tick-taken : (s : State) (row : List ℕ) (clock credits : ℕ) (checked : Accepted) (after : State) →
+    checked ≡ Yes →
+    refusalIn checked ≡ tickRefusal s row clock →
+    after ≡ tickedState s clock credits →
+    let reply = tick s row clock credits in
+    (record { answer = ticked; state = after } ≡ reply) × ((0 ≡ handleIn (reply .answer)) × (0 ≡ sizeIn (reply .answer)))
+unfolding tick
+tick-taken s row clock credits checked after found e ea = rw (← e, found, ea) (refl, (refl, refl))
