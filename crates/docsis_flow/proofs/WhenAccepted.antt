@@ -23,7 +23,7 @@ use Rattle.docsis_flow.specs.declared.State.{State}
 use Rattle.docsis_flow.proofs.Facts.{Facts, facts, record-formed, row-fits}
 
 pub record ArrivalAccepted (s : State) (row : List ℕ) (handlesLength sizesLength clock size : ℕ) : Type 0 where
-  pub formed : formed s ≡ true
+  pub good : formed s ≡ true
   pub known : Facts s
   pub handles : handlesLength ≡ s .settings .slots
   pub sizes : sizesLength ≡ s .settings .slots
@@ -34,7 +34,7 @@ pub record ArrivalAccepted (s : State) (row : List ℕ) (handlesLength sizesLeng
   pub total-low : total row < mostVerdicts
 
 pub record DepartureAccepted (s : State) (row : List ℕ) (handlesLength sizesLength clock headSize : ℕ) : Type 0 where
-  pub formed : formed s ≡ true
+  pub good : formed s ≡ true
   pub known : Facts s
   pub handles : handlesLength ≡ s .settings .slots
   pub sizes : sizesLength ≡ s .settings .slots
@@ -49,7 +49,7 @@ pub record DepartureAccepted (s : State) (row : List ℕ) (handlesLength sizesLe
   pub total-high : total row ≤ mostVerdicts
 
 pub record TickAccepted (s : State) (row : List ℕ) (clock : ℕ) : Type 0 where
-  pub formed : formed s ≡ true
+  pub good : formed s ≡ true
   pub known : Facts s
   pub clock-low : s .clock .0 ≤ clock
   pub clock-high : clock ≤ latest
@@ -85,15 +85,15 @@ unfolding arrivalRefusal
 arrival-accepted s row handlesLength sizesLength clock size e =
     let at = none-refuses (arrivalRefusals s row handlesLength sizesLength clock size) refl e in
     let well = not-false (wellFormed s row) (at 0) in
-    let good = record-formed s row well in
+    let sound = record-formed s row well in
     let fits = row-fits s row well in
     let tables = tables-fit s handlesLength sizesLength (at 1) in
     let time = clock-in-order s clock (at 2) in
     let range = size-in-range size (at 3) in
     let full : total row ≢ mostVerdicts = eqb-false _ _ (at 4) in
     record {
-      formed = good;
-      known = facts s good;
+      good = sound;
+      known = facts s sound;
       handles = tables .0;
       sizes = tables .1;
       clock-low = time .0;
@@ -110,14 +110,14 @@ unfolding departureRefusal
 departure-accepted s row handlesLength sizesLength clock headSize e =
     let at = none-refuses (departureRefusals s row handlesLength sizesLength clock headSize) refl e in
     let well = not-false (wellFormed s row) (at 0) in
-    let good = record-formed s row well in
+    let sound = record-formed s row well in
     let tables = tables-fit s handlesLength sizesLength (at 1) in
     let time = clock-in-order s clock (at 2) in
     let none : s .backlog .count ≢ 0 = eqb-false _ _ (at 3) in
     let head = head-fits (s .backlog) headSize (at 4) in
     record {
-      formed = good;
-      known = facts s good;
+      good = sound;
+      known = facts s sound;
       handles = tables .0;
       sizes = tables .1;
       clock-low = time .0;
@@ -136,11 +136,11 @@ unfolding tickRefusal
 tick-accepted s row clock e =
     let at = none-refuses (tickRefusals s row clock) refl e in
     let well = not-false (wellFormed s row) (at 0) in
-    let good = record-formed s row well in
+    let sound = record-formed s row well in
     let time = clock-in-order s clock (at 1) in
     record {
-      formed = good;
-      known = facts s good;
+      good = sound;
+      known = facts s sound;
       clock-low = time .0;
       clock-high = time .1;
       due = ltb-false _ _ (at 2);

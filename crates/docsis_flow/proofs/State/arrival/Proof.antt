@@ -1,56 +1,74 @@
+-- `State::arrival`: refused as the check says, else the verdict, what it stores, and the state it leaves.
 use borrow.Author.Needs.{needs}
+use mathlib.Core.Path.{ap, sym, _∙_}
+use native.Mathlib.Omega.{arith}
+use lib.ListN.{length}
+use denote.Ref.{now}
+use Rattle.docsis_flow.specs.Answer.{refusalIn}
+use Rattle.docsis_flow.proofs.Replies.{arrival-decided, arrival-refused}
+use Rattle.docsis_flow.proofs.WhenAccepted.{ArrivalAccepted, arrival-accepted}
 use Rattle.docsis_flow.proofs.State.arrival.Statement.{statement}
 use Rattle.docsis_flow.proofs.State.arrival.Tie as tie
-use Rattle.docsis_flow.proofs.State.arrival.Reads as reads
-use Rattle.docsis_flow.proofs.State.arrival.Lts as lts
-use Rattle.docsis_flow.proofs.State.arrived.Reads as arrived-reads
-use Rattle.docsis_flow.proofs.State.check_arrival.Reads as check-arrival-reads
-use Rattle.docsis_flow.proofs.State.decide.Reads as decide-reads
-use Rattle.docsis_flow.proofs.State.store.Reads as store-reads
 
--- src/arriving.rt:146:13
 check-arrival-requires : tie.Need-check-arrival-requires
 check-arrival-requires c κs = search needs
 
--- src/arriving.rt:148:26
 enum-known-checked : tie.Need-enum-known-checked
 enum-known-checked c = search needs
 
--- src/arriving.rt:155:21
 enum-told : tie.Need-enum-told
 enum-told c = search needs
 
--- src/arriving.rt:155:21
+abbrev at-start : tie.After-enum-told → tie.Start
+at-start c = c .before .before .before .before .before
+
+-- what is known once the check has found nothing
+known : (c : tie.After-enum-told) →
+    ArrivalAccepted
+    (at-start c .args .self)
+    (at-start c .args .row)
+    (length (now (at-start c .args .handles)))
+    (length (now (at-start c .args .sizes)))
+    (at-start c .args .clock .0)
+    (at-start c .args .size .0)
+known c = arrival-accepted _ _ _ _ _ _ (sym (c .before .before .check-arrival .ensures) ∙ ap refusalIn (c .enum-told .given .1))
+
 decide-requires : tie.Need-decide-requires
-decide-requires c κs = ?
+decide-requires c κs = let k = known c in (k .good, k .size-high)
 
--- src/arriving.rt:157:55
 cast-store : tie.Need-cast-store
-cast-store c = ?
+cast-store c = let k = known (c .before .before .before .before) in omega arith
 
--- src/arriving.rt:157:17
 store-requires : tie.Need-store-requires
-store-requires c κs = ?
+store-requires c κs = let k = known (c .before .before .before .before) in (k .good, (k .handles, k .sizes))
 
--- src/arriving.rt:158:21
 arrived-requires : tie.Need-arrived-requires
-arrived-requires c κs = ?
+arrived-requires c κs =
+    let k = known (c .before .before .before .before .before .before .before .before .before) in (k .good, k .size-high)
 
--- src/arriving.rt:130:5
 returns : tie.Need-returns
-returns c = ?
+returns c =
+    let k = c .before .before .before in
+    arrival-refused _ _ _ _ _ _ _ _ _ _ (c .before .checked .given .1) (k .check-arrival .ensures)
 
--- src/arriving.rt:130:5
 same-length : tie.Need-same-length
 same-length c = search needs
 
--- src/arriving.rt:130:5
 same-length-2 : tie.Need-same-length-2
 same-length-2 c = search needs
 
--- src/arriving.rt:130:5
 returns-2 : tie.Need-returns-2
-returns-2 c = ?
+returns-2 c =
+    let p = c .before .before .before .before .before in
+    let r = p .before .before .before .before in
+    let e = r .before in
+    let w = e .before .before in
+    arrival-decided _ _ _ _ _ _ _ _ _ _ _ _ _
+    (e .enum-told .given .1)
+    (w .check-arrival .ensures)
+    (r .decide .ensures)
+    (c .arrived .ensures)
+    (p .store .ensures)
 
 pub arrival-spec : {M : Type 1} → statement M
 arrival-spec =

@@ -1,26 +1,31 @@
+-- `State::arrived`: an admitted packet enters the backlog.
 use borrow.Author.Needs.{needs}
+use native.Mathlib.Omega.{arith}
+use Rattle.docsis_flow.specs.Arrival.{arrivedState}
+use Rattle.docsis_flow.proofs.Facts.{facts}
 use Rattle.docsis_flow.proofs.State.arrived.Statement.{statement}
 use Rattle.docsis_flow.proofs.State.arrived.Tie as tie
-use Rattle.docsis_flow.proofs.State.arrived.Reads as reads
-use Rattle.docsis_flow.proofs.State.arrived.Lts as lts
-use Rattle.pie.proofs.Backlog.enter.Reads as enter-reads
-use Rattle.pie.proofs.Verdict.admits.Reads as admits-reads
 
--- src/arriving.rt:98:13
 admits-requires : tie.Need-admits-requires
 admits-requires c κs = search needs
 
--- src/arriving.rt:101:17
 enter-requires : tie.Need-enter-requires
-enter-requires c κs = ?
+enter-requires c κs =
+    let a = c .before .before .before .before in
+    let f = facts (a .args .self) (a .pre .0) in omega arith
 
--- src/arriving.rt:102:13
 returns : tie.Need-returns
-returns c = ?
+unfolding arrivedState
+returns c =
+    let n = c .before .before in
+    let e = n .before .before in
+    simp (n .enter .ensures, ← (e .before .admits .ensures), e .if1 .taken)
 
--- src/arriving.rt:91:5
 returns-2 : tie.Need-returns-2
-returns-2 c = ?
+unfolding arrivedState
+returns-2 c =
+    let e = c .before .before .before in
+    simp (← (e .before .admits .ensures), e .if1 .left)
 
 pub arrived-spec : {M : Type 1} → statement M
 arrived-spec = tie.close (tie.spec admits-requires enter-requires returns returns-2)

@@ -1,52 +1,79 @@
+-- `State::check_arrival`: each test in turn is the definition's own.
 use borrow.Author.Needs.{needs}
+use borrow.Author.Tests.{not-false}
+use mathlib.Core.Path.{sym, _∙_}
+use Rattle.docsis_flow.specs.Arrival.{arrivalRefusal}
+use Rattle.docsis_flow.proofs.Facts.{row-fits}
 use Rattle.docsis_flow.proofs.State.check_arrival.Statement.{statement}
 use Rattle.docsis_flow.proofs.State.check_arrival.Tie as tie
-use Rattle.docsis_flow.proofs.State.check_arrival.Reads as reads
-use Rattle.docsis_flow.proofs.State.check_arrival.Lts as lts
-use Rattle.docsis_flow.proofs.State.well_formed.Reads as well-formed-reads
-use Rattle.queue.proofs.counts_full.Reads as counts-full-reads
 
--- src/arriving.rt:32:13
 well-formed-requires : tie.Need-well-formed-requires
 well-formed-requires c κs = search needs
 
--- src/arriving.rt:34:13
 returns : tie.Need-returns
-returns c = ?
+unfolding arrivalRefusal
+returns c = simp (← (c .before .well-formed .ensures), c .if1 .taken)
 
--- src/arriving.rt:39:13
 returns-2 : tie.Need-returns-2
-returns-2 c = ?
+unfolding arrivalRefusal
+returns-2 c =
+    let e1 = c .before in simp (← (e1 .before .well-formed .ensures), e1 .if1 .left, c .if2 .taken)
 
--- src/arriving.rt:43:13
 returns-3 : tie.Need-returns-3
-returns-3 c = ?
+unfolding arrivalRefusal
+returns-3 c =
+    let e2 = c .before .before .before .before in
+    let e1 = e2 .before in simp (← (e1 .before .well-formed .ensures), e1 .if1 .left, e2 .if2 .left, c .if3 .taken)
 
--- src/arriving.rt:47:13
 returns-4 : tie.Need-returns-4
-returns-4 c = ?
+unfolding arrivalRefusal
+returns-4 c =
+    let e3 = c .before .before .before in
+    let e2 = e3 .before .before .before .before in
+    let e1 = e2 .before in simp (← (e1 .before .well-formed .ensures), e1 .if1 .left, e2 .if2 .left, e3 .if3 .left, c .if4 .taken)
 
--- src/arriving.rt:49:13
 counts-full-requires : tie.Need-counts-full-requires
-counts-full-requires c κs = ?
+counts-full-requires c κs =
+    let e3 = c .before .before .before in
+    let e1 = e3 .before .before .before .before .before in
+    let w = e1 .before in
+    row-fits (w .before .args .self) _ (sym (w .well-formed .ensures) ∙ not-false _ (e1 .if1 .left))
 
--- src/arriving.rt:51:13
 returns-5 : tie.Need-returns-5
-returns-5 c = ?
+unfolding arrivalRefusal
+returns-5 c =
+    let e4 = c .before .before in
+    let e3 = e4 .before .before .before in
+    let e2 = e3 .before .before .before .before in
+    let e1 = e2 .before in
+    simp (
+      ← (e1 .before .well-formed .ensures),
+      e1 .if1 .left,
+      e2 .if2 .left,
+      e3 .if3 .left,
+      e4 .if4 .left,
+      ← (c .before .counts-full .ensures),
+      c .if5 .taken,
+    )
 
--- src/arriving.rt:29:5
 returns-6 : tie.Need-returns-6
-returns-6 c = ?
+unfolding arrivalRefusal
+returns-6 c =
+    let e4 = c .before .before in
+    let e3 = e4 .before .before .before in
+    let e2 = e3 .before .before .before .before in
+    let e1 = e2 .before in
+    simp (
+      ← (e1 .before .well-formed .ensures),
+      e1 .if1 .left,
+      e2 .if2 .left,
+      e3 .if3 .left,
+      e4 .if4 .left,
+      ← (c .before .counts-full .ensures),
+      c .if5 .left,
+    )
 
 pub check-arrival-spec : {M : Type 1} → statement M
 check-arrival-spec =
     tie.close
-    (tie.spec
-    well-formed-requires
-    returns
-    returns-2
-    returns-3
-    returns-4
-    counts-full-requires
-    returns-5
-    returns-6)
+    (tie.spec well-formed-requires returns returns-2 returns-3 returns-4 counts-full-requires returns-5 returns-6)

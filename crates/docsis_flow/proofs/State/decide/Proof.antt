@@ -1,28 +1,36 @@
+-- `State::decide`: rules 1 and 2, then the drop decision.
+use borrow.Author.Needs.{needs}
+use native.Mathlib.Omega.{arith}
+use Rattle.docsis_flow.specs.Arrival.{decisionOf}
+use Rattle.docsis_flow.proofs.Facts.{facts}
 use Rattle.docsis_flow.proofs.State.decide.Statement.{statement}
 use Rattle.docsis_flow.proofs.State.decide.Tie as tie
-use Rattle.docsis_flow.proofs.State.decide.Reads as reads
-use Rattle.docsis_flow.proofs.State.decide.Lts as lts
-use Rattle.docsis_pie.proofs.DocsisPie.decide.Reads as decide-reads
 
--- src/arriving.rt:65:46
 add-bytes-full : tie.Need-add-bytes-full
-add-bytes-full c = ?
+add-bytes-full c =
+    let a = c .before .before .before .before .before in
+    let f = facts (a .args .self) (a .pre .0) in omega arith
 
--- src/arriving.rt:71:13
 returns : tie.Need-returns
-returns c = ?
+unfolding decisionOf
+returns c = rw (c .before .before .before .before .if1 .taken)
 
--- src/arriving.rt:82:13
 returns-2 : tie.Need-returns-2
-returns-2 c = ?
+unfolding decisionOf
+returns-2 c =
+    let e2 = c .before .before .before .before in
+    rw (e2 .before .before .before .if1 .left, e2 .if2 .taken)
 
--- src/arriving.rt:87:9
 decide-requires : tie.Need-decide-requires
-decide-requires c κs = ?
+decide-requires c κs =
+    let a = c .before .before .before .before .before .before .before .before .before .before in
+    let f = facts (a .args .self) (a .pre .0) in
+    ((f .prob-high, f .old-high, f .accumulated-high), (omega arith, a .pre .1))
 
--- src/arriving.rt:57:5
 returns-3 : tie.Need-returns-3
-returns-3 c = ?
+unfolding decisionOf
+returns-3 c =
+    let e2 = c .before in rw (e2 .before .before .before .if1 .left, e2 .if2 .left) (c .decide .ensures)
 
 pub decide-spec : {M : Type 1} → statement M
 decide-spec = tie.close (tie.spec add-bytes-full returns returns-2 decide-requires returns-3)

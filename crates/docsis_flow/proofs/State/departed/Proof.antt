@@ -1,22 +1,24 @@
+-- `State::departed`: the head leaves, within a well-formed state's ranges.
 use borrow.Author.Needs.{needs}
+use native.Mathlib.Omega.{arith}
+use Rattle.docsis_flow.specs.Departure.{departedState}
+use Rattle.docsis_flow.proofs.Facts.{facts}
 use Rattle.docsis_flow.proofs.State.departed.Statement.{statement}
 use Rattle.docsis_flow.proofs.State.departed.Tie as tie
-use Rattle.docsis_flow.proofs.State.departed.Reads as reads
-use Rattle.docsis_flow.proofs.State.departed.Lts as lts
-use Rattle.pie.proofs.Backlog.leave.Reads as leave-reads
-use Rattle.queue.proofs.place.Reads as place-reads
 
--- src/departing.rt:60:13
 leave-requires : tie.Need-leave-requires
 leave-requires c κs = search needs
 
--- src/departing.rt:61:13
 place-requires : tie.Need-place-requires
-place-requires c κs = ?
+place-requires c κs =
+    let a = c .before .before in
+    let f = facts (a .args .self) (a .pre .0) in (f .first-high, f .slots-low, f .slots-high)
 
--- src/departing.rt:54:5
 returns : tie.Need-returns
-returns c = ?
+unfolding departedState
+returns c =
+    let n = c .before .before .before in
+    rw (n .place .ensures, n .before .leave .ensures)
 
 pub departed-spec : {M : Type 1} → statement M
 departed-spec = tie.close (tie.spec leave-requires place-requires returns)

@@ -1,50 +1,56 @@
+-- `State::store`: the tail's place is one of the tables'.
 use borrow.Author.Needs.{needs}
+use mathlib.Core.Path.{refl}
+use Prim.Native.Nat.{_+_, _<_}
+use native.Mathlib.Nat.{mod-lt}
+use native.Mathlib.Omega.{arith}
+use Rattle.docsis_flow.specs.Arrival.{tailPlace}
+use Rattle.docsis_flow.proofs.Facts.{facts}
 use Rattle.docsis_flow.proofs.State.store.Statement.{statement}
 use Rattle.docsis_flow.proofs.State.store.Tie as tie
-use Rattle.docsis_flow.proofs.State.store.Reads as reads
-use Rattle.docsis_flow.proofs.State.store.Lts as lts
-use Rattle.pie.proofs.Verdict.admits.Reads as admits-reads
-use Rattle.queue.proofs.place.Reads as place-reads
 
--- src/arriving.rt:121:13
 admits-requires : tie.Need-admits-requires
 admits-requires c κs = search needs
 
--- src/arriving.rt:123:22
 place-requires : tie.Need-place-requires
-place-requires c κs = ?
+place-requires c κs =
+    let a = c .before .before .before .before in
+    let f = facts (a .args .self) (a .pre .0) in (f .first-high, f .count-high, f .slots-high)
 
--- src/arriving.rt:124:13
+tail-lt : (a : tie.Start) → tailPlace (a .args .self) < a .args .self .settings .slots
+tail-lt a =
+    let s = a .args .self in mod-lt (s .first + s .backlog .count) (facts s (a .pre .0) .slots-low)
+
+-- the place that was computed is the tail's
+at-lt : (c : tie.After-place) → c .place .result < c .before .before .before .before .before .args .self .settings .slots
+at-lt c = rw (c .place .ensures) (tail-lt (c .before .before .before .before .before))
+
 mul-handles : tie.Need-mul-handles
-mul-handles c = ?
+mul-handles c =
+    let a = c .before .before .before .before .before in omega (arith, at-lt c, facts (a .args .self) (a .pre .0) .slots-high)
 
--- src/arriving.rt:124:13
 slice-write-handles : tie.Need-slice-write-handles
-slice-write-handles c = ?
+slice-write-handles c = let a = c .before .before .before .before .before in omega (arith, at-lt c, a .pre)
 
--- src/arriving.rt:125:13
 mul-sizes : tie.Need-mul-sizes
-mul-sizes c = ?
+mul-sizes c =
+    let a = c .before .before .before .before .before in omega (arith, at-lt c, facts (a .args .self) (a .pre .0) .slots-high)
 
--- src/arriving.rt:125:13
 slice-write-sizes : tie.Need-slice-write-sizes
-slice-write-sizes c = ?
+slice-write-sizes c = let a = c .before .before .before .before .before in omega (arith, at-lt c, a .pre)
 
--- src/arriving.rt:113:5
 same-length : tie.Need-same-length
 same-length c = search needs
 
--- src/arriving.rt:113:5
 same-length-2 : tie.Need-same-length-2
 same-length-2 c = search needs
 
--- src/arriving.rt:113:5
 returns : tie.Need-returns
-returns c = ?
+returns c =
+    let e = c .before in simp (← (e .before .admits .ensures), e .if1 .taken, c .place .ensures) (refl, refl)
 
--- src/arriving.rt:113:5
 returns-2 : tie.Need-returns-2
-returns-2 c = ?
+returns-2 c = simp (← (c .before .admits .ensures), c .if1 .left) (refl, refl)
 
 pub store-spec : {M : Type 1} → statement M
 store-spec =
