@@ -1,17 +1,14 @@
 // The table of counts: sixteen rows of five, by value.
-use crate::Outcome;
-use crate::Replied;
 use crate::Returned;
+use docsis_flow::Replied;
 use pie::Verdict;
 ghost use mathlib.Core.Path.{_≡_};
-ghost use mathlib.Core.List.{[]};
 ghost use Prim.Native.Nat.{_<_, _≤_};
-ghost use lib.ListN.{set};
 ghost use Rattle.pie.specs.Constants.{mostVerdicts};
-ghost use Rattle.pie.specs.Verdicts.{raised, total};
+ghost use Rattle.pie.specs.Verdicts.{total};
 ghost use Rattle.queue.specs.Answer.{made, verdict};
-ghost use Rattle.docsis.specs.Counts.{countsAfter, rowOf};
 ghost use Rattle.docsis.specs.Answer.{returnedOf};
+ghost use Rattle.docsis.specs.Counts.{countsAfter, rowOf};
 
 // The row of a flow.
 pub(crate) fn row_of(counts: [[u64; 5]; 16], flow: u64) -> [u64; 5]
@@ -39,7 +36,8 @@ pub(crate) fn clear_in(counts: [[u64; 5]; 16], flow: u64) -> [[u64; 5]; 16]
     ensures { λ r. ⌜ r ≡ countsAfter counts flow made ⌝ }
 {
     let mut next = counts;
-    next[flow as usize] = [0, 0, 0, 0, 0];
+    let zero = [0u64; 5];
+    next[flow as usize] = zero;
     next
 }
 
@@ -49,7 +47,7 @@ pub(crate) fn returned(replied: Replied, counts: [[u64; 5]; 16]) -> Returned
     Returned { replied, counts }
 }
 
-// The counts that a call returns.
+// The counts that a call returned.
 pub fn counts_of(r: Returned) -> [[u64; 5]; 16]
     ensures { λ c. ⌜ c ≡ r .counts ⌝ }
 {
