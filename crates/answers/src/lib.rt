@@ -2,17 +2,18 @@
 use decimal::put;
 use decimal::put_number;
 use pie::Verdict;
-use queue::Accepted;
 use queue::ArrivalAnswer;
-use queue::Refusal;
 use queue::State;
+use refusals::Accepted;
+use refusals::Refusal;
 ghost use mathlib.Core.Path.{_≡_};
 ghost use Prim.Native.Nat.{ℕ, _+_, _≤_};
 ghost use mathlib.Core.List.{_++_};
 ghost use lib.ListN.{length};
 ghost use Rattle.decimal.specs.Digits.{digitsOf};
 ghost use Rattle.decimal.specs.Written.{Wrote};
-ghost use Rattle.queue.specs.Answer.{acceptedAnswer, arrivalAnswer, departed, made, numberOf, refused, ticked};
+ghost use Rattle.queue.specs.Answer.{acceptedAnswer, arrivalAnswer, departed, made, refused, ticked};
+ghost use Rattle.refusals.specs.Numbers.{numberOf};
 ghost use Rattle.answers.specs.Output.{ascii, badText, stateText, verdictWord, wordOf};
 
 fn put_refused(refusal: Refusal, out: &mut [u8], at: usize) -> usize

@@ -14,7 +14,8 @@ use Rattle.queue.specs.Refusals.{settingsRefused}
 use Rattle.queue.specs.declared.Settings.{Settings}
 use Rattle.capi.specs.Codes.{codeOf}
 use Rattle.capi.specs.Words.{stateOf}
-use Rattle.guarantees.specs.Handed.{Packet, Request, Run, after, answerOf, askArrival, askDeparture, askTick, begin, departedBy}
+use Rattle.calls.specs.Packets.{Packet}
+use Rattle.guarantees.specs.Handed.{Request, Run, after, answerOf, askArrival, askDeparture, askTick, begin, departedBy}
 use Rattle.guarantees.specs.Handed.{run, step}
 use Rattle.guarantees.specs.Handed as states
 use Rattle.guarantees.proofs.Replies.{Accepted, acceptance, at-one-reply}

@@ -7,7 +7,7 @@ use mathlib.Core.List.{List, [], _∷_}
 use Prim.Native.Nat.{ℕ, _+_, _-_, _≤_, _<_}
 use lib.Dec.{eqb}
 use lib.ListN.{length}
-use Rattle.guarantees.specs.Conservation.{bytesOf}
+use Rattle.calls.specs.Packets.{bytesOf}
 use Rattle.guarantees.specs.Handed.{Request, askArrival, askDeparture, askTick}
 use Rattle.c_guarantees.specs.CHanded.{CQueue, Logged, codeFor, finalQueue, freshCode, freshQueue, logOf, queuedIn}
 use Rattle.c_guarantees.specs.CHanded.{admittedIn, handedOutIn}

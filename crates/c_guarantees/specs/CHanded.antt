@@ -10,7 +10,9 @@ use Rattle.queue.specs.Fresh.{fresh, settingsOf}
 use Rattle.capi.specs.Codes.{codeOf}
 use Rattle.capi.specs.Words.{stateOf, stateWords}
 use Rattle.guarantees.specs.Calls.{Call}
-use Rattle.guarantees.specs.Handed.{Packet, Queue, Request, answerOf, askArrival, askDeparture, askTick, brought, callOf, listed}
+use Rattle.calls.specs.Packets.{Packet}
+use Rattle.calls.specs.Ring.{listed}
+use Rattle.guarantees.specs.Handed.{Queue, Request, answerOf, askArrival, askDeparture, askTick, brought, callOf}
 use Rattle.c_guarantees.specs.CCalls.{codeGiven, packetWritten, wordsLeft}
 use Rattle.c_guarantees.specs.Fields.{countIn, firstIn, slotsIn}
 

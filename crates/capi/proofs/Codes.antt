@@ -4,13 +4,14 @@ use mathlib.Core.List.{List}
 use Prim.Native.Nat.{ℕ, _+_}
 use Rattle.pie.specs.declared.Verdict.{Verdict}
 use Rattle.pie.specs.Verdicts.{placeOf}
-use Rattle.queue.specs.declared.Accepted.{Accepted}
-use Rattle.queue.specs.declared.Accepted.the-variants.{Yes, No}
+use Rattle.refusals.specs.declared.Accepted.{Accepted}
+use Rattle.refusals.specs.declared.Accepted.the-variants.{Yes, No}
 use Rattle.queue.specs.declared.ArrivalAnswer.{ArrivalAnswer}
 use Rattle.queue.specs.declared.ArrivalAnswer.the-variants.{Decided, Refused}
-use Rattle.queue.specs.declared.Refusal.{Refusal}
+use Rattle.refusals.specs.declared.Refusal.{Refusal}
 use Rattle.queue.specs.declared.State.{State}
-use Rattle.queue.specs.Answer.{Answer, Reply, acceptedAnswer, arrivalAnswer, numberOf}
+use Rattle.queue.specs.Answer.{Answer, Reply, acceptedAnswer, arrivalAnswer}
+use Rattle.refusals.specs.Numbers.{numberOf}
 use Rattle.capi.specs.Codes.{codeOf, wordsAfter, wordsFor}
 use Rattle.capi.specs.Words.{stateWords}
 

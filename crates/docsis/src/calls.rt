@@ -5,7 +5,6 @@ use crate::counting::raise_in;
 use crate::counting::returned;
 use crate::counting::row_of;
 use docsis_flow::Outcome;
-use docsis_flow::Refusal;
 use docsis_flow::Replied;
 use docsis_flow::Settings;
 use docsis_flow::State;
@@ -22,7 +21,7 @@ fn no_flow(state: State, counts: [[u64; 5]; 16]) -> Returned
     ensures { λ r. ⌜ r ≡ noFlow state counts ⌝ }
 {
     let replied = Replied {
-        outcome: Outcome::Refused(Refusal::Flow),
+        outcome: Outcome::NoFlow,
         handle: 0,
         size: 0,
         state,
@@ -95,11 +94,20 @@ pub fn departure(
     if unknown {
         return no_flow(state, counts);
     }
-    returned(state.departure(row_of(counts, flow), handles, sizes, clock), counts)
+    returned(
+        state.departure(row_of(counts, flow), handles, sizes, clock),
+        counts,
+    )
 }
 
 // The periodic update of a flow, with its credits.
-pub fn tick(state: State, counts: [[u64; 5]; 16], flow: u64, clock: Micros, credits: Bytes) -> Returned
+pub fn tick(
+    state: State,
+    counts: [[u64; 5]; 16],
+    flow: u64,
+    clock: Micros,
+    credits: Bytes,
+) -> Returned
     ensures { λ r. ⌜ (let a = tick state counts flow (clock .0) (credits .0) in (replyIn r ≡ a) × HandsOut (r .replied) (a .answer)) ⌝ }
 {
     let unknown = 15 < flow;

@@ -10,7 +10,7 @@ use Rattle.units.specs.Kinds.{fastest, none, slowest}
 use Rattle.laws.proofs.Tests.{and-left, and-right}
 use Rattle.pie.specs.Constants.{largest, latest, longest, mostVerdicts}
 use Rattle.pie.specs.Verdicts.{total}
-use Rattle.queue.proofs.Tests.{all-at}
+use Rattle.laws.proofs.TestLists.{all-at}
 use Rattle.docsis_pie.specs.Constants.{active, fullAllowance, high, mostProb, quiescent, resetTimeout}
 use Rattle.docsis_flow.specs.State.{formed, settingsConditions, stateConditions, wellFormed}
 use Rattle.docsis_flow.specs.declared.State.{State}

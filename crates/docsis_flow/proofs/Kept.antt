@@ -16,8 +16,8 @@ use Rattle.pie.specs.Verdicts.{admitted}
 use Rattle.pie.specs.declared.Backlog.{Backlog}
 use Rattle.pie.specs.declared.Verdict.the-variants.{DroppedBytes, DroppedSlots}
 use Rattle.queue.specs.Answer.{made}
-use Rattle.queue.specs.State.{all}
-use Rattle.queue.proofs.Tests.{all-at}
+use Rattle.laws.specs.Tests.{all}
+use Rattle.laws.proofs.TestLists.{all-at}
 use Rattle.docsis_pie.specs.DropDecision.{decided}
 use Rattle.docsis_pie.specs.declared.Decided.{Decided}
 use Rattle.docsis_pie.proofs.Kept.{PieFits, decided-fits, spent-fits, updated-fits}

@@ -6,15 +6,16 @@ use Prim.Native.Nat.{ℕ}
 use lib.ListN.{length, set}
 use Rattle.pie.specs.Verdicts.{admitted}
 use Rattle.queue.specs.Answer.{departed, handleIn, refused, sizeIn, ticked, verdict}
+use Rattle.refusals.specs.Numbers.{numberOf, refusalIn}
 use Rattle.docsis_pie.specs.declared.Decided.{Decided}
-use Rattle.docsis_flow.specs.Answer.{Reply, numberOf, refusalIn, unlessRefused}
+use Rattle.docsis_flow.specs.Answer.{Reply, unlessRefused}
 use Rattle.docsis_flow.specs.Arrival.{arrival, arrivalRefusal, arrivedState, decisionOf, stored, tailPlace}
 use Rattle.docsis_flow.specs.Departure.{departedState, departure, departureRefusal, headOf}
 use Rattle.docsis_flow.specs.Tick.{tick, tickRefusal, tickedState}
-use Rattle.docsis_flow.specs.declared.Accepted.{Accepted}
-use Rattle.docsis_flow.specs.declared.Accepted.the-variants.{No, Yes}
-use Rattle.docsis_flow.specs.declared.Refusal.{Refusal}
-use Rattle.docsis_flow.specs.declared.Refusal.the-variants.{Settings, Malformed, Tables, Clock, TooSoon, Empty, Size, Counts, Head, Flow}
+use Rattle.refusals.specs.declared.Accepted.{Accepted}
+use Rattle.refusals.specs.declared.Accepted.the-variants.{No, Yes}
+use Rattle.refusals.specs.declared.Refusal.{Refusal}
+use Rattle.refusals.specs.declared.Refusal.the-variants.{Settings, Malformed, Tables, Clock, TooSoon, Empty, Size, Counts, Head}
 use Rattle.docsis_flow.specs.declared.State.{State}
 
 pub refused-reply : (r : Refusal) (given : State) (accepted : Reply) →
@@ -28,7 +29,6 @@ refused-reply Empty given accepted = refl
 refused-reply Size given accepted = refl
 refused-reply Counts given accepted = refl
 refused-reply Head given accepted = refl
-refused-reply Flow given accepted = refl
 
 -- a refused arrival: its reply, and the tables as they were
 pub arrival-refused : (s : State) (row handles sizes : List ℕ) (clock handle size u : ℕ) (checked : Accepted) (r : Refusal) →

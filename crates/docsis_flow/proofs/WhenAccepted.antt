@@ -10,9 +10,8 @@ use borrow.Author.Tests.{eqb-false, eqb-true, ltb-false, not-false}
 use Rattle.laws.proofs.Tests.{and-left, and-right, or-neither}
 use Rattle.pie.specs.Constants.{largest, latest, mostVerdicts}
 use Rattle.pie.specs.Verdicts.{total}
-use Rattle.queue.specs.Refusals.{sizeRefused}
-use Rattle.queue.proofs.Tests.{none-refuses}
-use Rattle.queue.proofs.WhenAccepted.{head-fits}
+use Rattle.refusals.proofs.Ordered.{none-refuses}
+use Rattle.refusals.proofs.Fitting.{head-fits, size-in-range}
 use Rattle.docsis_pie.specs.Constants.{period}
 use Rattle.docsis_flow.specs.Arrival.{arrivalRefusal, arrivalRefusals}
 use Rattle.docsis_flow.specs.Departure.{departureRefusal, departureRefusals}
@@ -70,12 +69,6 @@ clock-in-order : (s : State) (clock : ℕ) → clockRefused s clock ≡ false �
 clock-in-order s clock e =
     let n = or-neither (ltb clock (s .clock .0)) (ltb latest clock) e in
     (ltb-false _ _ (n .0), ltb-false _ _ (n .1))
-
-size-in-range : (size : ℕ) → sizeRefused size ≡ false → (1 ≤ size) × (size ≤ largest)
-size-in-range size e =
-    let n = or-neither (eqb size 0) (ltb largest size) e in
-    let some : size ≢ 0 = eqb-false size 0 (n .0) in
-    (omega arith, ltb-false _ _ (n .1))
 
 -- ── the calls ──
 

@@ -10,7 +10,8 @@ use Rattle.pie.specs.Verdicts.{admitted}
 use Rattle.pie.specs.declared.Verdict.{Verdict}
 use Rattle.pie.specs.declared.Verdict.the-variants.{DroppedBytes, DroppedSlots}
 use Rattle.queue.specs.Answer.{Answer, admits, verdict}
-use Rattle.queue.specs.Refusals.{firstRefusal, sizeRefused}
+use Rattle.refusals.specs.Rows.{firstRefusal}
+use Rattle.refusals.specs.Tests.{sizeRefused}
 use Rattle.docsis_pie.specs.DropDecision.{decided, withAccumulated}
 use Rattle.docsis_pie.specs.declared.Decided.{Decided}
 use Rattle.docsis_flow.specs.Answer.{Reply, unlessRefused}

@@ -6,7 +6,8 @@ use lib.ListN.{getD, length}
 use Rattle.units.specs.Kinds.{micros}
 use Rattle.pie.specs.Backlog.{left}
 use Rattle.queue.specs.Answer.{departed}
-use Rattle.queue.specs.Refusals.{firstRefusal, headRefused}
+use Rattle.refusals.specs.Rows.{firstRefusal}
+use Rattle.refusals.specs.Tests.{headRefused}
 use Rattle.docsis_flow.specs.Answer.{Reply, unlessRefused}
 use Rattle.docsis_flow.specs.Refusals.{clockRefused, emptyRefused, stateRefused, tablesRefused}
 use Rattle.docsis_flow.specs.declared.State.{State}

@@ -5,7 +5,7 @@ use Prim.Native.Nat.{ℕ, _+_}
 use lib.Dec.{ltb, leb, eqb}
 use Rattle.pie.specs.Constants.{latest, mostVerdicts}
 use Rattle.pie.specs.Verdicts.{total}
-use Rattle.queue.specs.State.{all}
+use Rattle.laws.specs.Tests.{all}
 use Rattle.docsis_pie.specs.Constants.{period}
 use Rattle.docsis_flow.specs.State.{settingsConditions, wellFormed}
 use Rattle.docsis_flow.specs.declared.Settings.{Settings}

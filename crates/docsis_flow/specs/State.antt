@@ -6,7 +6,7 @@ use lib.Dec.{leb, ltb, eqb}
 use Rattle.units.specs.Kinds.{fastest, none, slowest}
 use Rattle.pie.specs.Constants.{largest, latest, longest, mostVerdicts}
 use Rattle.pie.specs.Verdicts.{total}
-use Rattle.queue.specs.State.{all}
+use Rattle.laws.specs.Tests.{all}
 use Rattle.docsis_pie.specs.Constants.{active, fullAllowance, high, mostProb, quiescent, resetTimeout}
 use Rattle.docsis_flow.specs.declared.Settings.{Settings}
 use Rattle.docsis_flow.specs.declared.State.{State}

@@ -4,7 +4,7 @@ use mathlib.Core.List.{List, [], _∷_}
 use Prim.Native.Nat.{ℕ}
 use Rattle.units.specs.Kinds.{micros}
 use Rattle.queue.specs.Answer.{ticked}
-use Rattle.queue.specs.Refusals.{firstRefusal}
+use Rattle.refusals.specs.Rows.{firstRefusal}
 use Rattle.docsis_pie.specs.Update.{updated}
 use Rattle.docsis_flow.specs.Answer.{Reply, unlessRefused}
 use Rattle.docsis_flow.specs.Refusals.{clockRefused, stateRefused, tooSoonRefused}

@@ -1,7 +1,5 @@
 // An arrival.
-use crate::Accepted;
 use crate::Outcome;
-use crate::Refusal;
 use crate::Replied;
 use crate::State;
 use docsis_pie::Decided;
@@ -9,8 +7,10 @@ use docsis_pie::DocsisPie;
 use pie::LARGEST;
 use pie::LATEST;
 use pie::Verdict;
-use queue::counts_full;
-use queue::place;
+use refusals::Accepted;
+use refusals::Refusal;
+use refusals::counts_full;
+use ring::store;
 use units::Bytes;
 use units::Micros;
 use units::Prob;
@@ -20,8 +20,9 @@ ghost use Prim.Native.Nat.{_≤_};
 ghost use lib.ListN.{length, set};
 ghost use Rattle.pie.specs.Constants.{largest};
 ghost use Rattle.pie.specs.Verdicts.{admitted};
+ghost use Rattle.refusals.specs.Numbers.{refusalIn};
 ghost use Rattle.docsis_flow.specs.State.{formed};
-ghost use Rattle.docsis_flow.specs.Answer.{HandsOut, replyIn, refusalIn};
+ghost use Rattle.docsis_flow.specs.Answer.{HandsOut, replyIn};
 ghost use Rattle.docsis_flow.specs.Arrival.{arrivalRefusal, arrivedState, decisionOf, arrival, stored, tailPlace};
 
 impl State {
@@ -127,9 +128,15 @@ impl State {
     {
         let admits = v.admits();
         if admits {
-            let at = place(self.first, self.backlog.count, self.settings.slots) as usize;
-            handles[at] = handle;
-            sizes[at] = size;
+            store(
+                handles,
+                sizes,
+                self.first,
+                self.backlog.count,
+                self.settings.slots,
+                handle,
+                size,
+            );
         }
     }
 

@@ -1,20 +1,21 @@
 // A departure.
-use crate::Accepted;
 use crate::Outcome;
-use crate::Refusal;
 use crate::Replied;
 use crate::State;
 use pie::LATEST;
-use queue::place;
-use queue::wrong_head;
+use refusals::Accepted;
+use refusals::Refusal;
+use refusals::wrong_head;
+use ring::place;
 use units::Bytes;
 use units::Micros;
 ghost use mathlib.Core.Path.{_≡_};
 ghost use mathlib.Core.Bool.{true};
 ghost use Prim.Native.Nat.{_≤_, _<_};
 ghost use lib.ListN.{length};
+ghost use Rattle.refusals.specs.Numbers.{refusalIn};
 ghost use Rattle.docsis_flow.specs.State.{formed};
-ghost use Rattle.docsis_flow.specs.Answer.{HandsOut, replyIn, refusalIn};
+ghost use Rattle.docsis_flow.specs.Answer.{HandsOut, replyIn};
 ghost use Rattle.docsis_flow.specs.Departure.{departedState, departureRefusal, departure, headOf};
 
 impl State {

@@ -1,6 +1,5 @@
 // A fresh flow.
 use crate::Outcome;
-use crate::Refusal;
 use crate::Replied;
 use crate::Settings;
 use crate::State;
@@ -9,6 +8,7 @@ use docsis_pie::DocsisPie;
 use docsis_pie::Phase;
 use pie::Backlog;
 use pie::LATEST;
+use refusals::Refusal;
 use units::Bytes;
 use units::BytesPerSecond;
 use units::Micros;

@@ -2,6 +2,7 @@
 use docsis_pie::DocsisPie;
 use pie::Backlog;
 use pie::Verdict;
+use refusals::Refusal;
 use units::Bytes;
 use units::BytesPerSecond;
 use units::Micros;
@@ -33,28 +34,10 @@ pub struct State {
     pub first: u64,
 }
 
-// One case for each refusal number, in order, from 1. `Flow` is given before a flow is called, by the crate `docsis`.
-pub enum Refusal {
-    Settings,
-    Malformed,
-    Tables,
-    Clock,
-    TooSoon,
-    Empty,
-    Size,
-    Counts,
-    Head,
-    Flow,
-}
-
-pub enum Accepted {
-    Yes,
-    No(Refusal),
-}
-
-// What a call is answered; one case for each kind of call, and the refusals.
+// What a call is answered. `NoFlow`, refusal 10, comes before a flow is called: the crate `docsis` gives it.
 pub enum Outcome {
     Refused(Refusal),
+    NoFlow,
     Made,
     Decided(Verdict),
     Departed,

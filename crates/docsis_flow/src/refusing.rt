@@ -1,24 +1,21 @@
-// The numbers of the refusals.
-use crate::Refusal;
+// The number of a refusal.
+use crate::Outcome;
 ghost use mathlib.Core.Path.{_≡_};
 ghost use Prim.Native.Nat.{_≤_};
-ghost use Rattle.docsis_flow.specs.Answer.{numberOf};
+ghost use Rattle.docsis_flow.specs.Answer.{refusalOf};
 
-impl Refusal {
-    pub fn number(self) -> u32
-        ensures { λ r. ⌜ (r ≡ numberOf self) × (r ≤ 10) ⌝ }
+impl Outcome {
+    // 0 where it is none.
+    pub fn refusal(self) -> u32
+        ensures { λ r. ⌜ (r ≡ refusalOf self) × (r ≤ 10) ⌝ }
     {
         match self {
-            Refusal::Settings => 1,
-            Refusal::Malformed => 2,
-            Refusal::Tables => 3,
-            Refusal::Clock => 4,
-            Refusal::TooSoon => 5,
-            Refusal::Empty => 6,
-            Refusal::Size => 7,
-            Refusal::Counts => 8,
-            Refusal::Head => 9,
-            Refusal::Flow => 10,
+            Outcome::Refused(refusal) => refusal.number(),
+            Outcome::NoFlow => 10,
+            Outcome::Made => 0,
+            Outcome::Decided(_) => 0,
+            Outcome::Departed => 0,
+            Outcome::Ticked => 0,
         }
     }
 }

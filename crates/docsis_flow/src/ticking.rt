@@ -1,17 +1,18 @@
 // A tick.
-use crate::Accepted;
 use crate::Outcome;
-use crate::Refusal;
 use crate::Replied;
 use crate::State;
 use docsis_pie::PERIOD;
 use pie::LATEST;
+use refusals::Accepted;
+use refusals::Refusal;
 use units::Bytes;
 use units::Micros;
 ghost use mathlib.Core.Path.{_≡_};
 ghost use mathlib.Core.Bool.{true};
+ghost use Rattle.refusals.specs.Numbers.{refusalIn};
 ghost use Rattle.docsis_flow.specs.State.{formed};
-ghost use Rattle.docsis_flow.specs.Answer.{HandsOut, replyIn, refusalIn};
+ghost use Rattle.docsis_flow.specs.Answer.{HandsOut, replyIn};
 ghost use Rattle.docsis_flow.specs.Tick.{tick, tickRefusal, tickedState};
 
 impl State {

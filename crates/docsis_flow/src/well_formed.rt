@@ -10,14 +10,14 @@ use docsis_pie::RESET_TIMEOUT;
 use pie::LARGEST;
 use pie::LATEST;
 use pie::LONGEST;
-use queue::counts_fit;
+use refusals::counts_fit;
 use units::BytesPerSecond;
 ghost use mathlib.Core.Path.{_≡_};
 ghost use mathlib.Core.Bool.{_&&_, _||_};
 ghost use lib.Dec.{eqb};
 ghost use Rattle.units.specs.Kinds.{none};
 ghost use Rattle.docsis_pie.specs.Constants.{active, quiescent};
-ghost use Rattle.queue.specs.State.{all};
+ghost use Rattle.laws.specs.Tests.{all};
 ghost use Rattle.docsis_flow.specs.State.{formed, settingsConditions, wellFormed};
 
 impl Settings {

@@ -1,7 +1,7 @@
--- The five counts of the state follow the answers: each is the number of arrivals so answered.
+-- The five counts of the state follow the answers: a verdict raises its own by one.
 use mathlib.Core.Path.{_≡_, refl, _∙_}
 use mathlib.Core.Bool.{Bool, true, false, cond}
-use mathlib.Core.List.{List, [], _∷_, _++_}
+use mathlib.Core.List.{List}
 use Prim.Native.Nat.{ℕ, _+_}
 use native.Mathlib.Omega.{arith}
 use borrow.Author.Tests.{eqb-false, eqb-true}
@@ -10,7 +10,6 @@ use lib.ListN.{getD, length}
 use lib.Seq.{getD-set-other, getD-set-same}
 use Rattle.pie.specs.Verdicts.{placeOf, raised}
 use Rattle.pie.specs.declared.Verdict.{Verdict}
-use Rattle.pie.specs.declared.Verdict.the-variants.{Enqueued, Marked, DroppedBytes, DroppedSlots, DroppedEarly}
 use Rattle.pie.proofs.Counts.{length-raised, place-lt}
 use Rattle.queue.specs.declared.State.{State}
 use Rattle.queue.specs.Answer.{Answer, departed, made, refused, ticked, verdict}
@@ -18,7 +17,7 @@ use Rattle.queue.specs.Arrival.{arrivedState}
 use Rattle.queue.specs.Departure.{departedState}
 use Rattle.queue.specs.Tick.{tickedState}
 use Rattle.guarantees.specs.Calls.{Call, reply}
-use Rattle.guarantees.specs.Conservation.{isVerdict, timesAnswered}
+use Rattle.guarantees.specs.Conservation.{isVerdict}
 use Rattle.guarantees.proofs.Replies.{at-reply}
 
 -- the counts after this answer
@@ -37,25 +36,6 @@ reply-counts s =
     (λ handles sizes clock handle size ecn u a. refl)
     (λ handles sizes clock a. refl)
     (λ clock a. refl)
-
-pub record Counted (counts : List ℕ) (answers : List Answer) : Type 0 where
-  pub five : length counts ≡ 5
-  pub each : (v : Verdict) → getD counts (placeOf v) 0 ≡ timesAnswered v answers
-
-pub none-counted : Counted (0 ∷ 0 ∷ 0 ∷ 0 ∷ 0 ∷ []) []
-none-counted = record { five = refl; each = zero-at }
-  where
-    zero-at : (v : Verdict) → getD {A = ℕ} (0 ∷ 0 ∷ 0 ∷ 0 ∷ 0 ∷ []) (placeOf v) 0 ≡ 0
-    zero-at Enqueued = refl
-    zero-at Marked = refl
-    zero-at DroppedBytes = refl
-    zero-at DroppedSlots = refl
-    zero-at DroppedEarly = refl
-
-times-last : (v : Verdict) (answers : List Answer) (a : Answer) →
-    timesAnswered v (answers ++ a ∷ []) ≡ timesAnswered v answers + cond (isVerdict v a) 1 0
-times-last v [] a = omega arith
-times-last v (b ∷ answers) a = omega (arith, times-last v answers a)
 
 raised-at : (counts : List ℕ) (v w : Verdict) → length counts ≡ 5 →
     getD (raised counts w) (placeOf v) 0 ≡ getD counts (placeOf v) 0 + cond (eqb (placeOf v) (placeOf w)) 1 0
@@ -85,11 +65,10 @@ length-counted counts (verdict v) = length-raised counts v
 length-counted counts (departed handle size) = refl
 length-counted counts ticked = refl
 
-pub reply-counted : (s : State) (c : Call) (answers : List Answer) → Counted (s .verdicts) answers →
-    Counted ((reply s c) .state .verdicts) (answers ++ (reply s c) .answer ∷ [])
-reply-counted s c answers k =
-    let a = (reply s c) .answer in
-    rw (reply-counts s c) (record {
-      five = length-counted (s .verdicts) a ∙ k .five;
-      each = λ v. omega (arith, times-last v answers a, k .each v, counted-at (s .verdicts) a v (k .five));
-    })
+-- a reply raises the count of its verdict by one, and changes no other
+pub reply-counted : (s : State) (c : Call) (v : Verdict) → length (s .verdicts) ≡ 5 →
+    getD ((reply s c) .state .verdicts) (placeOf v) 0 ≡ getD (s .verdicts) (placeOf v) 0 + cond (isVerdict v ((reply s c) .answer)) 1 0
+reply-counted s c v five = rw (reply-counts s c) (counted-at (s .verdicts) ((reply s c) .answer) v five)
+
+pub reply-five : (s : State) (c : Call) → length (s .verdicts) ≡ 5 → length ((reply s c) .state .verdicts) ≡ 5
+reply-five s c five = rw (reply-counts s c) (length-counted (s .verdicts) ((reply s c) .answer) ∙ five)

@@ -1,6 +1,10 @@
--- Demand 2 over lists of calls.
+-- Demand 2 over lists of calls: the ring is a kind of queue whose calls move packets in order.
+use Rattle.calls.proofs.FirstInFirstOut as general
 use Rattle.guarantees.specs.FirstInFirstOut.{FirstInFirstOut}
-use Rattle.guarantees.proofs.RunKept.{run-kept}
+use Rattle.guarantees.specs.Handed.{ringQueue}
+use Rattle.guarantees.proofs.RingKeeps.{Sound, fresh-empty, fresh-sound, ring-keeps}
 
 pub first-in-first-out : FirstInFirstOut
-first-in-first-out settings clock handles sizes requests e = rw ((run-kept settings clock handles sizes requests e) .order)
+first-in-first-out settings clock handles sizes requests e =
+    general.first-in-first-out ringQueue Sound (ring-keeps .sound) (ring-keeps .order) _ requests
+    (fresh-sound settings clock handles sizes e) (fresh-empty settings clock handles sizes e .queued)

@@ -1,21 +1,15 @@
 -- The proofs of the claims in specs/, each in the file of its name, and what they share.
 pub mod Replies
-pub mod Traces
 pub mod Refusals
 pub mod WhichVerdict
-pub mod Fall
-pub mod Bound
-pub mod Fading
+pub mod RingSheds
 pub mod AllowanceLasts
 pub mod Grace
-pub mod Tallies
 pub mod Recovery
-pub mod Packets
-pub mod Ring
 pub mod Moves
 pub mod Answers
-pub mod RunKept
 pub mod NeverRefused
+pub mod RingKeeps
 pub mod FirstInFirstOut
 pub mod Conservation
 pub mod MeasuredWhileQueued

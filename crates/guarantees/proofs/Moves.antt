@@ -13,12 +13,12 @@ use Rattle.queue.specs.Departure.{departedState, headOf}
 use Rattle.queue.specs.Tick.{tickedState}
 use Rattle.queue.proofs.Admitted.{admitted-room}
 use Rattle.queue.proofs.WhenAccepted.{ArrivalAccepted, DepartureAccepted}
-use Rattle.guarantees.specs.Conservation.{bytesOf}
-use Rattle.guarantees.specs.Handed.{Packet, Queue, Request, admittedBy, after, answerOf, callOf, departedBy, queued, returned}
+use Rattle.calls.specs.Packets.{Packet, Sized, bytesOf}
+use Rattle.calls.specs.Ring.{slot}
+use Rattle.calls.proofs.Ring.{enters, leaves}
+use Rattle.guarantees.specs.Handed.{Queue, Request, admittedBy, after, answerOf, callOf, departedBy, queued, returned}
 use Rattle.guarantees.specs.Handed.{askArrival, askDeparture, askTick}
-use Rattle.guarantees.proofs.Packets.{Sized}
 use Rattle.guarantees.proofs.Replies.{Accepted, acceptance, at-one-reply, refusalOf}
-use Rattle.guarantees.proofs.Ring.{enters, leaves, slot}
 
 -- the packets that enter come after those queued, and those that leave come before those that stay; the bytes move alike
 pub record Moved (q q′ : Queue) (entering leaving : List Packet) : Type 0 where

@@ -1,55 +1,32 @@
 -- Numbers that are not given to a queue that is handed back untouched: its state is well formed, and its head has a size that may leave.
-use mathlib.Core.Path.{_≡_, refl, sym, ap, _∙_}
-use mathlib.Core.Bool.{Bool, true, false, _&&_, _||_, and-false, or-true, false≢true}
+use mathlib.Core.Path.{_≡_, refl}
+use mathlib.Core.Bool.{Bool, true, false}
 use mathlib.Core.Logic.{_≢_}
-use mathlib.Core.List.{List, [], _∷_, List·Memᴰ, List·Memᴰ·head, List·Memᴰ·tail}
-use Prim.Native.Nat.{ℕ, _+_, _-_, _*_, _%_, _<_}
+use mathlib.Core.List.{List, _∷_, List·Memᴰ·head, List·Memᴰ·tail}
+use Prim.Native.Nat.{ℕ, _+_, _-_, _%_, _<_}
 use native.Mathlib.Omega.{arith}
-use borrow.Author.Tests.{eq-eqb, le-ltb, ne-eqb}
-use lib.Dec.{eqb}
 use lib.ListN.{length}
-use Rattle.pie.specs.Constants.{largest}
 use Rattle.queue.specs.declared.State.{State}
 use Rattle.queue.specs.Answer.{refused}
 use Rattle.queue.specs.Departure.{headOf}
-use Rattle.queue.specs.Refusals.{emptyRefused, headRefused}
+use Rattle.refusals.specs.Tests.{headRefused}
+use Rattle.refusals.proofs.Fitting.{fitting-head}
+use Rattle.refusals.proofs.Ordered.{afterFirst, firstTest, past-first, test-fails, testOf}
+use Rattle.queue.specs.Refusals.{emptyRefused}
 use Rattle.queue.specs.State.{wellFormed}
 use Rattle.queue.proofs.Facts.{facts}
 use Rattle.guarantees.specs.Calls.{Call, arrive, depart, update, reply}
-use Rattle.guarantees.specs.Conservation.{bytesOf}
-use Rattle.guarantees.specs.Handed.{Packet, Request, Run, askArrival, askDeparture, askTick, queued}
+use Rattle.calls.specs.Packets.{Packet, Sized, bytesOf}
+use Rattle.calls.specs.Ring.{ring, slot}
+use Rattle.calls.proofs.Packets.{sized-bytes}
+use Rattle.calls.proofs.Ring.{leaves, length-listed}
+use Rattle.guarantees.specs.Handed.{Queue, Request, askArrival, askDeparture, askTick, queued}
 use Rattle.guarantees.specs.Refusals.{Applies, rowsOf}
-use Rattle.guarantees.proofs.Packets.{Sized, sized-bytes}
 use Rattle.guarantees.proofs.Refusals.{calls-refused}
-use Rattle.guarantees.proofs.Ring.{leaves, length-listed, ring, slot}
-use Rattle.guarantees.proofs.RunKept.{Kept}
-
--- whether a test of this number holds
-abbrev pub testOf : (n : ℕ) → List (ℕ × Bool) → Bool
-testOf n [] = false
-testOf n ((number, test) ∷ rows) = (eqb n number && test) || testOf n rows
-
-applies-test : (n : ℕ) (rows : List (ℕ × Bool)) → List·Memᴰ (n, true) rows → testOf n rows ≡ true
-applies-test n ((number, test) ∷ rows) (List·Memᴰ·head e) =
-    rw (eq-eqb n number (ap (λ (r : ℕ × Bool). r .0) e), sym (ap (λ (r : ℕ × Bool). r .1) e))
-applies-test n ((number, test) ∷ rows) (List·Memᴰ·tail m) = rw (applies-test n rows m, or-true)
 
 -- a number whose test fails is not given
 pub not-given : (s : State) (c : Call) (n : ℕ) → testOf n (rowsOf s c) ≡ false → (reply s c) .answer ≢ refused n
-not-given s c n fails e = false≢true (sym fails ∙ applies-test n (rowsOf s c) (calls-refused s c .lowest n e .0))
-
--- of a call's rows: the first one's test, and the others
-abbrev firstTest : List (ℕ × Bool) → Bool
-firstTest [] = false
-firstTest ((number, test) ∷ rows) = test
-
-abbrev pub afterFirst : List (ℕ × Bool) → List (ℕ × Bool)
-afterFirst [] = []
-afterFirst (row ∷ rows) = rows
-
-past-first : (n : ℕ) (rows : List (ℕ × Bool)) → firstTest rows ≡ false → testOf n (afterFirst rows) ≡ false → testOf n rows ≡ false
-past-first n [] e f = refl
-past-first n ((number, test) ∷ rows) e f = rw (e, f, and-false)
+not-given s c n fails e = test-fails n (rowsOf s c) fails (calls-refused s c .lowest n e .0)
 
 well-formed-first : (s : State) (c : Call) → wellFormed s ≡ true → firstTest (rowsOf s c) ≡ false
 well-formed-first s (arrive handles sizes clock handle size ecn u) w = rw w
@@ -83,12 +60,10 @@ at-request P a d t (askArrival clock handle size ecn u) = a clock handle size ec
 at-request P a d t (askDeparture clock) = d clock
 at-request P a d t (askTick clock) = t clock
 
--- the head of a queue that is handed back untouched may leave
-pub head-leaves : (r : Run) → Kept r → r .queue .state .backlog .count ≢ 0 →
-    headRefused (r .queue .state .backlog) (headOf (r .queue .state) (r .queue .sizes)) ≡ false
-unfolding headRefused
-head-leaves r k some =
-    let q = r .queue in
+-- the head of a queue that holds packets of a size that may arrive may leave
+pub head-leaves : (q : Queue) → wellFormed (q .state) ≡ true → q .state .backlog .bytes .0 ≡ bytesOf (queued q) → Sized (queued q) →
+    q .state .backlog .count ≢ 0 → headRefused (q .state .backlog) (headOf (q .state) (q .sizes)) ≡ false
+head-leaves q formed held all-sized some =
     let s = q .state in
     let b = s .backlog .bytes .0 in
     let n = s .backlog .count in
@@ -96,15 +71,15 @@ head-leaves r k some =
     let size = headOf s (q .sizes) in
     let rest : List Packet = ring ((s .first + 1) % slots) slots (q .handles) (q .sizes) (n - 1) in
     let split : queued q ≡ slot (q .handles) (q .sizes) (s .first) ∷ rest
-    = leaves (s .first) slots (q .handles) (q .sizes) (facts s (k .formed) .first-high) n (omega arith) in
-    let sized : Sized (slot (q .handles) (q .sizes) (s .first) ∷ rest) = rw split at (k .sized) in
-    let all : b ≡ size + bytesOf rest = cc (k .bytes, split) in
+    = leaves (s .first) slots (q .handles) (q .sizes) (facts s formed .first-high) n (omega arith) in
+    let sized : Sized (slot (q .handles) (q .sizes) (s .first) ∷ rest) = rw split at all-sized in
+    let all : b ≡ size + bytesOf rest = cc (held, split) in
     let range = sized-bytes rest (sized .2) in
     let others : length rest ≡ n - 1 = length-listed (n - 1) _ in
-    rw (
-      ne-eqb size 0 (omega arith),
-      le-ltb largest size (omega arith),
-      le-ltb b size (omega arith),
-      le-ltb (b - size) (n - 1) (omega arith),
-      le-ltb (largest * (n - 1)) (b - size) (omega arith),
-    )
+    fitting-head (s .backlog) size (record {
+      low = omega arith;
+      high = omega arith;
+      fits = omega arith;
+      left-low = omega arith;
+      left-high = omega arith;
+    })

@@ -1,77 +1,71 @@
--- Demand 3 and question 4: so many ticks on an empty queue, and the queue has recovered.
-use mathlib.Core.Path.{_≡_, refl}
+-- Demand 3 and question 4: the ring sheds load by PIE, and its tally is the general one.
+use mathlib.Core.Path.{_≡_, refl, ap, sym, _∙_}
 use mathlib.Core.Bool.{true}
-use mathlib.Core.List.{[], _∷_, _++_, foldl-append}
-use Prim.Native.Nat.{ℕ, _+_, _≤_, _<_}
+use mathlib.Core.List.{List, [], _∷_, _++_, foldl}
+use Prim.Native.Nat.{ℕ, _≤_}
 use native.Mathlib.Omega.{arith}
-use borrow.Author.Tests.{lt-ltb}
-use Rattle.units.specs.Kinds.{none}
-use Rattle.pie.specs.Constants.{fullAllowance}
-use Rattle.pie.specs.Update.{divisorOf, lookup, nextAllowance, updated}
-use Rattle.pie.specs.declared.Pie.{Pie}
-use Rattle.queue.specs.Answer.{ticked}
+use Rattle.pie.specs.Update.{divisorOf, lookup}
+use Rattle.pie.proofs.IdleStep.{fall}
+use Rattle.pie_guarantees.specs.Recovery as general
+use Rattle.pie_guarantees.proofs.Bound.{bound, floor, worst}
+use Rattle.pie_guarantees.proofs.Recovery as proved
+use Rattle.queue.specs.Answer.{Answer, departed, made, refused, ticked, verdict}
 use Rattle.queue.specs.State.{wellFormed}
-use Rattle.queue.specs.Tick.{tickedState}
 use Rattle.queue.specs.declared.State.{State}
 use Rattle.queue.proofs.Facts.{facts}
-use Rattle.queue.proofs.WhenAccepted.{TickAccepted}
-use Rattle.guarantees.specs.Calls.{Call, Entry, entry, update}
-use Rattle.guarantees.specs.Recovery.{Recovery, RecoversAfter, Tally, noted, nothingYet, tally}
-use Rattle.guarantees.proofs.Bound.{bound, floor, worst}
-use Rattle.guarantees.proofs.Fading.{faded, no-delay, two-or-more}
-use Rattle.pie.proofs.IdleStep.{fall}
-use Rattle.guarantees.proofs.Grace.{ticked-by-limits}
-use Rattle.guarantees.proofs.Replies.{at-reply}
-use Rattle.guarantees.proofs.Tallies.{Told, at-start, counted-empty, reply-told, ticked-told}
-use Rattle.guarantees.proofs.Traces.{cut}
+use Rattle.guarantees.specs.Calls.{Entry}
+use Rattle.guarantees.specs.Recovery.{RecoveredAfter, Recovery, RecoversAfter, Tally, noted, nothingYet, tally}
+use Rattle.guarantees.proofs.AllowanceLasts.{by-limits}
+use Rattle.guarantees.proofs.RingSheds.{clockIn, ring-sheds, ringShedding, tells}
 
--- rule 8 fills the allowance
-refilled : (pie : Pie) (target : ℕ) → 0 < target → pie .old .0 ≡ 0 → (updated pie target 0) .prob .0 ≡ 0 →
-    (updated pie target 0) .allowance .0 ≡ fullAllowance
-unfolding updated nextAllowance
-refilled pie target h old none =
-    rw (none, no-delay (pie .rate .average .0), old, lt-ltb 0 target h)
+-- ── the tallies ──
 
--- if the entry is the last of so many ticks, it returned probability 0 and the allowance full
-abbrev AllClear : (ticks startCount : ℕ) → Tally → Entry → Type 0
-AllClear ticks n t e =
-    (clock : ℕ) → e .call ≡ update clock → e .answer ≡ ticked → ticks ≤ (noted n t (e .answer)) .emptyTicks →
-    (e .returned .pie .prob .0 ≡ none) × (e .returned .pie .allowance .0 ≡ fullAllowance)
+abbrev same : Tally → general.Tally
+same t = record { admissions = t .admissions; departures = t .departures; emptyTicks = t .emptyTicks }
 
-module _ (ticks least : ℕ) (reached : bound least ticks ≡ 0) (n : ℕ) (t : Tally) (s : State) (told : Told least n t s) where
-  ticked-clear : (clock : ℕ) → TickAccepted s clock → ticks ≤ (noted n t ticked) .emptyTicks →
-      ((tickedState s clock) .pie .prob .0 ≡ none) × ((tickedState s clock) .pie .allowance .0 ≡ fullAllowance)
-  unfolding tickedState
-  ticked-clear clock a h =
-      let known = a .known in
-      let two = two-or-more least ticks reached in
-      let c = counted-empty least n t s told known (omega arith) in
-      let p = faded least ticks _ ((tickedState s clock) .pie) reached h (ticked-told least n t s told clock a .within) in
-      (p, rw (c .0) (refilled (s .pie) (s .settings .target .0) (omega arith) (told .within .old-none (omega arith)) (rw (c .0) at p)))
+noted-same : (n : ℕ) (t : Tally) (a : Answer) → general.noted n (same t) (tells a) ≡ same (noted n t a)
+noted-same n t (refused number) = refl
+noted-same n t made = refl
+noted-same n t (verdict v) = refl
+noted-same n t (departed handle size) = refl
+noted-same n t ticked = refl
 
-  all-clear : (c : Call) → AllClear ticks n t (entry s c)
-  all-clear =
-      at-reply s (λ c r. AllClear ticks n t (record { call = c; given = s; answer = r .answer; returned = r .state }))
-      (λ c number clock e f h. (cc, cc))
-      (λ handles sizes clock₁ handle size ecn u a clock e f h. (cc, cc))
-      (λ handles sizes clock₁ a clock e f h. (cc, cc))
-      (λ clock₁ a clock e f h. ticked-clear clock₁ a h)
+tallies-same : (n : ℕ) (t : Tally) (entries : List Entry) →
+    foldl (λ (g : general.Tally) (e : Entry). general.noted n g (tells (e .answer))) (same t) entries
+    ≡ same (foldl (λ (t : Tally) (e : Entry). noted n t (e .answer)) t entries)
+tallies-same n t [] = refl
+tallies-same n t (e ∷ entries) = rw (noted-same n t (e .answer)) (tallies-same n (noted n t (e .answer)) entries)
+
+tally-same : (n : ℕ) (entries : List Entry) → general.tally ringShedding n entries ≡ same (tally n entries)
+tally-same n entries = tallies-same n nothingYet entries
+
+-- ── the theorem ──
+
+recovered : (ticks n : ℕ) (before : List Entry) (e : Entry) (later : List Entry) →
+    general.RecoveredAfter ringShedding ticks n before e later → RecoveredAfter ticks n before e later
+recovered ticks n before e later r =
+    let told = tally-same n before in
+    let more = tally-same n (before ++ e ∷ []) in
+    record {
+      counted = r .counted ∙ ap (general.queuedBy n) told;
+      covered = omega (
+        arith,
+        r .covered,
+        ap (λ (t : general.Tally). t .departures) told,
+        ap (λ (t : general.Tally). t .admissions) told,
+      );
+      recovers =
+          λ t ec ea enough.
+          let c = r .recovers (ap tells ea) (omega (arith, enough, ap (λ (g : general.Tally). g .emptyTicks) more)) in
+          (c .0, λ a m. by-limits _ a (λ v f l. c .1 a m v f (omega (arith, l, ap clockIn ec))));
+    }
 
 -- with a target of at least `least`, once the bound is 0 after so many ticks
 pub recovers-after : (ticks least : ℕ) → bound least ticks ≡ 0 →
     (start : State) → wellFormed start ≡ true → least ≤ start .settings .target .0 → RecoversAfter ticks start
 recovers-after ticks least reached start w h calls before e later q =
-    let n = start .backlog .count in
-    let note : Tally → Entry → Tally = λ t a. noted n t (a .answer) in
-    let k = cut note (Told least n) (λ t s. reply-told least n t s) nothingYet start calls before e later (at-start least start w h) q in
-    let more : tally n (before ++ e ∷ []) ≡ note (tally n before) e = foldl-append note nothingYet before (e ∷ []) in
-    let clear : AllClear ticks n (tally n before) e
-    = rw (← k .replied) (all-clear ticks least reached n (tally n before) (e .given) (k .holds) (e .call)) in
-    record {
-      counted = k .holds .counted;
-      covered = k .holds .covered;
-      recovers = λ t ec ea enough. let c = clear t ec ea (rw more at enough) in (c .0, ticked-by-limits e later t _ k ec ea (omega arith));
-    }
+    recovered ticks (start .backlog .count) before e later
+    (proved.recovers-after ringShedding ring-sheds ticks least reached start w h calls before e later q)
 
 pub recovery : Recovery
 unfolding bound divisorOf fall floor lookup worst

@@ -11,7 +11,7 @@ use Rattle.pie.specs.declared.Verdict.{Verdict}
 use Rattle.queue.specs.Answer.{Reply, departed, refused, ticked, unlessRefused, verdict}
 use Rattle.queue.specs.Arrival.{arrival, arrivalRefusal, arrivedState, verdictOf}
 use Rattle.queue.specs.Departure.{departedState, departure, departureRefusal, headOf}
-use Rattle.queue.specs.Refusals.{firstRefusal}
+use Rattle.refusals.specs.Rows.{firstRefusal}
 use Rattle.queue.specs.State.{wellFormed}
 use Rattle.queue.specs.Tick.{tick, tickRefusal, tickedState}
 use Rattle.queue.specs.declared.State.{State}

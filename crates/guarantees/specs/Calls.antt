@@ -1,10 +1,12 @@
 -- A list of calls, and its trace: each call is given the state that the last one returned.
 use mathlib.Core.Path.{_≡_}
 use mathlib.Core.Bool.{Bool, cond}
-use mathlib.Core.List.{List, [], _∷_}
+use mathlib.Core.List.{List}
 use Prim.Native.Nat.{ℕ, _<_}
 use Rattle.pie.specs.declared.Verdict.{Verdict}
 use Rattle.pie.specs.declared.Verdict.the-variants.{Enqueued, DroppedBytes, DroppedSlots}
+use Rattle.calls.specs.Kind.{Kind}
+use Rattle.calls.specs.Traces as general
 use Rattle.queue.specs.declared.State.{State}
 use Rattle.queue.specs.Answer.{Answer, Reply, verdict}
 use Rattle.queue.specs.Arrival.{arrival, bytesFull, slotsFull}
@@ -22,19 +24,20 @@ reply s (arrive handles sizes clock handle size ecn u) = arrival s handles sizes
 reply s (depart handles sizes clock) = departure s handles sizes clock
 reply s (update clock) = tick s clock
 
+-- the ring queue's states and calls, as a kind (crate calls)
+abbrev pub ringCalls : Kind
+ringCalls =
+    record { State = State; Call = Call; Answer = Answer; answer = λ s c. (reply s c) .answer; next = λ s c. (reply s c) .state }
+
 -- one call of a list, the state that it was given, its answer, and the state that it returned
-pub record Entry : Type 0 where
-  pub call : Call
-  pub given : State
-  pub answer : Answer
-  pub returned : State
+abbrev pub Entry : Type 0
+Entry = general.Entry ringCalls
 
 abbrev pub entry : State → Call → Entry
-entry s c = record { call = c; given = s; answer = (reply s c) .answer; returned = (reply s c) .state }
+entry s c = general.entry ringCalls s c
 
 abbrev pub trace : State → List Call → List Entry
-trace s [] = []
-trace s (c ∷ cs) = entry s c ∷ trace ((reply s c) .state) cs
+trace s calls = general.trace ringCalls s calls
 
 -- the verdict by rules 1 and 2, and enqueued where neither holds
 abbrev pub limitsVerdict : State → (size : ℕ) → Verdict

@@ -1,21 +1,20 @@
 -- Question 3: do the queued bytes equal what went in less what came out? From an accepted fresh call, with state and tables handed back
 -- untouched.
 use mathlib.Core.Path.{_≡_}
-use mathlib.Core.Bool.{Bool, false, cond}
+use mathlib.Core.Bool.{Bool, false}
 use mathlib.Core.Logic.{_≢_}
-use mathlib.Core.List.{List, [], _∷_, map}
-use Prim.Native.Nat.{ℕ, _+_, _-_, _≤_}
+use mathlib.Core.List.{List}
+use Prim.Native.Nat.{ℕ, _-_, _≤_}
 use lib.Dec.{eqb}
 use lib.ListN.{getD, length}
-use Rattle.pie.specs.Verdicts.{placeOf, total}
+use Rattle.calls.specs.Conservation.{timesGiven}
+use Rattle.calls.specs.Packets.{bytesOf}
+use Rattle.pie.specs.Verdicts.{placeOf}
 use Rattle.pie.specs.declared.Verdict.{Verdict}
 use Rattle.queue.specs.declared.Settings.{Settings}
 use Rattle.queue.specs.Answer.{Answer, departed, made, refused, ticked, verdict}
 use Rattle.queue.specs.Fresh.{fresh}
-use Rattle.guarantees.specs.Handed.{Packet, Request, Run, answerOf, queued, run}
-
-abbrev pub bytesOf : List Packet → ℕ
-bytesOf packets = total (map (λ p. p .size) packets)
+use Rattle.guarantees.specs.Handed.{Request, Run, answerOf, queued, run}
 
 abbrev pub isVerdict : Verdict → Answer → Bool
 isVerdict v (refused number) = false
@@ -26,8 +25,7 @@ isVerdict v ticked = false
 
 -- how many arrivals were answered so
 abbrev pub timesAnswered : Verdict → List Answer → ℕ
-timesAnswered v [] = 0
-timesAnswered v (a ∷ rest) = cond (isVerdict v a) 1 0 + timesAnswered v rest
+timesAnswered v answers = timesGiven (isVerdict v) answers
 
 pub record Conserved (r : Run) : Type 0 where
   -- queued bytes = bytes admitted − bytes departed, a true difference; and so the count

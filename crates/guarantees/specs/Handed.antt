@@ -1,9 +1,12 @@
 -- A queue whose state and tables are handed back untouched at each call, from a fresh one, and what its calls admitted, handed out and
 -- answered.
 use mathlib.Core.Bool.{Bool, cond}
-use mathlib.Core.List.{List, [], _∷_, _++_, foldl}
-use Prim.Native.Nat.{ℕ, zero, suc, _+_, _%_}
-use lib.ListN.{getD}
+use mathlib.Core.List.{List, [], _∷_, foldl}
+use Prim.Native.Nat.{ℕ}
+use Rattle.calls.specs.Handed as general
+use Rattle.calls.specs.Handed.{QueueKind}
+use Rattle.calls.specs.Packets.{Packet}
+use Rattle.calls.specs.Ring.{ring}
 use Rattle.queue.specs.declared.Settings.{Settings}
 use Rattle.queue.specs.declared.State.{State}
 use Rattle.queue.specs.Answer.{Answer, Reply, admits, departed, made, refused, ticked, verdict}
@@ -11,30 +14,15 @@ use Rattle.queue.specs.Arrival.{stored}
 use Rattle.queue.specs.Fresh.{fresh}
 use Rattle.guarantees.specs.Calls.{Call, arrive, depart, update, reply}
 
-pub record Packet : Type 0 where
-  pub handle : ℕ
-  pub size : ℕ
-
 -- the state and the two tables
 pub record Queue : Type 0 where
   pub state : State
   pub handles : List ℕ
   pub sizes : List ℕ
 
--- the packet at place i of the ring
-abbrev pub packetAt : Queue → (i : ℕ) → Packet
-packetAt q i =
-    let place = (q .state .first + i) % q .state .settings .slots in
-    record { handle = getD (q .handles) place 0; size = getD (q .sizes) place 0 }
-
--- f 0, f 1, ..: n of them
-abbrev pub listed : {A : Type 0} → ℕ → (ℕ → A) → List A
-listed zero f = []
-listed (suc n) f = f 0 ∷ listed n (λ i. f (suc i))
-
 -- the queued packets, head first
 abbrev pub queued : Queue → List Packet
-queued q = listed (q .state .backlog .count) (packetAt q)
+queued q = ring (q .state .first) (q .state .settings .slots) (q .handles) (q .sizes) (q .state .backlog .count)
 
 -- a call as it is asked for: the queue's own tables are lent to it
 pub data Request : Type 0 where
@@ -81,31 +69,26 @@ departedBy (verdict v) = []
 departedBy (departed handle size) = record { handle = handle; size = size } ∷ []
 departedBy ticked = []
 
+-- the ring queue as a kind of queue that is handed back (crate calls)
+abbrev pub ringQueue : QueueKind
+ringQueue =
+    record {
+      kind = record { State = Queue; Call = Request; Answer = Answer; answer = answerOf; next = after };
+      queued = queued;
+      admittedBy = admittedBy;
+      departedBy = departedBy;
+    }
+
 -- a queue, with all that was admitted, departed and answered since it was fresh, in order
-pub record Run : Type 0 where
-  pub queue : Queue
-  pub admitted : List Packet
-  pub departed : List Packet
-  pub answers : List Answer
+abbrev pub Run : Type 0
+Run = general.Run ringQueue
 
 abbrev pub step : Run → Request → Run
-step r q =
-    let a = answerOf (r .queue) q in
-    record {
-      queue = after (r .queue) q;
-      admitted = r .admitted ++ admittedBy q a;
-      departed = r .departed ++ departedBy a;
-      answers = r .answers ++ a ∷ [];
-    }
+step r q = general.step ringQueue r q
 
 abbrev pub begin : Settings → (clock : ℕ) (handles sizes : List ℕ) → Run
 begin settings clock handles sizes =
-    record {
-      queue = record { state = (fresh settings clock) .state; handles = handles; sizes = sizes };
-      admitted = [];
-      departed = [];
-      answers = [];
-    }
+    general.begin ringQueue (record { state = (fresh settings clock) .state; handles = handles; sizes = sizes })
 
 abbrev pub run : Settings → (clock : ℕ) (handles sizes : List ℕ) → List Request → Run
 run settings clock handles sizes requests = foldl step (begin settings clock handles sizes) requests

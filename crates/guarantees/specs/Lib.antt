@@ -17,7 +17,6 @@ pub mod Calls
 pub mod Handed
 pub mod Refusals
 pub mod WhichVerdict
-pub mod Fading
 pub mod AllowanceLasts
 pub mod Grace
 pub mod Recovery

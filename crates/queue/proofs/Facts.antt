@@ -6,12 +6,12 @@ use Prim.Native.Nat.{ℕ, _*_, _≤_, _<_}
 use lib.Dec.{eqb}
 use lib.ListN.{getD}
 use borrow.Author.Tests.{le-leb, leb-true, lt-ltb, ltb-true}
+use Rattle.laws.proofs.TestLists.{all-at}
 use Rattle.units.specs.Kinds.{whole}
 use Rattle.pie.specs.Constants.{fullAllowance, largest, latest, longest, mostAccumulated, mostVerdicts, threshold}
 use Rattle.pie.specs.Verdicts.{total}
 use Rattle.queue.specs.State.{settingsConditions, stateConditions, wellFormed}
 use Rattle.queue.specs.declared.State.{State}
-use Rattle.queue.proofs.Tests.{all-at}
 
 pub record Facts (s : State) : Type 0 where
   pub target-low : 1000 ≤ s .settings .target .0

@@ -27,13 +27,14 @@ use Rattle.queue.specs.Arrival.{arrivedPie, arrivedState, bytesFull, slo
 use Rattle.queue.specs.Departure.{departedState}
 use Rattle.queue.specs.Fresh.{fresh, freshState}
 use Rattle.queue.specs.Refusals.{settingsRefused}
-use Rattle.queue.specs.State.{all, settingsConditions, wellFormed}
+use Rattle.laws.specs.Tests.{all}
+use Rattle.laws.proofs.TestLists.{all-at}
+use Rattle.queue.specs.State.{settingsConditions, wellFormed}
 use Rattle.queue.specs.Tick.{tickedState}
 use Rattle.queue.specs.declared.Settings.{Settings}
 use Rattle.queue.specs.declared.State.{State}
 use Rattle.queue.proofs.Admitted.{admitted-room}
 use Rattle.queue.proofs.Facts.{Facts, well-formed}
-use Rattle.queue.proofs.Tests.{all-at}
 use Rattle.queue.proofs.WhenAccepted.{ArrivalAccepted, DepartureAccepted, TickAccepted}
 
 -- ── the facts of a state, part by part ──

@@ -1,9 +1,6 @@
 -- Laws about the queue's definitions, for the functions' proofs and for the theorems over lists of calls.
-pub mod Tests
 pub mod Facts
-pub mod FiveCounts
 pub mod WhenAccepted
 pub mod Replies
 pub mod Admitted
 pub mod Kept
-pub mod Places

@@ -7,13 +7,14 @@ use native.Mathlib.Omega.{arith}
 use lib.ListN.{length, set}
 use Rattle.pie.specs.Verdicts.{admitted}
 use Rattle.pie.specs.declared.Verdict.{Verdict}
-use Rattle.queue.specs.Answer.{Reply, departed, handleIn, numberOf, refusalIn, refused, sizeIn, unlessRefused, verdict}
+use Rattle.queue.specs.Answer.{Reply, departed, handleIn, refused, sizeIn, unlessRefused, verdict}
 use Rattle.queue.specs.Arrival.{arrival, arrivalRefusal, arrivedState, stored, tailPlace, verdictOf}
 use Rattle.queue.specs.Departure.{departedState, departure, departureRefusal, headOf}
-use Rattle.queue.specs.declared.Accepted.{Accepted}
-use Rattle.queue.specs.declared.Accepted.the-variants.{No, Yes}
-use Rattle.queue.specs.declared.Refusal.{Refusal}
-use Rattle.queue.specs.declared.Refusal.the-variants.{Settings, Malformed, Tables, Clock, TooSoon, Empty, Size, Counts, Head}
+use Rattle.refusals.specs.Numbers.{numberOf, refusalIn}
+use Rattle.refusals.specs.declared.Accepted.{Accepted}
+use Rattle.refusals.specs.declared.Accepted.the-variants.{No, Yes}
+use Rattle.refusals.specs.declared.Refusal.{Refusal}
+use Rattle.refusals.specs.declared.Refusal.the-variants.{Settings, Malformed, Tables, Clock, TooSoon, Empty, Size, Counts, Head}
 use Rattle.queue.specs.declared.State.{State}
 
 pub refused-reply : (r : Refusal) (given : State) (accepted : Reply) →

@@ -9,15 +9,15 @@ use borrow.Author.Tests.{eqb-false, eqb-true, ltb-false, not-false}
 use Rattle.laws.proofs.Tests.{and-left, and-right, or-neither}
 use Rattle.pie.specs.Constants.{largest, latest, mostVerdicts, period}
 use Rattle.pie.specs.Verdicts.{total}
-use Rattle.pie.specs.declared.Backlog.{Backlog}
 use Rattle.queue.specs.Arrival.{arrivalRefusal, arrivalRefusals}
 use Rattle.queue.specs.Departure.{departureRefusal, departureRefusals}
-use Rattle.queue.specs.Refusals.{clockRefused, headRefused, sizeRefused, tablesRefused}
+use Rattle.refusals.proofs.Fitting.{head-fits, size-in-range}
+use Rattle.refusals.proofs.Ordered.{none-refuses}
+use Rattle.queue.specs.Refusals.{clockRefused, tablesRefused}
 use Rattle.queue.specs.State.{wellFormed}
 use Rattle.queue.specs.Tick.{tickRefusal, tickRefusals}
 use Rattle.queue.specs.declared.State.{State}
 use Rattle.queue.proofs.Facts.{Facts, facts}
-use Rattle.queue.proofs.Tests.{none-refuses}
 
 pub record ArrivalAccepted (s : State) (handlesLength sizesLength clock size : ℕ) : Type 0 where
   pub formed : wellFormed s ≡ true
@@ -65,32 +65,6 @@ clock-in-order : (s : State) (clock : ℕ) → clockRefused s clock ≡ false �
 clock-in-order s clock e =
     let n = or-neither (ltb clock (s .clock .0)) (ltb latest clock) e in
     (ltb-false _ _ (n .0), ltb-false _ _ (n .1))
-
-size-in-range : (size : ℕ) → sizeRefused size ≡ false → (1 ≤ size) × (size ≤ largest)
-size-in-range size e =
-    let n = or-neither (eqb size 0) (ltb largest size) e in
-    let some : size ≢ 0 = eqb-false size 0 (n .0) in
-    (omega arith, ltb-false _ _ (n .1))
-
-pub record HeadFits (b : Backlog) (size : ℕ) : Type 0 where
-  pub low : 1 ≤ size
-  pub high : size ≤ largest
-  pub fits : size ≤ b .bytes .0
-  pub left-low : b .count - 1 ≤ b .bytes .0 - size
-  pub left-high : b .bytes .0 - size ≤ largest * (b .count - 1)
-
-pub head-fits : (b : Backlog) (size : ℕ) → headRefused b size ≡ false → HeadFits b size
-unfolding headRefused
-head-fits b size e =
-    let wrong = sizeRefused size in
-    let over = ltb (b .bytes .0) size in
-    let below = ltb (b .bytes .0 - size) (b .count - 1) in
-    let above = ltb (largest * (b .count - 1)) (b .bytes .0 - size) in
-    let n = or-neither (wrong || over || below) above e in
-    let m = or-neither (wrong || over) below (n .0) in
-    let l = or-neither wrong over (m .0) in
-    let range = size-in-range size (l .0) in
-    record { low = range .0; high = range .1; fits = ltb-false _ _ (l .1); left-low = ltb-false _ _ (m .1); left-high = ltb-false _ _ (n .1) }
 
 -- ── the calls ──
 

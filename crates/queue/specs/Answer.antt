@@ -4,28 +4,15 @@ use mathlib.Core.List.{List}
 use Prim.Native.Nat.{ℕ, zero, suc}
 use Rattle.pie.specs.declared.Verdict.{Verdict}
 use Rattle.pie.specs.Verdicts.{admitted}
-use Rattle.queue.specs.declared.Accepted.{Accepted}
-use Rattle.queue.specs.declared.Accepted.the-variants.{Yes, No}
+use Rattle.refusals.specs.Numbers.{numberOf}
+use Rattle.refusals.specs.declared.Accepted.{Accepted}
+use Rattle.refusals.specs.declared.Accepted.the-variants.{Yes, No}
 use Rattle.queue.specs.declared.ArrivalAnswer.{ArrivalAnswer}
 use Rattle.queue.specs.declared.ArrivalAnswer.the-variants.{Decided, Refused}
 use Rattle.queue.specs.declared.Arrived.{Arrived}
 use Rattle.queue.specs.declared.Departed.{Departed}
-use Rattle.queue.specs.declared.Refusal.{Refusal}
-use Rattle.queue.specs.declared.Refusal.the-variants.{Settings, Malformed, Tables, Clock, TooSoon, Empty, Size, Counts, Head}
 use Rattle.queue.specs.declared.Returned.{Returned}
 use Rattle.queue.specs.declared.State.{State}
-
--- the refusal numbers
-abbrev pub numberOf : Refusal → ℕ
-numberOf Settings = 1
-numberOf Malformed = 2
-numberOf Tables = 3
-numberOf Clock = 4
-numberOf TooSoon = 5
-numberOf Empty = 6
-numberOf Size = 7
-numberOf Counts = 8
-numberOf Head = 9
 
 pub data Answer : Type 0 where
   -- any call, with the number
@@ -73,11 +60,6 @@ sizeIn (departed handle size) = size
 sizeIn ticked = 0
 
 -- ── what the library's own values say ──
-
--- the number of a refusal, and 0 where there is none
-abbrev pub refusalIn : Accepted → ℕ
-refusalIn Yes = 0
-refusalIn (No r) = numberOf r
 
 -- an answer that is `accepted` unless it is a refusal
 abbrev pub acceptedAnswer : Accepted → (accepted : Answer) → Answer

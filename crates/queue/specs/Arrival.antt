@@ -11,8 +11,10 @@ use Rattle.pie.specs.Verdicts.{admitted, raised}
 use Rattle.pie.specs.declared.Pie.{Pie}
 use Rattle.pie.specs.declared.Verdict.{Verdict}
 use Rattle.pie.specs.declared.Verdict.the-variants.{DroppedBytes, DroppedSlots}
+use Rattle.refusals.specs.Rows.{firstRefusal}
+use Rattle.refusals.specs.Tests.{sizeRefused}
 use Rattle.queue.specs.Answer.{Answer, Reply, admits, unlessRefused, verdict}
-use Rattle.queue.specs.Refusals.{clockRefused, countsRefused, firstRefusal, sizeRefused, stateRefused, tablesRefused}
+use Rattle.queue.specs.Refusals.{clockRefused, countsRefused, stateRefused, tablesRefused}
 use Rattle.queue.specs.declared.State.{State}
 
 abbrev pub arrivalRefusals : State → (handlesLength sizesLength clock size : ℕ) → List (ℕ × Bool)

@@ -7,8 +7,10 @@ use Rattle.units.specs.Kinds.{micros}
 use Rattle.pie.specs.Backlog.{left}
 use Rattle.pie.specs.DepartureRate.{rateAfter}
 use Rattle.pie.specs.declared.Pie.{Pie}
+use Rattle.refusals.specs.Rows.{firstRefusal}
+use Rattle.refusals.specs.Tests.{headRefused}
 use Rattle.queue.specs.Answer.{Reply, departed, unlessRefused}
-use Rattle.queue.specs.Refusals.{clockRefused, emptyRefused, firstRefusal, headRefused, stateRefused, tablesRefused}
+use Rattle.queue.specs.Refusals.{clockRefused, emptyRefused, stateRefused, tablesRefused}
 use Rattle.queue.specs.declared.State.{State}
 
 -- the head's entry in a table

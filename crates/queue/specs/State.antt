@@ -1,17 +1,14 @@
 -- Which state records are well formed (document 01, 'The state record').
-use mathlib.Core.Bool.{Bool, true, not, _&&_, _||_}
-use mathlib.Core.List.{List, [], _∷_, _++_, foldl}
+use mathlib.Core.Bool.{Bool, not, _&&_, _||_}
+use mathlib.Core.List.{List, [], _∷_, _++_}
 use Prim.Native.Nat.{ℕ, _*_, _^_}
 use lib.Dec.{leb, ltb, eqb}
+use Rattle.laws.specs.Tests.{all}
 use Rattle.units.specs.Kinds.{whole}
 use Rattle.pie.specs.Constants.{fullAllowance, largest, latest, longest, mostAccumulated, mostVerdicts, threshold}
 use Rattle.pie.specs.Verdicts.{total}
 use Rattle.queue.specs.declared.Settings.{Settings}
 use Rattle.queue.specs.declared.State.{State}
-
--- every test of the list passes
-abbrev pub all : List Bool → Bool
-all tests = foldl _&&_ true tests
 
 -- target, buffer and slots in range
 abbrev pub settingsConditions : Settings → List Bool

@@ -4,8 +4,9 @@ use mathlib.Core.List.{List, [], _∷_}
 use Prim.Native.Nat.{ℕ}
 use Rattle.units.specs.Kinds.{micros}
 use Rattle.pie.specs.Update.{updated}
+use Rattle.refusals.specs.Rows.{firstRefusal}
 use Rattle.queue.specs.Answer.{Reply, ticked, unlessRefused}
-use Rattle.queue.specs.Refusals.{clockRefused, tooSoonRefused, firstRefusal, stateRefused}
+use Rattle.queue.specs.Refusals.{clockRefused, tooSoonRefused, stateRefused}
 use Rattle.queue.specs.declared.State.{State}
 
 abbrev pub tickRefusals : State → (clock : ℕ) → List (ℕ × Bool)

@@ -1,43 +1,30 @@
 // An arrival.
-use crate::Accepted;
 use crate::ArrivalAnswer;
 use crate::Arrived;
-use crate::Refusal;
 use crate::State;
-use crate::ring::place;
 use pie::Decided;
 use pie::LARGEST;
 use pie::LATEST;
-use pie::MOST_VERDICTS;
 use pie::Pie;
 use pie::Verdict;
 use pie::raise;
+use refusals::Accepted;
+use refusals::Refusal;
+use refusals::counts_full;
+use ring::store;
 use units::Bytes;
 use units::Micros;
 use units::Prob;
 ghost use mathlib.Core.Path.{_≡_};
 ghost use mathlib.Core.Bool.{cond, true};
 ghost use Prim.Native.Nat.{_≤_, _<_};
-ghost use lib.Dec.{eqb};
 ghost use lib.ListN.{length, set};
 ghost use Rattle.pie.specs.Constants.{largest, mostVerdicts};
 ghost use Rattle.pie.specs.Verdicts.{admitted, total};
 ghost use Rattle.queue.specs.State.{wellFormed};
-ghost use Rattle.queue.specs.Answer.{arrivalReply, refusalIn};
+ghost use Rattle.refusals.specs.Numbers.{refusalIn};
+ghost use Rattle.queue.specs.Answer.{arrivalReply};
 ghost use Rattle.queue.specs.Arrival.{arrival, arrivalRefusal, arrivedPie, arrivedState, stored, tailPlace, verdictOf};
-
-// Whether the five counts, whose sum is in range, sum to 2^48.
-pub fn counts_full(counts: [u64; 5]) -> bool
-    requires { ⌜ total counts ≤ mostVerdicts ⌝ }
-    ensures { λ r. ⌜ r ≡ eqb (total counts) mostVerdicts ⌝ }
-{
-    let a = counts[0];
-    let b = counts[1];
-    let c = counts[2];
-    let d = counts[3];
-    let e = counts[4];
-    e == MOST_VERDICTS - a - b - c - d
-}
 
 impl State {
     // Refusals 2, 3, 4, 7 and 8.
@@ -141,9 +128,15 @@ impl State {
     {
         let admits = v.admits();
         if admits {
-            let at = place(self.first, self.backlog.count, self.settings.slots) as usize;
-            handles[at] = handle;
-            sizes[at] = size;
+            store(
+                handles,
+                sizes,
+                self.first,
+                self.backlog.count,
+                self.settings.slots,
+                handle,
+                size,
+            );
         }
     }
 

@@ -1,13 +1,12 @@
 // A departure.
-use crate::Accepted;
 use crate::Departed;
-use crate::Refusal;
 use crate::State;
-use crate::ring::place;
-use pie::Backlog;
-use pie::LARGEST;
 use pie::LATEST;
 use pie::Pie;
+use refusals::Accepted;
+use refusals::Refusal;
+use refusals::wrong_head;
+use ring::place;
 use units::Bytes;
 use units::Micros;
 ghost use mathlib.Core.Path.{_≡_};
@@ -16,23 +15,9 @@ ghost use Prim.Native.Nat.{_≤_, _<_};
 ghost use lib.ListN.{getD, length};
 ghost use Rattle.pie.specs.Constants.{largest};
 ghost use Rattle.queue.specs.State.{wellFormed};
-ghost use Rattle.queue.specs.Answer.{departureReply, handleIn, refusalIn, sizeIn};
-ghost use Rattle.queue.specs.Refusals.{headRefused};
+ghost use Rattle.refusals.specs.Numbers.{refusalIn};
+ghost use Rattle.queue.specs.Answer.{departureReply, handleIn, sizeIn};
 ghost use Rattle.queue.specs.Departure.{departedState, departure, departureRefusal, headOf};
-
-// Refusal 9: the head cannot be of this size.
-pub fn wrong_head(backlog: Backlog, size: u64) -> bool
-    requires { ⌜ (0 < backlog .count) × (backlog .count ≤ 65536) ⌝ }
-    ensures { λ r. ⌜ r ≡ headRefused backlog size ⌝ }
-{
-    let bytes = backlog.bytes.0;
-    if bytes < size {
-        return true;
-    }
-    let left = bytes - size;
-    let others = backlog.count - 1;
-    (size == 0) | (LARGEST < size) | (left < others) | (LARGEST * others < left)
-}
 
 impl State {
     // Refusals 2, 3, 4, 6 and 9.

@@ -1,6 +1,4 @@
 // A fresh state.
-use crate::Accepted;
-use crate::Refusal;
 use crate::Returned;
 use crate::Settings;
 use crate::State;
@@ -9,6 +7,8 @@ use pie::FULL_ALLOWANCE;
 use pie::LATEST;
 use pie::Pie;
 use pie::Rate;
+use refusals::Accepted;
+use refusals::Refusal;
 use units::Bytes;
 use units::Micros;
 use units::Prob;

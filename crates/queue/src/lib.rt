@@ -2,14 +2,14 @@
 use pie::Backlog;
 use pie::Pie;
 use pie::Verdict;
+use refusals::Accepted;
+use refusals::Refusal;
 use units::Bytes;
 use units::Micros;
 
 mod arriving;
 mod departing;
 mod fresh;
-mod refusing;
-mod ring;
 mod ticking;
 mod well_formed;
 
@@ -30,24 +30,6 @@ pub struct State {
     pub first: u64,
     // One count for each kind of verdict, in the order of `Verdict`.
     pub verdicts: [u64; 5],
-}
-
-// One case for each refusal number, in order, from 1.
-pub enum Refusal {
-    Settings,
-    Malformed,
-    Tables,
-    Clock,
-    TooSoon,
-    Empty,
-    Size,
-    Counts,
-    Head,
-}
-
-pub enum Accepted {
-    Yes,
-    No(Refusal),
 }
 
 pub enum ArrivalAnswer {
@@ -73,8 +55,3 @@ pub struct Departed {
     pub size: u32,
     pub state: State,
 }
-
-pub use arriving::counts_full;
-pub use departing::wrong_head;
-pub use ring::place;
-pub use well_formed::counts_fit;

@@ -1,15 +1,16 @@
 // A tick.
-use crate::Accepted;
-use crate::Refusal;
 use crate::Returned;
 use crate::State;
 use pie::LATEST;
 use pie::PERIOD;
+use refusals::Accepted;
+use refusals::Refusal;
 use units::Micros;
 ghost use mathlib.Core.Path.{_≡_};
 ghost use mathlib.Core.Bool.{true};
 ghost use Rattle.queue.specs.State.{wellFormed};
-ghost use Rattle.queue.specs.Answer.{refusalIn, tickReply};
+ghost use Rattle.refusals.specs.Numbers.{refusalIn};
+ghost use Rattle.queue.specs.Answer.{tickReply};
 ghost use Rattle.queue.specs.Tick.{tick, tickRefusal, tickedState};
 
 impl State {

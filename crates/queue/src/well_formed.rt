@@ -6,41 +6,17 @@ use pie::LARGEST;
 use pie::LATEST;
 use pie::LONGEST;
 use pie::MOST_ACCUMULATED;
-use pie::MOST_VERDICTS;
 use pie::Rate;
 use pie::THRESHOLD;
+use refusals::counts_fit;
 use units::Micros;
 use units::Prob;
 ghost use mathlib.Core.Path.{_≡_};
 ghost use mathlib.Core.Bool.{_&&_, _||_, not};
 ghost use lib.Dec.{eqb, leb, ltb};
-ghost use Rattle.pie.specs.Constants.{mostVerdicts, threshold};
-ghost use Rattle.pie.specs.Verdicts.{total};
-ghost use Rattle.queue.specs.State.{all, settingsConditions, wellFormed};
-
-// Whether the five counts sum to at most 2^48: what is left of it after each of them.
-pub fn counts_fit(counts: [u64; 5]) -> bool
-    ensures { λ r. ⌜ r ≡ leb (total counts) mostVerdicts ⌝ }
-{
-    let a = counts[0];
-    let b = counts[1];
-    let c = counts[2];
-    let d = counts[3];
-    let e = counts[4];
-    if MOST_VERDICTS < a {
-        return false;
-    }
-    if MOST_VERDICTS - a < b {
-        return false;
-    }
-    if MOST_VERDICTS - a - b < c {
-        return false;
-    }
-    if MOST_VERDICTS - a - b - c < d {
-        return false;
-    }
-    e <= MOST_VERDICTS - a - b - c - d
-}
+ghost use Rattle.laws.specs.Tests.{all};
+ghost use Rattle.pie.specs.Constants.{threshold};
+ghost use Rattle.queue.specs.State.{settingsConditions, wellFormed};
 
 impl Settings {
     pub fn in_range(self) -> bool

@@ -11,7 +11,7 @@ use Rattle.pie.specs.Verdicts.{raised}
 use Rattle.queue.specs.Arrival.{arrival, arrivalRefusal, arrivedState, verdictOf}
 use Rattle.queue.specs.Departure.{departedState, departure, departureRefusal}
 use Rattle.queue.specs.Fresh.{fresh}
-use Rattle.queue.specs.Refusals.{headRefused}
+use Rattle.refusals.specs.Tests.{headRefused}
 use Rattle.queue.specs.State.{wellFormed}
 use Rattle.queue.specs.Tick.{tick, tickRefusal, tickedState}
 use Rattle.script.specs.Answering.{firstLine, laterLine, outcome}

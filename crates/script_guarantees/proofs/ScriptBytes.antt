@@ -5,9 +5,9 @@ use Prim.Native.Nat.{_+_}
 use native.Mathlib.Omega.{arith}
 use Rattle.queue.specs.declared.State.{State}
 use Rattle.guarantees.specs.Calls.{Entry}
-use Rattle.guarantees.specs.Conservation.{bytesOf}
+use Rattle.calls.specs.Packets.{bytesOf}
 use Rattle.guarantees.specs.Handed.{queued}
-use Rattle.guarantees.proofs.Packets.{bytes-append}
+use Rattle.calls.proofs.Packets.{bytes-append}
 use Rattle.script_guarantees.specs.Asked.{asked}
 use Rattle.script_guarantees.specs.RunTrace.{stateAfter}
 use Rattle.script_guarantees.specs.ScriptBytes.{ScriptBytes}

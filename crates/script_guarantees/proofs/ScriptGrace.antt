@@ -4,10 +4,10 @@ use mathlib.Core.List.{List, _∷_, _++_, List·Memᴰ}
 use Prim.Native.Nat.{ℕ, _+_}
 use native.Mathlib.Omega.{arith}
 use Rattle.pie.specs.Constants.{fullAllowance}
-use Rattle.guarantees.specs.Calls.{ByLimitsBefore, Entry}
+use Rattle.guarantees.specs.Calls.{ByLimitsBefore, Entry, ringCalls}
 use Rattle.guarantees.specs.Handed.{Request}
 use Rattle.guarantees.proofs.Grace.{ticked-by-limits}
-use Rattle.guarantees.proofs.Traces.{cut}
+use Rattle.calls.proofs.Traces.{cut}
 use Rattle.script_guarantees.specs.Asked.{asked}
 use Rattle.script_guarantees.specs.Entries.{callsOf, opened, traceOf}
 use Rattle.script_guarantees.specs.ScriptGrace.{ScriptGrace}
@@ -23,5 +23,5 @@ script-grace input before e later t h ec ea full = by-entries (λ es. es ≡ bef
         Lasts t later
     go target buffer slots requests q =
         let o = opened target buffer slots in
-        let k = cut (λ n x. tt) (λ n s. Unit {0}) (λ n s h c. tt) (tt {0}) (o .state) (callsOf o requests) before e later tt q in
+        let k = cut ringCalls (λ n x. tt) (λ n s. Unit {0}) (λ n s h c. tt) (tt {0}) (o .state) (callsOf o requests) before e later tt q in
         ticked-by-limits e later t _ k ec ea (omega arith)

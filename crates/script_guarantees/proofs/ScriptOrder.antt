@@ -1,7 +1,8 @@
 -- Demand 2 for scripts: what waits is what the run has queued.
 use mathlib.Core.Path.{sym, _∙_, ap}
 use mathlib.Core.List.{List, _++_}
-use Rattle.guarantees.specs.Handed.{Packet, queued}
+use Rattle.calls.specs.Packets.{Packet}
+use Rattle.guarantees.specs.Handed.{queued}
 use Rattle.script_guarantees.specs.Asked.{asked}
 use Rattle.script_guarantees.specs.ScriptOrder.{ScriptOrder}
 use Rattle.script_guarantees.proofs.Sound.{part-of}

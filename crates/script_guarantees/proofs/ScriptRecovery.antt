@@ -7,11 +7,11 @@ use Rattle.queue.specs.Answer.{Reply, made, refused, ticked}
 use Rattle.queue.specs.Fresh.{fresh, settingsOf, zeroState}
 use Rattle.queue.specs.declared.State.{State}
 use Rattle.queue.proofs.Kept.{fresh-well-formed, made-accepted}
-use Rattle.guarantees.specs.Calls.{Call, Entry, entry, reply}
+use Rattle.guarantees.specs.Calls.{Call, Entry, entry, reply, ringCalls}
 use Rattle.guarantees.specs.Handed.{Request}
 use Rattle.guarantees.specs.Recovery.{RecoveredAfter, Tally, noted, nothingYet, tally}
 use Rattle.guarantees.proofs.Recovery.{recovery}
-use Rattle.guarantees.proofs.Traces.{cut}
+use Rattle.calls.proofs.Traces.{cut}
 use Rattle.script_guarantees.specs.Asked.{asked}
 use Rattle.script_guarantees.specs.Entries.{callsOf, opened, traceOf}
 use Rattle.script_guarantees.specs.ScriptRecovery.{ScriptRecovery}
@@ -53,7 +53,7 @@ script-recovery input before e later = by-entries (λ es. es ≡ before ++ e ∷
         (λ m. rw (empty-start target buffer slots m) at (recovery (o .state) (fresh-well-formed _ 0 m) calls before e later q))
         (λ z.
         let start : Still nothingYet (o .state) = record { state = z; none = refl } in
-        let k = cut (λ t a. noted 0 t (a .answer)) Still still-kept nothingYet (o .state) calls before e later start q in
+        let k = cut ringCalls (λ t a. noted 0 t (a .answer)) Still still-kept nothingYet (o .state) calls before e later start q in
         let still : tally 0 before ≡ nothingYet = k .holds .none in
         record {
           counted = rw (k .holds .state, still);

@@ -11,15 +11,16 @@ use Rattle.laws.specs.Every.{Every}
 use Rattle.laws.proofs.Choice.{at-cond, either}
 use Rattle.queue.specs.Answer.{Reply, made, refused}
 use Rattle.queue.specs.Fresh.{fresh, settingsOf, zeroState}
-use Rattle.queue.specs.Refusals.{firstRefusal, settingsRefused, tablesRefused}
+use Rattle.refusals.specs.Rows.{firstRefusal}
+use Rattle.queue.specs.Refusals.{settingsRefused, tablesRefused}
 use Rattle.queue.specs.declared.State.{State}
 use Rattle.queue.proofs.Kept.{made-accepted}
-use Rattle.guarantees.specs.Calls.{Entry, reply}
+use Rattle.guarantees.specs.Calls.{Entry, reply, ringCalls}
 use Rattle.guarantees.specs.Handed.{Queue, Request, Run, answerOf, askArrival, askDeparture, askTick, begin, callOf, step}
 use Rattle.guarantees.specs.Refusals.{rowsOf}
 use Rattle.guarantees.proofs.Conservation.{conservation}
 use Rattle.guarantees.proofs.Replies.{numberGiven, refused-by-number}
-use Rattle.guarantees.proofs.Traces.{along}
+use Rattle.calls.proofs.Traces.{along}
 use Rattle.script_guarantees.specs.Asked.{started}
 use Rattle.script_guarantees.specs.Entries.{callsOf, entriesOf, opened, traceOf}
 use Rattle.script_guarantees.specs.ScriptRefusals.{NotByThese, ScriptRefusals}
@@ -119,7 +120,7 @@ module _ (target buffer slots : ℕ) where
       (e : Entry) → List·Memᴰ e (traceOf (opened target buffer slots) requests) → e .answer ≡ refused 2
   after-refused requests h =
       let q = opened target buffer slots in
-      along (λ s. s ≡ zeroState) (λ e. e .answer ≡ refused 2)
+      along ringCalls (λ s. s ≡ zeroState) (λ e. e .answer ≡ refused 2)
       (λ s z c. ap (λ (x : State). (reply x c) .state) z ∙ ap (λ (r : Reply). r .state) (idle-reply c))
       (λ s z c. ap (λ (x : State). (reply x c) .answer) z ∙ ap (λ (r : Reply). r .answer) (idle-reply c))
       (q .state) (callsOf q requests) (zero-start h)

@@ -6,10 +6,10 @@ use mathlib.Core.Logic.{_↔_}
 use Prim.Native.Nat.{ℕ}
 use Rattle.pie.specs.declared.Verdict.{Verdict}
 use Rattle.queue.specs.Answer.{verdict}
-use Rattle.guarantees.specs.Calls.{Call, Entry, arrive, reply}
+use Rattle.guarantees.specs.Calls.{Call, Entry, arrive, reply, ringCalls}
 use Rattle.guarantees.specs.WhichVerdict.{Grounds}
 use Rattle.guarantees.proofs.WhichVerdict.{which-verdict}
-use Rattle.guarantees.proofs.Traces.{along}
+use Rattle.calls.proofs.Traces.{along}
 use Rattle.script_guarantees.specs.Asked.{asked}
 use Rattle.script_guarantees.specs.Entries.{callsOf, opened}
 use Rattle.script_guarantees.specs.ScriptVerdicts.{ScriptVerdicts}
@@ -26,7 +26,7 @@ script-verdicts input =
     by-entries (λ es. (e : Entry) → List·Memᴰ e es → Exact e)
     (λ target buffer slots requests.
     let q = opened target buffer slots in
-    along (λ s. Unit {0}) Exact (λ s h c. tt)
+    along ringCalls (λ s. Unit {0}) Exact (λ s h c. tt)
     (λ s h c handles sizes clock handle size ecn u v call answer.
     which-verdict s handles sizes clock handle size ecn u v (ap (λ (k : Call). (reply s k) .answer) (sym call) ∙ answer))
     (q .state) (callsOf q requests) tt)

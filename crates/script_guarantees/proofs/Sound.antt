@@ -10,10 +10,11 @@ use Rattle.queue.specs.Fresh.{fresh, settingsOf, zeroState}
 use Rattle.queue.specs.Refusals.{settingsRefused}
 use Rattle.queue.specs.declared.State.{State}
 use Rattle.guarantees.specs.Calls.{Entry, entry, reply}
-use Rattle.guarantees.specs.Conservation.{bytesOf}
+use Rattle.calls.specs.Packets.{bytesOf}
 use Rattle.guarantees.specs.Handed.{Queue, Request, Run, after, answerOf, callOf, queued, step}
+use Rattle.guarantees.proofs.Conservation.{conservation}
+use Rattle.guarantees.proofs.FirstInFirstOut.{first-in-first-out}
 use Rattle.guarantees.proofs.Refusals.{refusals}
-use Rattle.guarantees.proofs.RunKept.{run-kept}
 use Rattle.script_guarantees.specs.Asked.{Asked, nothing, started, unstarted}
 use Rattle.script_guarantees.specs.Entries.{entriesOf, opened, runOf, traceOf}
 use Rattle.script_guarantees.specs.RunTrace.{ToldBy}
@@ -64,7 +65,7 @@ idle-sound r i = record { order = rw (i .admitted, i .departed, i .state); bytes
 run-sound : (target buffer slots : ℕ) (requests : List Request) → Sound (runOf target buffer slots requests)
 run-sound target buffer slots requests =
     by-start (Sound (runOf target buffer slots requests)) target buffer slots
-    (λ e. let k = run-kept _ _ _ _ requests e in record { order = k .order; bytes = k .bytes })
+    (λ e. record { order = first-in-first-out _ _ _ _ requests e; bytes = conservation _ _ _ _ requests e .held })
     (λ e. idle-sound (runOf target buffer slots requests) (idle-steps requests _ (record { state = e; admitted = refl; departed = refl })))
 
 -- ── up to a request ──

@@ -2,10 +2,10 @@
 use pie::Backlog;
 use pie::Pie;
 use pie::Rate;
-use queue::Accepted;
 use queue::ArrivalAnswer;
 use queue::Settings;
 use queue::State;
+use refusals::Accepted;
 use units::Bytes;
 use units::Micros;
 use units::Prob;

@@ -4,7 +4,7 @@ use mathlib.Core.Path.{ap, sym, _∙_}
 use native.Mathlib.Omega.{arith}
 use lib.ListN.{length}
 use denote.Ref.{now}
-use Rattle.docsis_flow.specs.Answer.{refusalIn}
+use Rattle.refusals.specs.Numbers.{refusalIn}
 use Rattle.docsis_flow.specs.Departure.{headOf}
 use Rattle.docsis_flow.proofs.Replies.{departure-refused, departure-taken}
 use Rattle.docsis_flow.proofs.WhenAccepted.{DepartureAccepted, departure-accepted}

@@ -9,8 +9,8 @@ use native.Mathlib.Omega.{arith}
 use lib.Dec.{eqb, leb, ltb}
 use Rattle.units.specs.Kinds.{none}
 use Rattle.pie.specs.Constants.{largest, latest, longest}
-use Rattle.queue.specs.State.{all}
-use Rattle.queue.proofs.Tests.{all-at, at-from, false-of, first-of}
+use Rattle.laws.specs.Tests.{all}
+use Rattle.laws.proofs.TestLists.{all-at, at-from, false-of, first-of}
 use Rattle.docsis_pie.specs.Constants.{active, fullAllowance, high, mostProb, quiescent, resetTimeout}
 use Rattle.docsis_flow.specs.State.{formed, settingsConditions}
 use Rattle.docsis_flow.specs.declared.State.{State}

@@ -1,7 +1,7 @@
 -- `State::tick`: refused as the check says, else the ticked state.
 use borrow.Author.Needs.{needs}
 use mathlib.Core.Path.{ap, sym, _∙_}
-use Rattle.docsis_flow.specs.Answer.{refusalIn}
+use Rattle.refusals.specs.Numbers.{refusalIn}
 use Rattle.docsis_flow.proofs.Replies.{tick-refused, tick-taken}
 use Rattle.docsis_flow.proofs.WhenAccepted.{tick-accepted}
 use Rattle.docsis_flow.proofs.State.tick.Statement.{statement}

@@ -4,7 +4,7 @@ use mathlib.Core.Path.{ap, sym, _∙_}
 use native.Mathlib.Omega.{arith}
 use lib.ListN.{length}
 use denote.Ref.{now}
-use Rattle.queue.specs.Answer.{refusalIn}
+use Rattle.refusals.specs.Numbers.{refusalIn}
 use Rattle.queue.proofs.Replies.{arrival-decided, arrival-refused}
 use Rattle.queue.proofs.WhenAccepted.{ArrivalAccepted, arrival-accepted}
 use Rattle.queue.proofs.State.arrival.Statement.{statement}

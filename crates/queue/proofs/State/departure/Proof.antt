@@ -4,7 +4,7 @@ use mathlib.Core.Path.{ap, sym, _∙_}
 use native.Mathlib.Omega.{arith}
 use lib.ListN.{length}
 use denote.Ref.{now}
-use Rattle.queue.specs.Answer.{refusalIn}
+use Rattle.refusals.specs.Numbers.{refusalIn}
 use Rattle.queue.specs.Departure.{headOf}
 use Rattle.queue.proofs.Replies.{departure-refused, departure-taken}
 use Rattle.queue.proofs.WhenAccepted.{DepartureAccepted, departure-accepted}

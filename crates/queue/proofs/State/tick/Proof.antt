@@ -1,7 +1,7 @@
 -- `State::tick`: refused as the check says, else the ticked state.
 use borrow.Author.Needs.{needs}
 use mathlib.Core.Path.{ap, sym, _∙_}
-use Rattle.queue.specs.Answer.{refusalIn}
+use Rattle.refusals.specs.Numbers.{refusalIn}
 use Rattle.queue.specs.Tick.{tick}
 use Rattle.queue.proofs.Replies.{refused-reply}
 use Rattle.queue.proofs.WhenAccepted.{tick-accepted}

@@ -10,10 +10,11 @@ use lib.Dec.{eqb, leb, ltb}
 use Rattle.units.specs.Kinds.{whole}
 use Rattle.pie.specs.Constants.{fullAllowance, largest, latest, longest, mostAccumulated, mostVerdicts, threshold}
 use Rattle.pie.specs.Verdicts.{total}
-use Rattle.queue.specs.State.{all, settingsConditions, wellFormed}
+use Rattle.laws.specs.Tests.{all}
+use Rattle.laws.proofs.TestLists.{all-at, at-from, false-of, first-of}
+use Rattle.queue.specs.State.{settingsConditions, wellFormed}
 use Rattle.queue.specs.declared.State.{State}
 use Rattle.queue.proofs.Facts.{Facts, facts}
-use Rattle.queue.proofs.Tests.{all-at, at-from, false-of, first-of}
 use Rattle.queue.proofs.State.well_formed.Statement.{statement}
 use Rattle.queue.proofs.State.well_formed.Tie as tie
 

@@ -1,0 +1,17 @@
+-- What holds over lists of calls of every kind of queue that sheds load by PIE (a `Shedding` that `Sheds`), whatever else its states hold
+-- and its calls are given. Each claim stands in a file of its own; proofs/ proves it.
+--
+--   Shedding              a kind of queue that sheds load by PIE: what is read of it, and what each of its calls does
+--   AllowanceLasts        an allowance lasts its tick periods, rounded up, from the last tick on, whatever ticks are tried
+--   Fading                ticks on an empty queue bring the probability to 0
+--   Recovery              1,000 ticks on an empty queue: probability 0, and 150 ms with no early verdict
+--   Spacing               early verdicts stand at least 0.85 and less than 8.5 of added probability apart
+--   MeasuredWhileQueued   wherever a measurement runs, a packet is queued
+--   NeverGivenUp          a measurement that starts ends before the queue empties, or as it does
+pub mod Shedding
+pub mod AllowanceLasts
+pub mod Fading
+pub mod Recovery
+pub mod Spacing
+pub mod MeasuredWhileQueued
+pub mod NeverGivenUp
