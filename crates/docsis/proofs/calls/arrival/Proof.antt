@@ -29,8 +29,7 @@ counted-requires c κs =
     let a = c .before .before .before .before in
     let w = a .before .before .before in
     let r = a .arrival .result in
-    let er = rw (w .row-of .ensures) at (a .arrival .ensures) in
-    (
+    let er = rw (w .row-of .ensures) at (a .arrival .ensures) in (
       ltb-false _ _ (w .before .if1 .left),
       room-after-arrival _ _ _ _ _ _ _ (r .outcome) (r .handle) (r .size) (ap (λ (q : Reply). q .answer) (er .0 .0)),
     )
@@ -52,8 +51,7 @@ returns-2 c =
     let w = a .before .before .before in
     let e = w .before .if1 .left in
     let args = w .before .before .before .before .args in
-    let er = rw (w .row-of .ensures) at (a .arrival .ensures) in
-    (
+    let er = rw (w .row-of .ensures) at (a .arrival .ensures) in (
       says _ _ _ _ _ (a .arrival .result) _ e
           (er .0)
           (counted-by _ _ _ _ (a .arrival .result) (n .counted .ensures) (er .0))

@@ -23,8 +23,7 @@ fresh-requires c κs = search needs
 
 counted-requires : tie.Need-counted-requires
 counted-requires c κs =
-    let f = c .fresh in
-    (
+    let f = c .fresh in (
       ltb-false _ _ (c .before .if1 .left),
       room-after-fresh _ _ _ (f .result .outcome) (f .result .handle) (f .result .size) (ap (λ (q : Reply). q .answer) (f .ensures .0)),
     )
