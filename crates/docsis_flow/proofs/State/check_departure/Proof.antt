@@ -1,0 +1,120 @@
+-- `State::check_departure`: each test in turn is the definition's own; the head is read once the tables are known to fit.
+use borrow.Author.Needs.{needs}
+use borrow.Author.Tests.{eqb-false, eqb-true, not-false}
+use mathlib.Core.Path.{_≡_, sym, _∙_}
+use mathlib.Core.Logic.{_≢_}
+use native.Mathlib.Omega.{arith}
+use lib.Dec.{eqb}
+use lib.ListN.{length}
+use denote.Ref.{now}
+use Rattle.docsis_flow.specs.Departure.{departureRefusal}
+use Rattle.docsis_flow.proofs.Facts.{Facts, facts, record-formed}
+use Rattle.laws.proofs.Tests.{and-right}
+use Rattle.docsis_flow.proofs.State.check_departure.Statement.{statement}
+use Rattle.docsis_flow.proofs.State.check_departure.Tie as tie
+
+well-formed-requires : tie.Need-well-formed-requires
+well-formed-requires c κs = search needs
+
+returns : tie.Need-returns
+unfolding departureRefusal
+returns c = simp (← (c .before .well-formed .ensures), c .if1 .taken)
+
+returns-2 : tie.Need-returns-2
+unfolding departureRefusal
+returns-2 c =
+    let e1 = c .before in simp (← (e1 .before .well-formed .ensures), e1 .if1 .left, c .if2 .taken)
+
+returns-3 : tie.Need-returns-3
+unfolding departureRefusal
+returns-3 c =
+    let e2 = c .before .before .before .before in
+    let e1 = e2 .before in simp (← (e1 .before .well-formed .ensures), e1 .if1 .left, e2 .if2 .left, c .if3 .taken)
+
+returns-4 : tie.Need-returns-4
+unfolding departureRefusal
+returns-4 c =
+    let e3 = c .before .before .before in
+    let e2 = e3 .before .before .before .before in
+    let e1 = e2 .before in simp (← (e1 .before .well-formed .ensures), e1 .if1 .left, e2 .if2 .left, e3 .if3 .left, c .if4 .taken)
+
+-- what is known where the head is read: the state's facts, that the table fits, and that a packet is queued
+abbrev at-start : tie.Else4 → tie.Start
+at-start c = c .before .before .before .before .before .before .before .before .before .before .before
+
+known : (c : tie.Else4) → Facts (at-start c .args .self)
+known c =
+    let e1 = c .before .before .before .before .before .before .before .before in
+    let w = e1 .before in facts (w .before .before .args .self) (record-formed _ _ (sym (w .well-formed .ensures) ∙ not-false _ (e1 .if1 .left)))
+
+fits : (c : tie.Else4) → length (now (at-start c .args .sizes)) ≡ at-start c .args .self .settings .slots
+fits c =
+    let e2 = c .before .before .before .before .before .before .before in
+    let a = at-start c .args in
+    eqb-true _ _ (and-right (eqb (a .handles) (a .self .settings .slots)) _ (not-false _ (e2 .if2 .left)))
+
+some : (c : tie.Else4) → at-start c .args .self .backlog .count ≢ 0
+some c = eqb-false _ _ (c .if4 .left)
+
+mul-size : tie.Need-mul-size
+mul-size c = omega (arith, known c .first-high, known c .slots-high)
+
+shared-slice-read-size : tie.Need-shared-slice-read-size
+shared-slice-read-size c = omega (arith, known (c .before) .first-high, fits (c .before))
+
+cast-size : tie.Need-cast-size
+cast-size c = omega (arith, c .shared-slice-known2 .given (at-start (c .before) .args .self .first))
+
+wrong-head-requires : tie.Need-wrong-head-requires
+wrong-head-requires c κs =
+    let n = some (c .before) in omega (arith, known (c .before) .count-high, known (c .before) .slots-high)
+
+returns-5 : tie.Need-returns-5
+unfolding departureRefusal
+returns-5 c =
+    let e4 = c .before .before .before in
+    let e3 = e4 .before .before .before in
+    let e2 = e3 .before .before .before .before in
+    let e1 = e2 .before in
+    simp (
+      ← (e1 .before .well-formed .ensures),
+      e1 .if1 .left,
+      e2 .if2 .left,
+      e3 .if3 .left,
+      e4 .if4 .left,
+      ← (c .before .wrong-head .ensures),
+      c .if5 .taken,
+    )
+
+returns-6 : tie.Need-returns-6
+unfolding departureRefusal
+returns-6 c =
+    let e4 = c .before .before .before in
+    let e3 = e4 .before .before .before in
+    let e2 = e3 .before .before .before .before in
+    let e1 = e2 .before in
+    simp (
+      ← (e1 .before .well-formed .ensures),
+      e1 .if1 .left,
+      e2 .if2 .left,
+      e3 .if3 .left,
+      e4 .if4 .left,
+      ← (c .before .wrong-head .ensures),
+      c .if5 .left,
+    )
+
+pub check-departure-spec : {M : Type 1} → statement M
+check-departure-spec =
+    tie.close
+    (tie.spec
+    well-formed-requires
+    returns
+    returns-2
+    returns-3
+    returns-4
+    mul-size
+    shared-slice-read-size
+    cast-size
+    wrong-head-requires
+    returns-5
+    returns-6)

@@ -1,0 +1,99 @@
+-- `DocsisPie::decide`: the rules one after the other.
+use borrow.Author.Needs.{needs}
+use mathlib.Core.Path.{_≡_, refl}
+use Prim.Native.Nat.{_≤_}
+use native.Mathlib.Omega.{arith}
+use lib.Dec.{eqb}
+use Rattle.units.specs.Kinds.{none, prob}
+use Rattle.units.specs.declared.Prob.{Prob}
+use Rattle.laws.proofs.Choice.{either}
+use Rattle.pie.specs.Constants.{longest}
+use Rattle.docsis_pie.specs.Constants.{high, low, mostProb, quiescent}
+use Rattle.docsis_pie.specs.DropDecision.{cleared, decided, isInactive, scaledOf, summed, withAccumulated, withActivity, woken}
+use Rattle.docsis_pie.specs.declared.DocsisPie.{DocsisPie}
+use Rattle.docsis_pie.proofs.Ranges.{scaled-le}
+use Rattle.docsis_pie.proofs.DocsisPie.decide.Statement.{statement}
+use Rattle.docsis_pie.proofs.DocsisPie.decide.Tie as tie
+
+-- what rules 4 and 6 leave in range
+record Fits (pie : DocsisPie) : Type 0 where
+  prob-high : pie .prob .0 ≤ mostProb
+  old-high : pie .old .0 ≤ longest
+  accumulated-high : pie .accumulated .0 ≤ high
+
+cleared-fits : (pie : DocsisPie) → Fits pie → Fits (cleared pie)
+cleared-fits pie f =
+    either Fits (eqb (pie .prob .0) none) (withAccumulated pie none) pie
+    (record { prob-high = f .prob-high; old-high = f .old-high; accumulated-high = omega arith })
+    f
+
+woken-fits : (pie : DocsisPie) → Fits pie → Fits (woken pie)
+woken-fits pie f =
+    either Fits (isInactive pie) (withActivity pie quiescent) pie
+    (record { prob-high = f .prob-high; old-high = f .old-high; accumulated-high = f .accumulated-high })
+    f
+
+start-fits : (c : tie.Start) → Fits (c .args .self)
+start-fits c = record { prob-high = c .pre .0 .0; old-high = c .pre .0 .1; accumulated-high = c .pre .0 .2 }
+
+awake-fits : (c : tie.After-wake) → Fits (c .wake .result)
+awake-fits c =
+    let k = c .before .before .before .before .before .before .before in
+    let s = k .before .before .before in
+    rw (c .wake .ensures, k .clear .ensures) (woken-fits _ (cleared-fits _ (start-fits s)))
+
+part-le : (c : tie.After-scaled) → c .scaled .result .0 ≤ low
+part-le c = rw (c .scaled .ensures) (scaled-le _ _)
+
+returns : tie.Need-returns
+unfolding decided
+returns c = rw (c .if1 .taken)
+
+clear-requires : tie.Need-clear-requires
+clear-requires c κs = search needs
+
+mul-stays : tie.Need-mul-stays
+mul-stays c = search needs
+
+returns-2 : tie.Need-returns-2
+unfolding decided
+returns-2 c =
+    let k = c .before .before .before .before .before in
+    rw (k .before .if1 .left, c .if2 .taken, k .clear .ensures)
+
+scaled-requires : tie.Need-scaled-requires
+scaled-requires c κs = search needs
+
+wake-requires : tie.Need-wake-requires
+wake-requires c κs = search needs
+
+add-requires : tie.Need-add-requires
+add-requires c κs = (awake-fits c .accumulated-high, part-le (c .before))
+
+draw-requires : tie.Need-draw-requires
+draw-requires c κs =
+    let f = awake-fits (c .before) in rw (c .add .ensures) (f .prob-high, f .old-high)
+
+returns-3 : tie.Need-returns-3
+unfolding decided
+returns-3 c =
+    let a = c .before in
+    let w = a .before in
+    let p = w .before in
+    let e2 = p .before in
+    let k = e2 .before .before .before .before .before in
+    rw (k .before .if1 .left, e2 .if2 .left, c .draw .ensures, a .add .ensures, w .wake .ensures, p .scaled .ensures, k .clear .ensures)
+
+pub decide-spec : {M : Type 1} → statement M
+decide-spec =
+    tie.close
+    (tie.spec
+    returns
+    clear-requires
+    mul-stays
+    returns-2
+    scaled-requires
+    wake-requires
+    add-requires
+    draw-requires
+    returns-3)

@@ -1,0 +1,37 @@
+// The delay that queued bytes, credits and the two rates foretell: tick rule 1.
+use pie::LONGEST;
+use units::Bytes;
+use units::BytesPerSecond;
+use units::Micros;
+ghost use mathlib.Core.Path.{_≡_};
+ghost use Prim.Native.Nat.{_≤_, _^_};
+ghost use Rattle.units.specs.Kinds.{bytes, micros};
+ghost use Rattle.docsis_pie.specs.Delay.{delayOf, fastOf};
+
+// The bytes that leave at the peak rate.
+fn fast(queued: Bytes, credits: Bytes) -> Bytes
+    ensures { λ r. ⌜ r ≡ bytes (fastOf (queued .0) (credits .0)) ⌝ }
+{
+    if queued.0 < credits.0 {
+        return queued;
+    }
+    credits
+}
+
+pub fn delay(
+    queued: Bytes,
+    credits: Bytes,
+    peak: BytesPerSecond,
+    sustained: BytesPerSecond,
+) -> Micros
+    requires { ⌜ (queued .0 ≤ 2 ^ 24) × (1 ≤ peak .0) × (1 ≤ sustained .0) ⌝ }
+    ensures { λ r. ⌜ r ≡ micros (delayOf (queued .0) (credits .0) (peak .0) (sustained .0)) ⌝ }
+{
+    let first = fast(queued, credits);
+    let rest = queued.0 - first.0;
+    let d = first.0 * 1_000_000 / peak.0 + rest * 1_000_000 / sustained.0;
+    if d < LONGEST {
+        return Micros(d);
+    }
+    Micros(LONGEST)
+}
