@@ -165,6 +165,138 @@ uint32_t obikuteru_tick(struct obikuteru_state *state, uint64_t clock);
 /* Whether a record, restored from elsewhere say, is one that the calls accept (not refusal 2). */
 bool obikuteru_well_formed(const struct obikuteru_state *state);
 
+/*
+ * The log: every accepted call of one queue, kept in lent bytes that anyone can replay.
+ * docs/LOG.md lays the bytes out. They are a whole log after every accepted call of the writer:
+ * settings, note, records, trailer; nothing is left to be closed.
+ *
+ * Records and settings stand in the log byte by byte as the two structs below stand in memory on a
+ * little-endian machine. The library reads and writes them as bytes, at any address.
+ */
+struct obikuteru_settings {
+    uint64_t target;    /* 1,000 to 100,000 */
+    uint32_t buffer;    /* 1 to 16,777,216 */
+    uint32_t slots;     /* 1 to 65,536 */
+    uint64_t clock;     /* start clock, 0 to 2^48 */
+    uint8_t unused[8];  /* 0 */
+};
+
+struct obikuteru_record {
+    uint8_t kind;         /* 'a' arrival, 'd' departure, 't' tick */
+    uint8_t ecn;          /* a: 0 or 1 */
+    uint16_t unused;      /* 0 */
+    uint32_t handle;      /* a: any */
+    uint64_t clock;       /* 0 to 2^48 */
+    uint32_t size;        /* a: 1 to 65,535 */
+    uint32_t u;           /* a: any */
+    uint32_t verdict;     /* a: 0 to 4, the answer; d: the handle that left */
+    uint32_t bytes;       /* bytes queued after the call, 0 to 16,777,216 */
+    uint64_t probability; /* drop probability after the call, 0 to 2^32 */
+};                        /* a field that a kind does not use is 0 */
+
+/* The writer's state: the trailer's first two numbers. Keep it beside the bytes. */
+struct obikuteru_log {
+    uint32_t offset; /* where the first record stands: 32 and the note's length */
+    uint32_t count;  /* records written */
+};
+
+#define OBIKUTERU_NOTE_MOST 4096u      /* bytes of a note */
+#define OBIKUTERU_RECORDS_MOST 100000u /* records of a log */
+#define OBIKUTERU_LOG_MOST 4004144u    /* bytes of the longest log */
+
+/* The length of the log so far: what to write to a file, or to hand to a reader. */
+static inline size_t obikuteru_log_length(const struct obikuteru_log *log) {
+    return (size_t)log->offset + 40u * (size_t)log->count + 16u;
+}
+
+/* Refusals of the log's calls. Where several apply, the lowest is given. */
+#define OBIKUTERU_REFUSED_LOG 111u       /* reader: bad trailer or length; writer: a state that it
+                                            cannot have reached in bytes of that length */
+#define OBIKUTERU_REFUSED_HEADER 112u    /* settings out of range, or an unused byte not 0 */
+#define OBIKUTERU_REFUSED_RECORD 113u    /* a field out of range, or an unused one not 0 */
+#define OBIKUTERU_REFUSED_ROOM 114u      /* writer: note too long, no room, or 100,000 records */
+
+/*
+ * Begins a log: writes 48 bytes and the note. Answers ACCEPTED, 112 or 114. A refused call
+ * leaves the bytes and makes `log` all zero, which add refuses.
+ */
+uint32_t obikuteru_log_begin(struct obikuteru_log *log, const struct obikuteru_settings *settings,
+                             const uint8_t *note, size_t note_len, uint8_t *bytes,
+                             size_t bytes_len);
+
+/*
+ * Adds a record: writes 56 bytes, reads none. Answers ACCEPTED, 111, 113 or 114; a refused call
+ * changes neither `log` nor a byte.
+ */
+uint32_t obikuteru_log_add(struct obikuteru_log *log, const struct obikuteru_record *record,
+                           uint8_t *bytes, size_t bytes_len);
+
+/* Answer of a read: no record is left. */
+#define OBIKUTERU_END 1u
+
+/*
+ * Reads the record of number `*place` and moves the place on by one. Answers ACCEPTED, END where
+ * the place is the count or more, or 111, 112, 113; then the place stays and `record` is all zero.
+ * `log_len` is exactly the log's length.
+ */
+uint32_t obikuteru_log_read(const uint8_t *log, size_t log_len, uint64_t *place,
+                            struct obikuteru_record *record);
+
+/* Reads the settings. Answers ACCEPTED, or 111, 112; then they are all zero. */
+uint32_t obikuteru_log_settings(const uint8_t *log, size_t log_len,
+                                struct obikuteru_settings *settings);
+
+/* A part of lent bytes. */
+struct obikuteru_part {
+    uint64_t from;   /* its first byte's place */
+    uint64_t length; /* 0: the part is empty, and `from` is 0 */
+};
+
+/* Where the note stands. Answers ACCEPTED, or 111, 112; then the part is empty. */
+uint32_t obikuteru_log_note(const uint8_t *log, size_t log_len, struct obikuteru_part *note);
+
+/* Answers of a replay, beside the refusals 111, 112, 113 and 103. */
+#define OBIKUTERU_DISAGREES_VERDICT 1u
+#define OBIKUTERU_DISAGREES_PROBABILITY 2u
+#define OBIKUTERU_DISAGREES_BYTES 3u
+
+/* What a replay found. After a refusal it is all zero. */
+struct obikuteru_replayed {
+    uint64_t record;      /* number of the first record that disagrees; accepted: of records */
+    uint64_t refusal;     /* the rules' refusal of that call, 4 to 6; 0: they accept it */
+    uint64_t verdict;     /* by the rules: an arrival's verdict, a departure's handle; else 0 */
+    uint64_t probability; /* by the rules, after that call; accepted: after the last */
+    uint64_t bytes;       /* likewise */
+};
+
+/*
+ * Runs the rules from the log's settings over its calls. ACCEPTED where each record's verdict,
+ * probability and bytes are theirs, else the first field that disagrees. The log is read whole
+ * before. The tables are of exactly the log's slots; what they hold beforehand does not matter,
+ * afterwards they hold what the rules wrote, the disagreeing call included.
+ */
+uint32_t obikuteru_replay(const uint8_t *log, size_t log_len, uint32_t *handles,
+                          size_t handles_len, uint32_t *sizes, size_t sizes_len,
+                          struct obikuteru_replayed *found);
+
+/* Answers of a comparison, beside the refusals 111, 112 and 113. 0: the logs are equal. */
+#define OBIKUTERU_SETTINGS_DIFFER 1u
+#define OBIKUTERU_NOTES_DIFFER 2u
+#define OBIKUTERU_RECORDS_DIFFER 3u
+#define OBIKUTERU_FIRST_ENDS 4u  /* the first log is a proper beginning of the second */
+#define OBIKUTERU_SECOND_ENDS 5u /* the second log is a proper beginning of the first */
+
+struct obikuteru_compared {
+    uint64_t whose;             /* refused: 1 first log, 2 second; one ends: the longer; else 0 */
+    uint64_t record;            /* records shared: the number of the first that differs or is left;
+                                   equal: of records; 0 where settings or notes differ, or refused */
+    struct obikuteru_part part; /* the longer log's remaining records, in its bytes */
+};
+
+/* Compares two logs, each read whole before, the first's refusal ahead of the second's. */
+uint32_t obikuteru_compare(const uint8_t *first, size_t first_len, const uint8_t *second,
+                           size_t second_len, struct obikuteru_compared *found);
+
 #ifdef __cplusplus
 }
 #endif
