@@ -79,13 +79,14 @@ pub fn tick(
     credits: u32,
 ) -> Result<(), u32> {
     given(tick_refusals(s, counts, flow, clock))?;
+    let before = *s;
     s.clock = clock;
-    let delay = queueing_delay(s, credits); // 1
-    if s.allowance > 0 {
+    let delay = queueing_delay(&before, credits); // 1
+    if before.allowance > 0 {
         s.probability = 0; // 2
-        s.allowance = s.allowance.saturating_sub(TICK_PERIOD);
+        s.allowance = before.allowance.saturating_sub(TICK_PERIOD);
     } else {
-        s.probability = next_probability(s, delay);
+        s.probability = next_probability(&before, delay);
     }
     let quiet = is_quiet(s, delay);
     next_activity(s, quiet);
