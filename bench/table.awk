@@ -2,6 +2,7 @@
 #   tool NAME WORDS                                the date, and the compilers' versions
 #   events STREAM ALL ARRIVALS DEPARTURES TICKS SLOTS
 #   verdicts STREAM ENQUEUED MARKED BYTES SLOTS EARLY
+#   activity STREAM INACTIVE QUIESCENT ACTIVE      calls that met a flow so, of a modem's stream
 #   rounds STREAM N                                once for each process
 #   time STREAM WHAT SIDE MEDIAN LEAST GREATEST    ratios to plain C, once for each process
 #   count STREAM WHAT SIDE INSTRUCTIONS            per call, or per line of a script
@@ -17,6 +18,7 @@ $1 == "events" {
     slots[$2] = $7
 }
 $1 == "verdicts" { for (i = 1; i <= 5; i++) verdict[$2, i] = $(i + 2) }
+$1 == "activity" { for (i = 1; i <= 3; i++) activity[$2, i] = $(i + 2); modem[$2] = 1 }
 $1 == "rounds" { rounds = $3; processes[$2]++ }
 $1 == "time" { add_time($2 SUBSEP $3 SUBSEP $4, $5, $6, $7) }
 $1 == "count" { count[$2, $3, $4] = $5; counted = 1 }
@@ -88,6 +90,10 @@ function print_stream(s) {
     printf "%s dropped early, %s for bytes or slots), %s departures, %s ticks; ",
         share(verdict[s, 5], arrivals[s]), share(verdict[s, 3] + verdict[s, 4], arrivals[s]),
         share(departures[s], all[s]), share(ticks[s], all[s])
+    if (s in modem)
+        printf "16 flows, met inactive by %s of the calls, quiescent by %s, active by %s; ",
+            share(activity[s, 1], all[s]), share(activity[s, 2], all[s]),
+            share(activity[s, 3], all[s])
     printf "%d slots; %d processes of %d rounds.\n", slots[s], processes[s], rounds
 }
 
