@@ -10,11 +10,13 @@
 #include <inttypes.h>
 #include <stdio.h>
 
+#include "layout.h"
+
 enum { SLOTS = 4 };
 
 static int checks, mistakes;
 
-static void expect(const char *what, uint64_t found, uint64_t wanted)
+void expect(const char *what, uint64_t found, uint64_t wanted)
 {
     checks++;
     if (found != wanted) {
@@ -316,6 +318,7 @@ int main(void)
     run_departures();
     run_arrivals();
     run_refusals();
+    modem_layout();
     if (mistakes > 0)
         return 1;
     printf("layout: %d numbers, all as defined\n", checks);
