@@ -10,6 +10,8 @@
  * The packets themselves stay with the caller. The queue keeps a handle (any 32-bit number that
  * names the packet to the caller) and a size for each.
  *
+ * A second kind of queue, for the sixteen flows of a cable modem, stands at the end.
+ *
  * Units: times are microseconds, sizes bytes, probabilities whole units of 1/2^32.
  *
  * Platform
@@ -316,9 +318,9 @@ uint32_t obikuteru_compare(const uint8_t *first, size_t first_len, const uint8_t
  *   - The table of counts is aligned to 8 bytes, and it belongs to one thread at a time together
  *     with all flows that use it.
  *   - The next tick is due at `last` + OBIKUTERU_MODEM_TICK_PERIOD.
- *   - `u` decides less often, and never where the flow is protected: from the early drop that
- *     makes a flow active, its arrivals are enqueued for 128,000 microseconds at least, or dropped
- *     for bytes or slots.
+ *   - `u` is compared with the probability scaled by size / 1,024, at most 0.85, and not at all
+ *     while the flow is protected: from the early drop that makes a flow active, its arrivals are
+ *     enqueued for 128,000 microseconds at least, or dropped for bytes or slots.
  *   - Save the table of counts with the records and their tables, and compare
  *     OBIKUTERU_MODEM_RECORD_VERSION and sizeof(struct obikuteru_modem_state).
  */

@@ -34,8 +34,7 @@ const REFUSALS: usize = 9; // and 10, 11, 12: fresh, arrival, departure, tick
 const PAIRS: usize = 13; // and 14, 15, 16
 const EDGES: usize = 17; // and the following: the lists of `edges`
 
-const APPLY: [&[usize]; 4] =
-    [&[1, 10], &[2, 3, 4, 7, 8, 10], &[2, 3, 4, 6, 9, 10], &[2, 4, 5, 10]];
+const APPLY: [&[usize]; 4] = [&[1, 10], &[2, 3, 4, 7, 8, 10], &[2, 3, 4, 6, 9, 10], &[2, 4, 5, 10]];
 
 /// Flows that no modem has.
 const WRONG_FLOWS: [u32; 3] = [16, 17, u32::MAX];

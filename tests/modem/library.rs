@@ -91,9 +91,7 @@ impl Memory {
         let (s, s_len) = (sizes.as_mut_ptr(), sizes.len());
         let (state, counts) = (self.record, self.counts);
         unsafe {
-            obikuteru_modem_arrival(
-                state, counts, flow, h, h_len, s, s_len, clock, handle, size, u,
-            )
+            obikuteru_modem_arrival(state, counts, flow, h, h_len, s, s_len, clock, handle, size, u)
         }
     }
 
@@ -107,9 +105,7 @@ impl Memory {
         let (h, h_len) = (handles.as_ptr(), handles.len());
         let (s, s_len) = (sizes.as_ptr(), sizes.len());
         let (state, counts) = (self.record, self.counts);
-        unsafe {
-            obikuteru_modem_departure(state, counts, flow, h, h_len, s, s_len, clock, packet)
-        }
+        unsafe { obikuteru_modem_departure(state, counts, flow, h, h_len, s, s_len, clock, packet) }
     }
 
     pub fn tick(&self, flow: u32, clock: u64, credits: u32) -> u32 {

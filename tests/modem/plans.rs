@@ -66,15 +66,8 @@ pub fn plan(r: &mut Random, kind: u64) -> Plan {
         sustained: 0,
     };
     let sizes = r.pick(&[(40, 1_500), (1_000, 1_500), (64, 9_000), (1, 1_500)]);
-    let mut plan = Plan {
-        settings,
-        clock: 0,
-        ns_per_byte,
-        sizes,
-        arrivals_left: 0,
-        lucky: false,
-        weight: 10,
-    };
+    let mut plan =
+        Plan { settings, clock: 0, ns_per_byte, sizes, arrivals_left: 0, lucky: false, weight: 10 };
     if r.one_in(2) {
         plan.clock = r.spread(0, CLOCK_MAX / 2);
     }

@@ -77,9 +77,7 @@ impl Side {
                 self.packet = model::departure(state, counts, flow, tables, clock)?;
                 Ok(0)
             }
-            Kind::Tick { credits } => {
-                model::tick(state, counts, flow, clock, credits).map(|()| 0)
-            }
+            Kind::Tick { credits } => model::tick(state, counts, flow, clock, credits).map(|()| 0),
         }
     }
 }

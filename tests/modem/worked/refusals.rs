@@ -71,7 +71,11 @@ fn fresh(worked: &mut Worked) -> Result<(), Failure> {
             let cleared = if figure == 0 { 0 } else { 7 };
             worked.expect("a count of row 15", after.counts[15][4], cleared)?;
             worked.expect("a count of row 14", after.counts[14][4], 7)?;
-            worked.expect("the target", after.state.settings.target, if figure == 0 { target } else { 0 })?;
+            worked.expect(
+                "the target",
+                after.state.settings.target,
+                if figure == 0 { target } else { 0 },
+            )?;
         }
     }
     Ok(())
