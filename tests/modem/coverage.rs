@@ -96,13 +96,11 @@ impl Coverage {
         groups.add("probability at the first of a band", single, first);
         let last = BANDS.iter().map(|band| band.0.to_string()).collect();
         groups.add("probability at the last of a band", single, last);
-        let names = ["fresh", "arrival", "departure", "tick"];
-        let refusals = ["refusal of fresh", "refusal of arrival", "refusal of departure"];
-        for (kind, name) in refusals.into_iter().chain(["refusal of tick"]).enumerate() {
+        for (kind, name) in REFUSAL_NAMES.into_iter().enumerate() {
             groups.add(name, both, refusal_labels(kind, runs));
         }
-        for (kind, _) in names.iter().enumerate() {
-            groups.add(PAIR_NAMES[kind], single, pair_labels(kind));
+        for (kind, name) in PAIR_NAMES.into_iter().enumerate() {
+            groups.add(name, single, pair_labels(kind));
         }
         for (place, (name, needed)) in EDGE_LISTS.into_iter().enumerate() {
             groups.add(name, needed, sample::labels(place));
@@ -213,6 +211,9 @@ impl Coverage {
         self.groups.print(runs, all);
     }
 }
+
+const REFUSAL_NAMES: [&str; 4] =
+    ["refusal of fresh", "refusal of arrival", "refusal of departure", "refusal of tick"];
 
 const PAIR_NAMES: [&str; 4] = [
     "pair of refusals, fresh",

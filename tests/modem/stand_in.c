@@ -1,6 +1,10 @@
 /*
- * The modem's calls by bench/plain_modem.c, under the library's names: with it the comparison can
- * be tried, and its coverage looked at, where there is no library.
+ * The modem's calls by bench/plain_modem.c, under the library's names: with it the comparison runs
+ * on plain C, which shows that the bench measures against the same rules, refusals and all.
+ *
+ *   cc -O2 -Iinclude -c tests/modem/stand_in.c bench/plain_modem.c
+ *   ar rcs libstand.a stand_in.o plain_modem.o
+ *   rustc --edition 2021 -O -L native=. -l static=stand tests/modem/main.rs -o modem
  *
  * A word that the narrower field of plain C cannot hold becomes the greatest number, which is out
  * of every range; a record is written back only where the call was accepted.

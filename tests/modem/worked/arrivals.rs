@@ -95,7 +95,7 @@ pub fn run(worked: &mut Worked) -> Result<(), Failure> {
     worked.name = "W17";
     for (p, size, figure) in SCALED {
         worked.expect("the model's scaled probability", model::scaled(p, size), figure)?;
-        // Below 0.85 all of it is added; so the sum tells it, where old delay and p are small or not.
+        // Rule 10 enqueues a packet that finds 2,048 bytes, and the sum shows what was added.
         let buffer = 16_777_216;
         let case = Case { p, size, buffer, bytes: 2_048, ..BASE };
         one(worked, &case, 10, (ACTIVE, 0, figure))?;
