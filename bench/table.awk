@@ -2,6 +2,7 @@
 #   tool NAME WORDS                                the date, and the compilers' versions
 #   events STREAM ALL ARRIVALS DEPARTURES TICKS SLOTS
 #   verdicts STREAM ENQUEUED MARKED BYTES SLOTS EARLY
+#   activity STREAM INACTIVE QUIESCENT ACTIVE      calls that met a flow so, of a modem's stream
 #   rounds STREAM N                                once for each process
 #   time STREAM WHAT SIDE MEDIAN LEAST GREATEST    ratios to plain C, once for each process
 #   count STREAM WHAT SIDE INSTRUCTIONS            per call, per line of a script, or per record of a log
@@ -17,6 +18,7 @@ $1 == "events" {
     slots[$2] = $7
 }
 $1 == "verdicts" { for (i = 1; i <= 5; i++) verdict[$2, i] = $(i + 2) }
+$1 == "activity" { for (i = 1; i <= 3; i++) activity[$2, i] = $(i + 2); modem[$2] = 1 }
 $1 == "rounds" { rounds = $3; processes[$2]++ }
 $1 == "time" { add_time($2 SUBSEP $3 SUBSEP $4, $5, $6, $7) }
 $1 == "count" { count[$2, $3, $4] = $5 }
@@ -82,6 +84,14 @@ function miss(s, what, most, most_counted) {
             count[s, what, "library"] / count[s, what, "plain"])
 }
 
+function miss_entries(s,    most, most_counted) {
+    most = s in modem ? 1.1 : 1.05
+    most_counted = s in modem ? 1.1 : 1.0
+    miss(s, "arrival", most, most_counted)
+    miss(s, "departure", most, most_counted)
+    miss(s, "tick", most, most_counted)
+}
+
 function share(n, of) {
     return sprintf("%.1f %%", 100 * n / of)
 }
@@ -93,6 +103,10 @@ function print_stream(s) {
     printf "%s dropped early, %s for bytes or slots), %s departures, %s ticks; ",
         share(verdict[s, 5], arrivals[s]), share(verdict[s, 3] + verdict[s, 4], arrivals[s]),
         share(departures[s], all[s]), share(ticks[s], all[s])
+    if (s in modem)
+        printf "16 flows, met inactive by %s of the calls, quiescent by %s, active by %s; ",
+            share(activity[s, 1], all[s]), share(activity[s, 2], all[s]),
+            share(activity[s, 3], all[s])
     printf "%d slots; %d processes of %d rounds.\n", slots[s], processes[s], rounds
 }
 
@@ -113,13 +127,12 @@ END {
             printf "Plain C by %s to plain C by gcc, stream %s, time and instructions: %s; %s; %s; %s.\n",
                 tool["clang"], s, by_clang(s, "mix"), by_clang(s, "arrival"),
                 by_clang(s, "departure"), by_clang(s, "tick")
-        miss(s, "arrival", 1.05, 1.0)
-        miss(s, "departure", 1.05, 1.0)
-        miss(s, "tick", 1.05, 1.0)
+        miss_entries(s)
         miss(s, "add", 1.1, 1.1)
         miss(s, "replay", 1.1, 1.1)
         miss(s, "compare", 1.5, 1.5)
     }
-    printf "Asked: the queue's entries at most 1.05 times plain C in time and 1.0 in instructions, add and replay 1.1, compare 1.5: "
+    printf "Asked: the queue's entries at most 1.05 times plain C in time and 1.0 in instructions; in both, the modem's entries 1.1, "
+    printf "add and replay 1.1, compare 1.5: "
     print missed == "" ? "reached." : "missed by " substr(missed, 3) "."
 }

@@ -10,6 +10,8 @@
  * The packets themselves stay with the caller. The queue keeps a handle (any 32-bit number that
  * names the packet to the caller) and a size for each.
  *
+ * A second kind of queue, for the sixteen flows of a cable modem, stands at the end.
+ *
  * Units: times are microseconds, sizes bytes, probabilities whole units of 1/2^32.
  *
  * Platform
@@ -296,6 +298,116 @@ struct obikuteru_compared {
 /* Compares two logs, each read whole before, the first's refusal ahead of the second's. */
 uint32_t obikuteru_compare(const uint8_t *first, size_t first_len, const uint8_t *second,
                            size_t second_len, struct obikuteru_compared *found);
+
+/*
+ * The cable modem: a second kind of queue, DOCSIS-PIE (RFC 8034, Appendix A), for sixteen service
+ * flows. docs/DOCSIS-PIE.md has its rules. Each flow, 0 to 15, is a queue of its own:
+ *
+ *   - a state record, struct obikuteru_modem_state;
+ *   - a table of handles and a table of sizes, each of exactly `slots` 32-bit numbers.
+ *
+ * The flows of one modem share a table of counts, sixteen rows of five: row f counts the verdicts
+ * on flow f's arrivals, at the places 0 to 4 of the answers (place 1 stays 0: nothing is marked
+ * here). Each call is lent the table and names its flow. It reads that flow's row alone and
+ * changes no other, so each flow answers as if it were the only one.
+ *
+ * What is said of the queue holds here too (units, memory, clock, random numbers, what a refused
+ * call leaves), but for this:
+ *   - Rates are bytes per second. Peak and sustained may be equal, or either the larger.
+ *   - The table of counts needs no preparation: an accepted fresh sets its row to 0.
+ *   - The table of counts is aligned to 8 bytes, and it belongs to one thread at a time together
+ *     with all flows that use it.
+ *   - The next tick is due at `last` + OBIKUTERU_MODEM_TICK_PERIOD.
+ *   - `u` is compared with the probability scaled by size / 1,024, at most 0.85, and not at all
+ *     while the flow is protected: from the early drop that makes a flow active, its arrivals are
+ *     enqueued for 128,000 microseconds at least, or dropped for bytes or slots.
+ *   - Save the table of counts with the records and their tables, and compare
+ *     OBIKUTERU_MODEM_RECORD_VERSION and sizeof(struct obikuteru_modem_state).
+ */
+struct obikuteru_modem_state {
+    uint64_t target;      /* target delay, 1,000 to 100,000 microseconds */
+    uint64_t buffer;      /* most bytes that may be queued, 1 to 16,777,216 */
+    uint64_t slots;       /* most packets that may be queued, 1 to 65,536 */
+    uint64_t peak;        /* peak rate, 1 to 1,250,000,000 bytes per second */
+    uint64_t sustained;   /* sustained rate, 1 to 1,250,000,000 bytes per second */
+    uint64_t clock;       /* clock of the last accepted call, at most 2^48 */
+    uint64_t last;        /* clock of the last accepted tick, or of fresh */
+    uint64_t probability; /* drop probability, at most 58,411,555,225 (13.6) */
+    uint64_t accumulated; /* scaled probabilities since the last drop, at most 36,507,222,016 */
+    uint64_t old_delay;   /* queueing delay at the last tick, at most 10,000,000 */
+    uint64_t allowance;   /* burst allowance that is left, at most 142,000; 0 unless active */
+    uint64_t reset;       /* time that all was quiet, at most 1,000,000; 0 unless quiescent with
+                             a probability of 0 */
+    uint64_t activity;    /* 0 inactive, 1 quiescent, 2 active */
+    uint64_t first;       /* place of the head in the tables */
+    uint64_t count;       /* packets queued */
+    uint64_t bytes;       /* bytes queued */
+};
+
+/* Raised whenever the layout or the meaning of the modem's state record changes. */
+#define OBIKUTERU_MODEM_RECORD_VERSION 1u
+
+/* The target delay for a flow that is given none: 10 ms. It is not put in for a target of 0. */
+#define OBIKUTERU_MODEM_TARGET 10000u
+
+/* Least time from one accepted tick of a flow to its next. */
+#define OBIKUTERU_MODEM_TICK_PERIOD 16000u
+
+/* Flows of a modem, and rows of its table of counts. */
+#define OBIKUTERU_MODEM_FLOWS 16u
+
+/*
+ * Refusals of the modem's calls: 110, ahead of all others; then the queue's, the lowest first,
+ * with these readings: 101 covers both rates, 102 and 108 the row of the flow too, 105 reads
+ * 16,000. A refused call changes nothing, but that the packet of a refused departure is {0, 0} and
+ * a refused fresh, 110 among them, writes an all-zero record, which every call refuses; the table
+ * of counts stays as it was.
+ */
+#define OBIKUTERU_REFUSED_FLOW 110u /* the flow is above 15 */
+
+/*
+ * A fresh flow at `clock`: inactive, with no allowance. Answers ACCEPTED, 110 or 101. Where it is
+ * accepted, the row of the flow is five zeros, whatever it held.
+ */
+uint32_t obikuteru_modem_fresh(struct obikuteru_modem_state *state, uint64_t counts[16][5],
+                               uint32_t flow, uint64_t target, uint64_t buffer, uint64_t slots,
+                               uint64_t peak, uint64_t sustained, uint64_t clock);
+
+/*
+ * A packet of `size` bytes arrives. `u`: a random number, uniform over all 32-bit numbers and
+ * fresh for each arrival. Answers ENQUEUED, DROPPED_BYTES, DROPPED_SLOTS or DROPPED_EARLY, and
+ * that count of the row rises by one; or 110, 102, 103, 104, 107, 108. Where the answer is
+ * ENQUEUED, one element of each table was written; otherwise the caller drops the packet.
+ */
+uint32_t obikuteru_modem_arrival(struct obikuteru_modem_state *state, uint64_t counts[16][5],
+                                 uint32_t flow, uint32_t *handles, size_t handles_len,
+                                 uint32_t *sizes, size_t sizes_len, uint64_t clock,
+                                 uint32_t handle, uint32_t size, uint32_t u);
+
+/*
+ * The head leaves: its handle and size are written to `packet`. Answers ACCEPTED or 110, 102, 103,
+ * 104, 106, 109. Tables and counts are only read; the counts are not const, since C before C23
+ * lends no plain array of arrays as const without a cast.
+ */
+uint32_t obikuteru_modem_departure(struct obikuteru_modem_state *state, uint64_t counts[16][5],
+                                   uint32_t flow, const uint32_t *handles, size_t handles_len,
+                                   const uint32_t *sizes, size_t sizes_len, uint64_t clock,
+                                   struct obikuteru_packet *packet);
+
+/*
+ * The periodic update of probability, allowance and activity. `credits`: the bytes that may leave
+ * at the peak rate now (RFC 8034's msrtokens). Answers ACCEPTED or 110, 102, 104, 105. The counts
+ * are only read.
+ */
+uint32_t obikuteru_modem_tick(struct obikuteru_modem_state *state, uint64_t counts[16][5],
+                              uint32_t flow, uint64_t clock, uint32_t credits);
+
+/*
+ * Whether a record with the flow's row is one that the calls accept (neither refusal 10 nor 2):
+ * false for a flow above 15. Record and counts are only read.
+ */
+bool obikuteru_modem_well_formed(const struct obikuteru_modem_state *state,
+                                 uint64_t counts[16][5], uint32_t flow);
 
 #ifdef __cplusplus
 }

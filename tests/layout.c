@@ -7,21 +7,9 @@
  */
 #include <obikuteru.h>
 
-#include <inttypes.h>
-#include <stdio.h>
+#include "layout.h"
 
 enum { SLOTS = 4 };
-
-static int checks, mistakes;
-
-static void expect(const char *what, uint64_t found, uint64_t wanted)
-{
-    checks++;
-    if (found != wanted) {
-        mistakes++;
-        printf("layout: %s is %" PRIu64 ", and not %" PRIu64 ".\n", what, found, wanted);
-    }
-}
 
 #define WORD(field, place)                                                                             \
     expect("the place of " #field, offsetof(struct obikuteru_state, field), 8 * (place));            \
@@ -316,8 +304,5 @@ int main(void)
     run_departures();
     run_arrivals();
     run_refusals();
-    if (mistakes > 0)
-        return 1;
-    printf("layout: %d numbers, all as defined\n", checks);
-    return 0;
+    return result();
 }

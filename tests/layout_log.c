@@ -6,20 +6,9 @@
  */
 #include <obikuteru.h>
 
-#include <inttypes.h>
-#include <stdio.h>
 #include <string.h>
 
-static int checks, mistakes;
-
-static void expect(const char *what, uint64_t found, uint64_t wanted)
-{
-    checks++;
-    if (found != wanted) {
-        mistakes++;
-        printf("layout_log: %s is %" PRIu64 ", and not %" PRIu64 ".\n", what, found, wanted);
-    }
-}
+#include "layout.h"
 
 #define FIELD(record, field, place, width)                                                        \
     expect("the place of " #record "." #field, offsetof(struct obikuteru_##record, field), place); \
@@ -177,8 +166,5 @@ int main(void)
     constants();
     run_writer(&log);
     run_reader();
-    if (mistakes > 0)
-        return 1;
-    printf("layout_log: %d numbers, all as defined\n", checks);
-    return 0;
+    return result();
 }

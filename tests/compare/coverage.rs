@@ -8,22 +8,13 @@
 //! Refusal 1 stands alone: it is the only one of fresh.
 
 use crate::events;
+use crate::groups::{owned, Groups};
 use crate::model::{self, Refusals, BANDS, CONDITIONS};
 use crate::side::{Call, Side};
 
-/// One kind of thing that is counted.
-struct Group {
-    name: &'static str,
-    /// An empty label stands for what cannot be.
-    labels: Vec<String>,
-    counts: Vec<u64>,
-    /// Whether the long runs must reach every label, and whether the single calls must.
-    needed: (bool, bool),
-}
-
 pub struct Coverage {
     pub calls: u64,
-    groups: Vec<Group>,
+    groups: Groups,
 }
 
 const VERDICTS: usize = 0;
@@ -63,10 +54,6 @@ fn pair_labels(kind: usize) -> Vec<String> {
     labels
 }
 
-fn owned(list: &[&str]) -> Vec<String> {
-    list.iter().map(|label| label.to_string()).collect()
-}
-
 fn band_ends() -> (Vec<String>, Vec<String>) {
     let last: Vec<String> = BANDS.iter().map(|band| band.0.to_string()).collect();
     let first = |i: usize| if i == 0 { 0 } else { BANDS[i - 1].0 + 1 };
@@ -76,7 +63,7 @@ fn band_ends() -> (Vec<String>, Vec<String>) {
 impl Coverage {
     /// Counts for the long runs, or for the single calls.
     pub fn new(runs: bool) -> Coverage {
-        let mut coverage = Coverage { calls: 0, groups: Vec::new() };
+        let mut coverage = Coverage { calls: 0, groups: Groups::default() };
         let bands: Vec<String> = BANDS.iter().map(|band| format!("k {}", band.1)).collect();
         let (first, last) = band_ends();
         let both = (true, true);
@@ -111,12 +98,11 @@ impl Coverage {
     }
 
     fn add(&mut self, name: &'static str, needed: (bool, bool), labels: Vec<String>) {
-        let counts = vec![0; labels.len()];
-        self.groups.push(Group { name, labels, counts, needed });
+        self.groups.add(name, needed, labels);
     }
 
     fn hit(&mut self, group: usize, label: usize) {
-        self.groups[group].counts[label] += 1;
+        self.groups.hit(group, label);
     }
 
     /// Counts one call that was compared.
@@ -184,42 +170,11 @@ impl Coverage {
 
     /// What was needed and not reached.
     pub fn missing(&self, runs: bool) -> Vec<String> {
-        let mut missing = Vec::new();
-        for group in &self.groups {
-            let needed = if runs { group.needed.0 } else { group.needed.1 };
-            for (label, count) in group.labels.iter().zip(&group.counts) {
-                if needed && !label.is_empty() && *count == 0 {
-                    missing.push(format!("{} {label}", group.name));
-                }
-            }
-        }
-        missing
+        self.groups.missing(runs)
     }
 
-    /// One line for each group: how many of its labels were reached, and the rarest of them.
     pub fn print(&self, runs: bool, all: bool) {
-        for group in &self.groups {
-            if if runs { group.needed.0 } else { group.needed.1 } {
-                group.print(all);
-            }
-        }
-    }
-}
-
-impl Group {
-    fn print(&self, all: bool) {
-        let named = self.labels.iter().zip(&self.counts).filter(|(label, _)| !label.is_empty());
-        let named: Vec<(&String, &u64)> = named.collect();
-        let reached = named.iter().filter(|(_, count)| **count > 0).count();
-        let rarest = named.iter().min_by_key(|(_, count)| **count);
-        if let Some((label, count)) = rarest {
-            let name = self.name;
-            let total = named.len();
-            println!("  {name:<35} {reached:>3} of {total:>3}   rarest: {label} ({count})");
-        }
-        for (label, count) in named.into_iter().filter(|_| all) {
-            println!("      {label:<50} {count:>9}");
-        }
+        self.groups.print(runs, all);
     }
 }
 

@@ -9,10 +9,12 @@
 //! It ends with 1 at the first difference, with 2 if the calls did not reach everything, and
 //! with 3 if it was not understood.
 
+mod area;
 mod pair;
 mod coverage;
 mod events;
 mod examples;
+mod groups;
 mod guard;
 mod library;
 mod model;
@@ -34,6 +36,8 @@ use side::{Direct, Lender};
 use std::process::exit;
 use std::time::{Duration, Instant, SystemTime, UNIX_EPOCH};
 
+/// What this program calls itself where it speaks of a difference.
+const NAME: &str = "compare";
 const SEED: u64 = 8_033;
 const BATCHES: u64 = 400;
 const STARTS: u64 = 1_000;

@@ -3,6 +3,7 @@
 use crate::report;
 use crate::side::{Call, Direct, Lender, Side};
 use crate::stop;
+use crate::NAME;
 
 /// A call on which model and library differ, with all its inputs.
 pub struct Difference {
@@ -55,9 +56,9 @@ impl Failure {
     /// Prints the failure, and for a difference whether the one call alone gives it again.
     pub fn print(&self, place: &str) {
         match self {
-            Failure::Broken(sentence) => println!("compare: broken rule in {place}: {sentence}"),
+            Failure::Broken(sentence) => println!("{NAME}: broken rule in {place}: {sentence}"),
             Failure::Difference(difference) => {
-                println!("compare: difference in {place}");
+                println!("{NAME}: difference in {place}");
                 report::print(difference);
                 println!("{}", difference.again());
             }

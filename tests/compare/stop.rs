@@ -3,6 +3,7 @@
 
 use crate::report;
 use crate::side::{Call, Side};
+use crate::NAME;
 use std::ptr::null_mut;
 use std::sync::atomic::{AtomicPtr, Ordering::SeqCst};
 use std::sync::Mutex;
@@ -49,14 +50,14 @@ pub fn install() {
 extern "C" fn stopped(number: i32) {
     let call = CALL.load(SeqCst);
     if call.is_null() {
-        println!("compare: stopped by signal {number}, outside the library");
+        println!("{NAME}: stopped by signal {number}, outside the library");
     } else {
         let reason = match number {
             BUS | SEGMENT => "read or wrote outside what was lent, or wrote to what is only read",
             _ => "stopped the program",
         };
         let place = PLACE.try_lock().map(|place| place.clone()).unwrap_or_default();
-        println!("compare: difference in {place}: the library {reason} (signal {number})");
+        println!("{NAME}: difference in {place}: the library {reason} (signal {number})");
         unsafe { report::print_before(&*BEFORE.load(SeqCst), &*call) };
     }
     unsafe { _exit(1) }

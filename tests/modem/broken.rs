@@ -1,0 +1,137 @@
+//! Records and rows with one condition broken, or many.
+
+use crate::model::numbers::*;
+use crate::model::{Row, State};
+use crate::random::Random;
+use crate::states;
+use crate::words::{state_of, words};
+
+/// The place of the condition on the row.
+pub const ROW: usize = 21;
+
+/// A number far outside most ranges, or one that looks in range if its high bits are lost.
+fn wild(r: &mut Random, value: u64) -> u64 {
+    let any = r.number();
+    let high = r.pick(&[1 << 32, 1 << 40, 1 << 49, 1 << 63]);
+    r.pick(&[u64::MAX, u64::MAX - 1, 1 << 63, (1 << 63) - 1, value | high, value | high, any])
+}
+
+/// A number just outside a range, or far outside.
+fn outside(r: &mut Random, value: u64, (least, most): (u64, u64)) -> u64 {
+    let far = wild(r, value).max(most + 1);
+    r.pick(&[least.saturating_sub(1), most + 1, most + 1, far])
+}
+
+fn above(r: &mut Random, value: u64, most: u64) -> u64 {
+    outside(r, value, (most + 2, most))
+}
+
+/// Puts wild numbers into a few words of the record, whatever that breaks.
+pub fn scramble(r: &mut Random, s: &mut State) {
+    let mut words = words(s);
+    for _ in 0..r.pick(&[1, 1, 2, 3, 16]) {
+        let place = r.range(0, 15) as usize;
+        words[place] = wild(r, words[place]);
+    }
+    *s = state_of(&words);
+}
+
+/// Breaks one condition, and no other where that can be. Numbers as in `model::CONDITIONS`.
+pub fn break_one(r: &mut Random, s: &mut State, condition: usize) {
+    let set = &mut s.settings;
+    match condition {
+        0 => set.target = outside(r, set.target, TARGET),
+        1 => set.buffer = above(r, set.buffer, BUFFER.1),
+        2 => set.slots = outside(r, set.slots, SLOTS),
+        3 => set.peak = outside(r, set.peak, RATE),
+        4 => set.sustained = outside(r, set.sustained, RATE),
+        5 => s.last = above(r, s.last, s.clock),
+        6 => s.clock = above(r, s.clock, CLOCK_MAX),
+        7 => s.probability = above(r, s.probability, PROBABILITY_MAX),
+        8 => s.accumulated = above(r, s.accumulated, HIGH),
+        9 => s.old_delay = above(r, s.old_delay, DELAY_MAX),
+        13 => s.first = above(r, s.first, s.settings.slots - 1),
+        14..=17 => break_queue(r, s, condition),
+        _ => break_activity(r, s, condition),
+    }
+    if condition == 1 && r.one_in(4) {
+        s.settings.buffer = 0;
+        (s.count, s.bytes) = (0, 0);
+    }
+}
+
+fn break_queue(r: &mut Random, s: &mut State, condition: usize) {
+    if r.one_in(8) {
+        // Far outside; more than one condition breaks.
+        let field = r.pick(&[0, 1]);
+        *(if field == 0 { &mut s.count } else { &mut s.bytes }) = wild(r, s.count);
+        return;
+    }
+    match condition {
+        14 => {
+            s.count = s.settings.slots + 1;
+            s.bytes = s.bytes.max(s.count);
+        }
+        15 => {
+            s.count = s.count.max(1);
+            s.bytes = s.count - 1;
+        }
+        16 => {
+            s.count = s.count.min(255);
+            s.bytes = SIZE.1 * s.count + 1;
+        }
+        _ => {
+            s.count = s.count.max(1);
+            s.bytes = s.bytes.max(2).max(s.count);
+            s.settings.buffer = s.bytes - 1;
+            return;
+        }
+    }
+    s.settings.buffer = s.settings.buffer.max(s.bytes);
+}
+
+/// Allowance, reset time and activity, alone and in what they ask of each other.
+fn break_activity(r: &mut Random, s: &mut State, condition: usize) {
+    (s.activity, s.allowance, s.reset) = (QUIESCENT, 0, 0);
+    match condition {
+        10 => {
+            s.activity = ACTIVE;
+            s.allowance = above(r, 0, FULL_ALLOWANCE);
+        }
+        11 => {
+            s.probability = 0;
+            s.reset = above(r, 0, RESET_TIMEOUT);
+        }
+        12 => s.activity = above(r, 0, ACTIVE),
+        18 => {
+            s.activity = r.pick(&[INACTIVE, QUIESCENT]);
+            s.allowance = states::allowance(r);
+        }
+        19 => {
+            s.probability = 0;
+            s.activity = r.pick(&[INACTIVE, ACTIVE]);
+            s.reset = states::reset(r).max(1);
+        }
+        _ => {
+            s.probability = states::probability(r).max(1);
+            s.reset = states::reset(r).max(1);
+        }
+    }
+}
+
+/// A row whose sum is above 2^48.
+pub fn break_row(r: &mut Random) -> Row {
+    let mut row = states::split(r, COUNTS_MAX + 1);
+    let place = r.range(0, 4) as usize;
+    match r.range(0, 3) {
+        0 => row[place] = u64::MAX,
+        1 => {
+            // A sum that is small if it wraps round at 2^64.
+            row = [1, 0, 2, 0, 0];
+            row[place] = u64::MAX - r.range(0, 2);
+        }
+        2 => row = [1 << 63, 1 << 63, 0, r.range(0, 9), 0],
+        _ => {}
+    }
+    row
+}
