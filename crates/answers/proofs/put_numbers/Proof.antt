@@ -1,9 +1,9 @@
--- `put_state`: two fields and the line's end.
+-- `put_numbers`: two fields and the line's end.
 use native.Mathlib.Omega.{arith}
 use Rattle.answers.proofs.Joins.{then}
 use borrow.Author.Needs.{needs}
-use Rattle.answers.proofs.put_state.Statement.{statement}
-use Rattle.answers.proofs.put_state.Tie as tie
+use Rattle.answers.proofs.put_numbers.Statement.{statement}
+use Rattle.answers.proofs.put_numbers.Tie as tie
 
 put-field-requires : tie.Need-put-field-requires
 put-field-requires c κs = search needs
@@ -27,8 +27,8 @@ returns c =
     let a = c .before .before .before .before .before .before .before .before .before .before .before .put-field in
     (then _ _ _ _ _ _ _ _ (a .ensures .0) (then _ _ _ _ _ _ _ _ (b .ensures .0) (e .ensures)), omega arith)
 
-pub put-state-spec : {M : Type 1} → statement M
-put-state-spec =
+pub put-numbers-spec : {M : Type 1} → statement M
+put-numbers-spec =
     tie.close
     (tie.spec
     put-field-requires
