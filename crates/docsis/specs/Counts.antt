@@ -1,9 +1,12 @@
 -- The verdict counts of sixteen flows, five for each (docs/DOCSIS-PIE.md, parts 2 and 3).
 use mathlib.Core.List.{List, [], _∷_}
-use Prim.Native.Nat.{ℕ}
+use Prim.Native.Nat.{ℕ, _<_}
 use lib.ListN.{getD, set}
-use Rattle.pie.specs.Verdicts.{raised}
+use Rattle.pie.specs.Constants.{mostVerdicts}
+use Rattle.pie.specs.Verdicts.{raised, total}
 use Rattle.queue.specs.Answer.{Answer, departed, made, refused, ticked, verdict}
+use Rattle.docsis_flow.specs.declared.Outcome.{Outcome}
+use Rattle.docsis_flow.specs.declared.Outcome.the-variants.{Refused, NoFlow, Made, Decided, Departed, Ticked}
 
 -- the row of a flow
 abbrev pub rowOf : (counts : List (List ℕ)) (flow : ℕ) → List ℕ
@@ -20,3 +23,12 @@ countsAfter counts flow made = set counts flow zeroRow
 countsAfter counts flow (verdict v) = set counts flow (raised (rowOf counts flow) v)
 countsAfter counts flow (departed handle size) = counts
 countsAfter counts flow ticked = counts
+
+-- where the outcome raises a count, the row has room for one more
+abbrev pub Room : Outcome → (row : List ℕ) → Type 0
+Room (Refused r) row = Unit {0}
+Room NoFlow row = Unit {0}
+Room Made row = Unit {0}
+Room (Decided v) row = total row < mostVerdicts
+Room Departed row = Unit {0}
+Room Ticked row = Unit {0}

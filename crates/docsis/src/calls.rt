@@ -1,7 +1,6 @@
 // The four calls: refusal 10 ahead of the others, then the flow's own call with its row of the counts.
 use crate::Returned;
-use crate::counting::clear_in;
-use crate::counting::raise_in;
+use crate::counting::counted;
 use crate::counting::returned;
 use crate::counting::row_of;
 use docsis_flow::Outcome;
@@ -39,13 +38,8 @@ pub fn fresh(counts: [[u64; 5]; 16], flow: u64, settings: Settings, clock: Micro
     }
     let replied = State::fresh(settings, clock);
     let outcome = replied.outcome;
-    match outcome {
-        Outcome::Made => returned(replied, clear_in(counts, flow)),
-        Outcome::Refused(_) => returned(replied, counts),
-        Outcome::Decided(_) => returned(replied, counts),
-        Outcome::Departed => returned(replied, counts),
-        Outcome::Ticked => returned(replied, counts),
-    }
+    let next = counted(counts, flow, outcome);
+    returned(replied, next)
 }
 
 // A packet of `size` bytes arrives at a flow; `u` is its random number.
@@ -72,10 +66,8 @@ pub fn arrival(
     }
     let replied = state.arrival(row_of(counts, flow), handles, sizes, clock, handle, size, u);
     let outcome = replied.outcome;
-    match outcome {
-        Outcome::Decided(v) => returned(replied, raise_in(counts, flow, v)),
-        _ => returned(replied, counts),
-    }
+    let next = counted(counts, flow, outcome);
+    returned(replied, next)
 }
 
 // The head of a flow leaves. The tables are only read.

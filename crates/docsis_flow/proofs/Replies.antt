@@ -1,10 +1,12 @@
--- What a reply's answer tells: a refusal's number is above 0.
+-- What a reply's answer tells: a refusal's number is above 0, and a verdict is no refusal.
 use mathlib.Core.Path.{_≡_, refl}
 use mathlib.Core.Bool.{cond}
 use mathlib.Core.List.{List}
-use Prim.Native.Nat.{ℕ}
+use Prim.Native.Nat.{ℕ, zero, suc}
+use native.Mathlib.Omega.{arith}
 use lib.ListN.{length, set}
 use Rattle.pie.specs.Verdicts.{admitted}
+use Rattle.pie.specs.declared.Verdict.{Verdict}
 use Rattle.queue.specs.Answer.{departed, handleIn, refused, sizeIn, ticked, verdict}
 use Rattle.refusals.specs.Numbers.{numberOf, refusalIn}
 use Rattle.docsis_pie.specs.declared.Decided.{Decided}
@@ -91,3 +93,23 @@ pub tick-taken : (s : State) (row : List ℕ) (clock credits : ℕ) (checked : A
     (record { answer = ticked; state = after } ≡ reply) × ((0 ≡ handleIn (reply .answer)) × (0 ≡ sizeIn (reply .answer)))
 unfolding tick
 tick-taken s row clock credits checked after found e ea = rw (← e, found, ea) (refl, (refl, refl))
+
+-- an arrival that is answered with a verdict was not refused: the verdict and the state are those of the rules
+pub decided : (s : State) (row handles sizes : List ℕ) (clock size u : ℕ) (v : Verdict) →
+    let reply = arrival s row handles sizes clock size u in
+    let d = decisionOf s size u in
+    reply .answer ≡ verdict v →
+    (arrivalRefusal s row (length handles) (length sizes) clock size ≡ 0) × (d .verdict ≡ v) × (reply .state ≡ arrivedState s clock size d)
+unfolding arrival
+decided s row handles sizes clock size u v = go (arrivalRefusal s row (length handles) (length sizes) clock size) refl
+  where
+    d : Decided
+    d = decisionOf s size u
+
+    r : Reply
+    r = record { answer = verdict (d .verdict); state = arrivedState s clock size d }
+
+    go : (n : ℕ) → arrivalRefusal s row (length handles) (length sizes) clock size ≡ n → (unlessRefused n s r) .answer ≡ verdict v →
+        (n ≡ 0) × (d .verdict ≡ v) × ((unlessRefused n s r) .state ≡ arrivedState s clock size d)
+    go zero e f = (refl, cc, refl)
+    go (suc n) e f = let z : _≡_ {A = ℕ} 0 1 = cc in absurd (omega arith)

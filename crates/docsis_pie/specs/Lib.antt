@@ -4,3 +4,4 @@ pub mod DropDecision
 pub mod Delay
 pub mod Probability
 pub mod Update
+pub mod Examples
