@@ -1,11 +1,12 @@
 -- Where a line ends, from the byte at a place on.
 use mathlib.Core.Path.{_≡_, refl, ap, _∙_}
-use mathlib.Core.Bool.{true}
-use mathlib.Core.List.{List}
+use mathlib.Core.Bool.{Bool, true, false, cond}
+use mathlib.Core.List.{List, [], _∷_}
 use Prim.Native.Nat.{ℕ, suc, _+_, _≤_, _<_}
 use native.Mathlib.Omega.{arith}
 use native.Mathlib.Numerals.{add-one}
 use borrow.Author.Tests.{eq-eqb, le-leb, ne-eqb}
+use lib.Dec.{eqb}
 use lib.ListN.{drop, drop-of-length-le, getD, length}
 use lib.Seq.{drop-cons}
 use Rattle.lines.specs.Reader.{afterDigits, inPhase, moved, pushed}
@@ -17,6 +18,16 @@ use Rattle.lines.specs.declared.Phase.the-variants.{Digits}
 use Rattle.lines.specs.declared.Reader.{Reader}
 use Rattle.lines.specs.declared.Scanned.{Scanned}
 use Rattle.lines.proofs.Bytes.{digit-low}
+
+-- a line ends within its bytes
+pub line-within : (bytes : List ℕ) → lineEnd bytes ≤ length bytes
+unfolding lineEnd
+line-within [] = omega arith
+line-within (b ∷ bytes) = go (eqb b 10) (line-within bytes)
+  where
+    go : (t : Bool) → lineEnd bytes ≤ length bytes → cond t 0 (suc (lineEnd bytes)) ≤ suc (length bytes)
+    go true h = omega arith
+    go false h = omega arith
 
 module _ (bytes : List ℕ) (i : ℕ) (r : Reader) where
   pub end-at-newline : i < length bytes → getD bytes i 0 ≡ 10 → lineEnd (drop i bytes) ≡ 0

@@ -35,15 +35,6 @@ reading m r = record { run = m .run; reader = r }
 
 -- ── a line's bytes ──
 
-pub line-within : (bytes : List ℕ) → lineEnd bytes ≤ length bytes
-unfolding lineEnd
-line-within [] = omega arith
-line-within (b ∷ bytes) = go (eqb b 10) (line-within bytes)
-  where
-    go : (t : Bool) → lineEnd bytes ≤ length bytes → cond t 0 (suc (lineEnd bytes)) ≤ suc (length bytes)
-    go true h = omega arith
-    go false h = omega arith
-
 -- where a line ends before the bytes do, a newline stands
 pub newline-there : (bytes : List ℕ) → lineEnd bytes < length bytes → getD bytes (lineEnd bytes) 0 ≡ 10
 unfolding lineEnd
