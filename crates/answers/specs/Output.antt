@@ -31,8 +31,11 @@ wordOf (departed handle size) = ascii "departed " ++ digitsOf handle
 wordOf ticked = ascii "ticked"
 
 -- probability and bytes
+abbrev pub numbersText : (prob bytes : ℕ) → List ℕ
+numbersText prob bytes = (ascii " " ++ digitsOf prob) ++ ((ascii " " ++ digitsOf bytes) ++ ascii "\n")
+
 abbrev pub stateText : State → List ℕ
-stateText s = (ascii " " ++ digitsOf (s .pie .prob .0)) ++ ((ascii " " ++ digitsOf (s .backlog .bytes .0)) ++ ascii "\n")
+stateText s = numbersText (s .pie .prob .0) (s .backlog .bytes .0)
 
 abbrev pub replyText : Reply → List ℕ
 replyText r = wordOf (r .answer) ++ stateText (r .state)

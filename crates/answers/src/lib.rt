@@ -14,9 +14,9 @@ ghost use Rattle.decimal.specs.Digits.{digitsOf};
 ghost use Rattle.decimal.specs.Written.{Wrote};
 ghost use Rattle.queue.specs.Answer.{acceptedAnswer, arrivalAnswer, departed, made, refused, ticked};
 ghost use Rattle.refusals.specs.Numbers.{numberOf};
-ghost use Rattle.answers.specs.Output.{ascii, badText, stateText, verdictWord, wordOf};
+ghost use Rattle.answers.specs.Output.{ascii, badText, numbersText, stateText, verdictWord, wordOf};
 
-fn put_refused(refusal: Refusal, out: &mut [u8], at: usize) -> usize
+pub fn put_refused(refusal: Refusal, out: &mut [u8], at: usize) -> usize
     requires { ⌜ at + 40 ≤ length (now out) ⌝ }
     ensures { λ r. ⌜ Wrote (now (out .entry)) (now (out .exit)) at r (wordOf (refused (numberOf refusal))) ⌝ }
     ensures { λ r. ⌜ r ≤ at + 40 ⌝ }
@@ -25,7 +25,7 @@ fn put_refused(refusal: Refusal, out: &mut [u8], at: usize) -> usize
     put_number(refusal.number() as u64, out, end)
 }
 
-fn put_verdict(v: Verdict, out: &mut [u8], at: usize) -> usize
+pub fn put_verdict(v: Verdict, out: &mut [u8], at: usize) -> usize
     requires { ⌜ at + 40 ≤ length (now out) ⌝ }
     ensures { λ r. ⌜ Wrote (now (out .entry)) (now (out .exit)) at r (verdictWord v) ⌝ }
     ensures { λ r. ⌜ r ≤ at + 40 ⌝ }
@@ -61,7 +61,7 @@ pub fn put_arrival(answer: ArrivalAnswer, out: &mut [u8], at: usize) -> usize
     }
 }
 
-fn put_departed(handle: u32, out: &mut [u8], at: usize) -> usize
+pub fn put_departed(handle: u32, out: &mut [u8], at: usize) -> usize
     requires { ⌜ at + 40 ≤ length (now out) ⌝ }
     ensures { λ r. ⌜ Wrote (now (out .entry)) (now (out .exit)) at r (wordOf (departed handle 0)) ⌝ }
     ensures { λ r. ⌜ r ≤ at + 40 ⌝ }
@@ -103,14 +103,22 @@ fn put_field(n: u64, out: &mut [u8], at: usize) -> usize
 }
 
 // The probability and the bytes, and the line's end.
+pub fn put_numbers(prob: u64, bytes: u64, out: &mut [u8], at: usize) -> usize
+    requires { ⌜ at + 43 ≤ length (now out) ⌝ }
+    ensures { λ r. ⌜ Wrote (now (out .entry)) (now (out .exit)) at r (numbersText prob bytes) ⌝ }
+    ensures { λ r. ⌜ r ≤ at + 43 ⌝ }
+{
+    let gap = put_field(prob, out, at);
+    let end = put_field(bytes, out, gap);
+    put(b"\n", out, end)
+}
+
 pub fn put_state(state: State, out: &mut [u8], at: usize) -> usize
     requires { ⌜ at + 43 ≤ length (now out) ⌝ }
     ensures { λ r. ⌜ Wrote (now (out .entry)) (now (out .exit)) at r (stateText state) ⌝ }
     ensures { λ r. ⌜ r ≤ at + 43 ⌝ }
 {
-    let gap = put_field(state.pie.prob.0, out, at);
-    let end = put_field(state.backlog.bytes.0, out, gap);
-    put(b"\n", out, end)
+    put_numbers(state.pie.prob.0, state.backlog.bytes.0, out, at)
 }
 
 pub fn put_bad(line: u64, out: &mut [u8], at: usize) -> usize

@@ -2,8 +2,9 @@
 use mathlib.Core.Path.{_≡_}
 use mathlib.Core.List.{List, foldl}
 use Prim.Native.Nat.{ℕ}
+use Rattle.lines.specs.Reader.{begun, pushed}
 use Rattle.command.specs.Line.{readLine}
-use Rattle.command.specs.Reader.{begun, finished, pushed}
+use Rattle.command.specs.Reader.{finished}
 
 abbrev pub ReadsLines : Type 0
 ReadsLines = (line : List ℕ) → finished (foldl pushed begun line) ≡ readLine line

@@ -1,8 +1,5 @@
--- A line of a script: which command it is (document 01, 'A script program').
-pub mod Numbers
-pub mod Words
+-- The commands of the ring queue's script: the table of their forms, and a line read by it (document 01, 'A script program').
 pub mod Forms
 pub mod Line
 pub mod Reader
 pub mod Incremental
-pub mod Scan

@@ -1,9 +1,10 @@
-// A line of a script, read byte by byte.
-mod finish;
-mod push;
-mod scanning;
-
-pub use scanning::scan;
+// The command that a line of a script is, for the ring queue.
+use lines::Phase;
+use lines::Reader;
+ghost use mathlib.Core.Path.{_≡_};
+ghost use Rattle.lines.specs.Reader.{numbersIn};
+ghost use Rattle.command.specs.Forms.{commandOf};
+ghost use Rattle.command.specs.Reader.{finished};
 
 pub enum Command {
     // No command has this form.
@@ -28,34 +29,96 @@ pub enum Command {
     },
 }
 
-// What the reader has just read.
-pub enum Phase {
-    // Nothing.
-    Start,
-    Letter,
-    // A space.
-    Gap,
-    // Digits of a field.
-    Digits,
-    // Something that no command begins with.
-    Spoiled,
+const WORD: u64 = 4_294_967_295;
+
+// c target buffer slots
+fn configure(reader: Reader) -> Command
+    ensures { λ r. ⌜ r ≡ commandOf 99 (numbersIn reader) ⌝ }
+{
+    if reader.count != 2 {
+        return Command::Bad;
+    }
+    let fits = (reader.fourth <= WORD) & (reader.fifth <= WORD) & (reader.value <= 4096);
+    if fits {
+        return Command::Configure {
+            target: reader.fourth as u32,
+            buffer: reader.fifth as u32,
+            slots: reader.value as u32,
+        };
+    }
+    Command::Bad
 }
 
-pub struct Reader {
-    pub phase: Phase,
-    pub letter: u8,
-    // The fields before the one that is read, and the last four of them.
-    pub count: u64,
-    pub first: u64,
-    pub second: u64,
-    pub third: u64,
-    pub fourth: u64,
-    // The field that is read.
-    pub value: u64,
+// a clock handle size ecn u
+fn arrival(reader: Reader) -> Command
+    ensures { λ r. ⌜ r ≡ commandOf 97 (numbersIn reader) ⌝ }
+{
+    if reader.count != 4 {
+        return Command::Bad;
+    }
+    let fits = (reader.third <= WORD)
+        & (reader.fourth <= WORD)
+        & (reader.fifth <= 1)
+        & (reader.value <= WORD);
+    if fits {
+        return Command::Arrival {
+            clock: reader.second,
+            handle: reader.third as u32,
+            size: reader.fourth as u32,
+            ecn: reader.fifth == 1,
+            u: reader.value as u32,
+        };
+    }
+    Command::Bad
 }
 
-// A reader and the place in the input that it has come to.
-pub struct Scanned {
-    pub reader: Reader,
-    pub at: usize,
+// d clock
+fn departure(reader: Reader) -> Command
+    ensures { λ r. ⌜ r ≡ commandOf 100 (numbersIn reader) ⌝ }
+{
+    if reader.count != 0 {
+        return Command::Bad;
+    }
+    Command::Departure {
+        clock: reader.value,
+    }
+}
+
+// t clock
+fn tick(reader: Reader) -> Command
+    ensures { λ r. ⌜ r ≡ commandOf 116 (numbersIn reader) ⌝ }
+{
+    if reader.count != 0 {
+        return Command::Bad;
+    }
+    Command::Tick {
+        clock: reader.value,
+    }
+}
+
+fn by_letter(reader: Reader) -> Command
+    ensures { λ r. ⌜ r ≡ commandOf (reader .letter) (numbersIn reader) ⌝ }
+{
+    let letter = reader.letter;
+    match letter {
+        b'a' => arrival(reader),
+        b'd' => departure(reader),
+        b't' => tick(reader),
+        b'c' => configure(reader),
+        _ => Command::Bad,
+    }
+}
+
+// The command that the reader has read, at the end of a line.
+pub fn finish(reader: Reader) -> Command
+    ensures { λ r. ⌜ r ≡ finished reader ⌝ }
+{
+    let phase = reader.phase;
+    match phase {
+        Phase::Digits => by_letter(reader),
+        Phase::Start => Command::Bad,
+        Phase::Letter => Command::Bad,
+        Phase::Gap => Command::Bad,
+        Phase::Spoiled => Command::Bad,
+    }
 }

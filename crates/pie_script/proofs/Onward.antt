@@ -6,7 +6,7 @@ use Prim.Native.Nat.{ℕ, _+_, _≤_}
 use lib.Dec.{eqb}
 use lib.ListN.{drop, take}
 use lib.Seq.{take-add}
-use Rattle.command.specs.Reader.{pushed}
+use Rattle.lines.specs.Reader.{pushed}
 use Rattle.pie_script.specs.Feeds.{Feeds}
 use Rattle.script.specs.Feeding.{Machine, byteFed, fed, lineFed, machine}
 use Rattle.script.specs.Pieces.{emptied}

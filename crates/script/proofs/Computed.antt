@@ -3,7 +3,7 @@ use mathlib.Core.Path.{refl}
 use Rattle.decimal.specs.Digits.{digitsOf, spelled}
 use Rattle.command.specs.Forms.{commandOf}
 use Rattle.command.specs.Line.{readLine}
-use Rattle.command.specs.Words.{wordsOf}
+use Rattle.lines.specs.Words.{wordsOf}
 use Rattle.pie.specs.DepartureRate.{averageOf, rateAfter, sampleOf}
 use Rattle.pie.specs.DropDecision.{accumulatedAfter, drawn, dropDecision}
 use Rattle.pie.specs.Update.{decayed, delayOf, divisorOf, errorOf, limited, lookup, nextAllowance, nextProb, stepOf, updated}

@@ -5,9 +5,10 @@ use mathlib.Core.List.{List, [], _∷_, _++_, append-assoc, append-nil, foldl, f
 use Prim.Native.Nat.{ℕ}
 use lib.Dec.{eqb}
 use Rattle.command.specs.Line.{readLine}
-use Rattle.command.specs.Reader.{begun, finished, isEmpty, pushed}
+use Rattle.lines.specs.Reader.{begun, isEmpty, pushed}
+use Rattle.command.specs.Reader.{finished}
 use Rattle.command.specs.declared.Command.{Command}
-use Rattle.command.proofs.Emptiness.{not-empty}
+use Rattle.lines.proofs.Emptiness.{not-empty}
 use Rattle.command.proofs.Reading.{reads-lines}
 use Rattle.script.specs.Feeding.{Machine, byteFed, endFed, fed, hasEnded, lineFed}
 use Rattle.script.specs.Lines.{joined, linesOf}

@@ -10,11 +10,12 @@ use borrow.Author.Tests.{eqb-true}
 use lib.Dec.{eqb}
 use lib.ListN.{drop, getD, length, length-drop, take}
 use lib.Seq.{getD-drop, take-add, take-suc}
-use Rattle.command.specs.Reader.{begun, finished, pushed}
-use Rattle.command.specs.Scan.{lineEnd, readOn}
+use Rattle.lines.specs.Reader.{begun, pushed}
+use Rattle.command.specs.Reader.{finished}
+use Rattle.lines.specs.Scan.{lineEnd, readOn}
 use Rattle.command.specs.declared.Command.{Command}
-use Rattle.command.specs.declared.Reader.{Reader}
-use Rattle.command.specs.declared.Scanned.{Scanned}
+use Rattle.lines.specs.declared.Reader.{Reader}
+use Rattle.lines.specs.declared.Scanned.{Scanned}
 use Rattle.script.specs.Answering.{outcome}
 use Rattle.script.specs.Done.{Did}
 use Rattle.script.specs.Feeding.{Machine, byteFed, fed, lineFed, machine}
@@ -33,15 +34,6 @@ abbrev pub reading : Machine → Reader → Machine
 reading m r = record { run = m .run; reader = r }
 
 -- ── a line's bytes ──
-
-pub line-within : (bytes : List ℕ) → lineEnd bytes ≤ length bytes
-unfolding lineEnd
-line-within [] = omega arith
-line-within (b ∷ bytes) = go (eqb b 10) (line-within bytes)
-  where
-    go : (t : Bool) → lineEnd bytes ≤ length bytes → cond t 0 (suc (lineEnd bytes)) ≤ suc (length bytes)
-    go true h = omega arith
-    go false h = omega arith
 
 -- where a line ends before the bytes do, a newline stands
 pub newline-there : (bytes : List ℕ) → lineEnd bytes < length bytes → getD bytes (lineEnd bytes) 0 ≡ 10

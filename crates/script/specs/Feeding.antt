@@ -3,8 +3,9 @@ use mathlib.Core.Bool.{Bool, true, false, cond, _||_}
 use mathlib.Core.List.{List, foldl}
 use Prim.Native.Nat.{ℕ, _-_}
 use lib.Dec.{eqb, ltb}
-use Rattle.command.specs.Reader.{begun, finished, isEmpty, pushed}
-use Rattle.command.specs.declared.Reader.{Reader}
+use Rattle.lines.specs.Reader.{begun, isEmpty, pushed}
+use Rattle.command.specs.Reader.{finished}
+use Rattle.lines.specs.declared.Reader.{Reader}
 use Rattle.script.specs.Script.{ScriptRun, answerLine, startSession}
 use Rattle.script.specs.declared.Runner.{Runner}
 use Rattle.script.specs.declared.Stage.{Stage}

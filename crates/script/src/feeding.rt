@@ -4,8 +4,8 @@ use crate::Runner;
 use crate::Session;
 use crate::Stage;
 use crate::answering::answer;
-use command::Reader;
-use command::scan;
+use lines::Reader;
+use lines::scan;
 use queue::State;
 use units::Bytes;
 use units::Micros;
@@ -89,7 +89,7 @@ pub fn feed(
         reader = scanned.reader;
         taken = scanned.at;
         if taken < input.len() {
-            let answered = answer(session, reader.finish(), handles, sizes, output, written);
+            let answered = answer(session, command::finish(reader), handles, sizes, output, written);
             session = answered.session;
             reader = Reader::begin();
             taken += 1;
@@ -124,7 +124,7 @@ pub fn finish(runner: Runner, handles: &mut [u32], sizes: &mut [u32], output: &m
         return none;
     }
     let session = runner.session;
-    let answered = answer(session, reader.finish(), handles, sizes, output, 0);
+    let answered = answer(session, command::finish(reader), handles, sizes, output, 0);
     let session = answered.session;
     Fed {
         runner: Runner {

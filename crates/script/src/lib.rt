@@ -1,5 +1,5 @@
 // A script of queue calls, fed in pieces of any length.
-use command::Reader;
+use lines::Reader;
 use queue::State;
 
 mod answering;

@@ -10,10 +10,12 @@ use lib.ListN.{getD, length}
 use Rattle.laws.specs.Every.{Every}
 use Rattle.laws.proofs.Choice.{either, at-cond}
 use Rattle.laws.proofs.Tests.{and-right}
-use Rattle.command.specs.Forms.{Form, commandOf, fits, formed, forms, word}
-use Rattle.command.specs.Line.{areNumbers, readLine, wordsRead}
-use Rattle.command.specs.Numbers.{valueOf}
-use Rattle.command.specs.Words.{wordsOf}
+use Rattle.lines.specs.Forms.{Form, fits, formed, word}
+use Rattle.lines.specs.Line.{areNumbers, wordsRead}
+use Rattle.command.specs.Forms.{commandOf, forms}
+use Rattle.command.specs.Line.{readLine}
+use Rattle.lines.specs.Numbers.{valueOf}
+use Rattle.lines.specs.Words.{wordsOf}
 use Rattle.command.specs.declared.Command.{Command}
 use Rattle.command.specs.declared.Command.the-variants.{Bad, Configure, Arrival, Departure, Tick}
 
@@ -33,13 +35,13 @@ third-fits (a ∷ b ∷ c ∷ rest) e =
     leb-true c 4096 (and-right (leb a word && leb b word) (leb c 4096) (and-right (eqb (length (a ∷ b ∷ c ∷ rest)) 3) tests e))
 
 -- what fits a form
-abbrev Few : Form → Type 0
+abbrev Few : Form Command → Type 0
 Few form = (numbers : List ℕ) → fits (form .most) numbers ≡ true → FewSlots (form .make numbers)
 
-forms-few : (fs : List Form) → Every Few fs → (letter : ℕ) (numbers : List ℕ) → FewSlots (formed fs letter numbers)
+forms-few : (fs : List (Form Command)) → Every Few fs → (letter : ℕ) (numbers : List ℕ) → FewSlots (formed Bad fs letter numbers)
 forms-few [] all letter numbers = tt
 forms-few (form ∷ rest) all letter numbers =
-    either FewSlots (eqb letter (form .letter)) (cond (fits (form .most) numbers) (form .make numbers) Bad) (formed rest letter numbers)
+    either FewSlots (eqb letter (form .letter)) (cond (fits (form .most) numbers) (form .make numbers) Bad) (formed Bad rest letter numbers)
     (at-cond FewSlots (fits (form .most) numbers) {a = form .make numbers} {b = Bad} (all .0 numbers) (λ e. tt))
     (forms-few rest (all .1) letter numbers)
 
@@ -47,7 +49,7 @@ form-few : (letter : ℕ) (numbers : List ℕ) → FewSlots (commandOf letter nu
 unfolding commandOf
 form-few letter numbers = forms-few forms (third-fits, (λ n e. tt, (λ n e. tt, (λ n e. tt, tt)))) letter numbers
 
-words-few : (first : List ℕ) (fields : List (List ℕ)) → FewSlots (wordsRead first fields)
+words-few : (first : List ℕ) (fields : List (List ℕ)) → FewSlots (wordsRead Bad commandOf first fields)
 words-few [] fields = tt
 words-few (letter ∷ []) fields =
     either FewSlots (areNumbers fields) (commandOf letter (map valueOf fields)) Bad (form-few letter (map valueOf fields)) tt

@@ -5,11 +5,12 @@ use Prim.Native.Nat.{_+_, _-_, _<_, _≤_}
 use native.Mathlib.Omega.{arith}
 use borrow.Author.Tests.{not-false, not-true}
 use lib.ListN.{drop, length, length-drop}
+use Rattle.lines.proofs.LineEnds.{line-within}
 use Rattle.script.specs.Feeding.{fed, machine}
 use Rattle.script.specs.Turn.{Follows}
 use Rattle.script.specs.declared.Fed.{Fed}
 use Rattle.script.proofs.Stops.{input-left, room-left}
-use Rattle.script.proofs.Turns.{line-within, turn-end, turn-line}
+use Rattle.script.proofs.Turns.{turn-end, turn-line}
 use Rattle.script.proofs.feeding.feed.Statement.{statement}
 use Rattle.script.proofs.feeding.feed.Tie as tie
 

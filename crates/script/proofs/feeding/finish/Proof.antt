@@ -3,7 +3,7 @@ use mathlib.Core.Path.{refl, sym, ap}
 use native.Mathlib.Omega.{arith}
 use borrow.Author.Tests.{le-leb, lt-leb}
 use lib.ListN.{length}
-use Rattle.command.specs.Reader.{begun}
+use Rattle.lines.specs.Reader.{begun}
 use Rattle.script.specs.Feeding.{endFed}
 use Rattle.script.specs.Script.{ScriptRun}
 use Rattle.script.proofs.Turns.{answered-is}

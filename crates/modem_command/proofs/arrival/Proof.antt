@@ -1,0 +1,55 @@
+-- `arrival`: with four fields before the value there are five numbers.
+use native.Mathlib.Omega.{arith}
+use mathlib.Core.Bool.{and-true}
+use borrow.Author.Tests.{le-leb}
+use lib.Dec.{leb}
+use Rattle.lines.proofs.Counts.{count-not}
+use Rattle.modem_command.specs.Forms.{commandOf}
+use Rattle.modem_command.proofs.Bytes.{four-fit}
+use Rattle.modem_command.proofs.arrival.Statement.{statement}
+use Rattle.modem_command.proofs.arrival.Tie as tie
+
+returns : tie.Need-returns
+unfolding commandOf
+returns c = rw (count-not (c .before .before .args .reader) 4 (omega arith) (c .if1 .taken))
+
+cast-t9 : tie.Need-cast-t9
+cast-t9 c =
+    let k = c .before in
+    let r = k .before .before .before .before .before .before .before .args .reader in
+    omega (arith, four-fit (r .second) (r .fourth) (r .fifth) (r .value) 4294967295 4294967295 4294967295 4294967295 (k .if2 .taken) .0)
+
+cast-t10 : tie.Need-cast-t10
+cast-t10 c =
+    let k = c .before .before in
+    let r = k .before .before .before .before .before .before .before .args .reader in
+    omega (arith, four-fit (r .second) (r .fourth) (r .fifth) (r .value) 4294967295 4294967295 4294967295 4294967295 (k .if2 .taken) .1)
+
+cast-t11 : tie.Need-cast-t11
+cast-t11 c =
+    let k = c .before .before .before in
+    let r = k .before .before .before .before .before .before .before .args .reader in
+    omega (arith, four-fit (r .second) (r .fourth) (r .fifth) (r .value) 4294967295 4294967295 4294967295 4294967295 (k .if2 .taken) .2)
+
+cast-t12 : tie.Need-cast-t12
+cast-t12 c =
+    let k = c .before .before .before .before in
+    let r = k .before .before .before .before .before .before .before .args .reader in
+    omega (arith, four-fit (r .second) (r .fourth) (r .fifth) (r .value) 4294967295 4294967295 4294967295 4294967295 (k .if2 .taken) .3)
+
+returns-2 : tie.Need-returns-2
+unfolding commandOf
+returns-2 c =
+    let i = c .before .before .before .before .before .before .before .before .before in
+    let r = i .before .before .args .reader in
+    rw (i .if1 .left, le-leb (r .third) 18446744073709551615 (omega arith), and-true (leb (r .second) 4294967295), c .before .before .before .before .if2 .taken)
+
+returns-3 : tie.Need-returns-3
+unfolding commandOf
+returns-3 c =
+    let i = c .before .before .before .before .before in
+    let r = i .before .before .args .reader in
+    rw (i .if1 .left, le-leb (r .third) 18446744073709551615 (omega arith), and-true (leb (r .second) 4294967295), c .if2 .left)
+
+pub arrival-spec : {M : Type 1} → statement M
+arrival-spec = tie.close (tie.spec returns cast-t9 cast-t10 cast-t11 cast-t12 returns-2 returns-3)
