@@ -1,0 +1,3 @@
+-- The modem's C interface: a flow's state as words, and an answer as a number.
+pub mod Words
+pub mod Codes
