@@ -14,7 +14,8 @@ abbrev pub fieldsRead : {Command : Type 0} → (bad : Command) (make : ℕ → L
 fieldsRead bad make letter fields = cond (areNumbers fields) (make letter (map valueOf fields)) bad
 
 -- a first word and fields: the first word is one letter
-abbrev pub wordsRead : {Command : Type 0} → (bad : Command) (make : ℕ → List ℕ → Command) (first : List ℕ) (fields : List (List ℕ)) → Command
+abbrev pub wordsRead : {Command : Type 0} → (bad : Command) (make : ℕ → List ℕ → Command) →
+    (first : List ℕ) (fields : List (List ℕ)) → Command
 wordsRead bad make [] fields = bad
 wordsRead bad make (letter ∷ []) fields = fieldsRead bad make letter fields
 wordsRead bad make (letter ∷ more ∷ rest) fields = bad

@@ -1,5 +1,6 @@
 // A line answered by its command.
 use crate::Answered;
+use crate::Packet;
 use crate::calling::arrival_line;
 use crate::calling::configure_line;
 use crate::calling::departure_line;
@@ -9,6 +10,8 @@ use answers::put_bad;
 use modem_command::Command;
 ghost use Prim.Native.Nat.{_+_, _≤_};
 ghost use lib.ListN.{length};
+ghost use Rattle.answers.specs.Output.{badText};
+ghost use Rattle.decimal.specs.Written.{Wrote};
 
 // On the first line every command but a `c` is bad.
 fn in_place(command: Command, line: u64) -> Command {
@@ -27,6 +30,7 @@ fn in_place(command: Command, line: u64) -> Command {
 
 fn bad_line(line: u64, out: &mut [u8], at: usize) -> Answered
     requires { ⌜ at + 128 ≤ length (now out) ⌝ }
+    ensures { λ r. ⌜ Wrote (now (out .entry)) (now (out .exit)) at (r .end) (badText line) ⌝ }
     ensures { λ r. ⌜ r .end ≤ at + 128 ⌝ }
 {
     let end = put_bad(line, out, at);
@@ -73,12 +77,15 @@ pub fn answer(
             handle,
             size,
             u,
-        } => good_line(arrival_line(
-            flow, clock, handle, size, u, states, counts, handles, sizes, out, at,
-        )),
-        Command::Departure { flow, clock } => good_line(departure_line(
-            flow, clock, states, counts, handles, sizes, out, at,
-        )),
+        } => {
+            let packet = Packet { handle, size, u };
+            let end = arrival_line(flow, clock, packet, states, counts, handles, sizes, out, at);
+            good_line(end)
+        }
+        Command::Departure { flow, clock } => {
+            let end = departure_line(flow, clock, states, counts, handles, sizes, out, at);
+            good_line(end)
+        }
         Command::Tick {
             flow,
             clock,

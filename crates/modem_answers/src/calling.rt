@@ -1,4 +1,5 @@
 // The four calls on a flow: its state is taken from the words, and what the call returns is kept and written.
+use crate::Packet;
 use crate::flows::end_of;
 use crate::flows::keep;
 use crate::flows::start_of;
@@ -9,8 +10,11 @@ use docsis_flow::Settings;
 use units::Bytes;
 use units::BytesPerSecond;
 use units::Micros;
+ghost use mathlib.Core.Path.{_≡_};
 ghost use Prim.Native.Nat.{_+_, _≤_};
 ghost use lib.ListN.{length};
+ghost use Rattle.decimal.specs.Written.{Wrote};
+ghost use Rattle.modem_answers.specs.Output.{repliedText};
 
 // Keeps the counts and the flow's state that a call returned, and writes its answer.
 fn take_back(
@@ -22,7 +26,9 @@ fn take_back(
     at: usize,
 ) -> usize
     requires { ⌜ at + 128 ≤ length (now out) ⌝ }
+    ensures { λ r. ⌜ Wrote (now (out .entry)) (now (out .exit)) at r (repliedText (returned .replied)) ⌝ }
     ensures { λ r. ⌜ r ≤ at + 128 ⌝ }
+    ensures { λ _. ⌜ now (counts .exit) ≡ returned .counts ⌝ }
 {
     *counts = docsis::counts_of(returned);
     let replied = returned.replied;
@@ -66,9 +72,7 @@ pub(crate) fn settings_of(
 pub(crate) fn arrival_line(
     flow: u32,
     clock: u64,
-    handle: u32,
-    size: u32,
-    u: u32,
+    packet: Packet,
     states: &mut [[u64; 16]],
     counts: &mut [[u64; 5]; 16],
     handles: &mut [u32],
@@ -92,9 +96,9 @@ pub(crate) fn arrival_line(
         &mut handles[from..to],
         &mut sizes[begin..end],
         Micros(clock),
-        handle,
-        Bytes(size as u64),
-        u,
+        packet.handle,
+        Bytes(packet.size as u64),
+        packet.u,
     );
     take_back(returned, flow, states, counts, out, at)
 }

@@ -37,7 +37,6 @@ fn next(line: u64) -> u64 {
     line
 }
 
-
 // Takes input until it is used up, the run has ended or the output has no room for another line.
 // A turn takes a line, or the rest of the input where that holds no newline.
 pub fn feed(
@@ -68,8 +67,8 @@ pub fn feed(
         reader = scanned.reader;
         taken = scanned.at;
         if taken < input.len() {
-            let command = modem_command::finish(reader);
-            let answered = answer(line, command, states, counts, handles, sizes, output, written);
+            let read = modem_command::finish(reader);
+            let answered = answer(line, read, states, counts, handles, sizes, output, written);
             over = answered.bad;
             line = next(line);
             reader = Reader::begin();

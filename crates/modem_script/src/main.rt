@@ -51,15 +51,7 @@ fn feed_piece(
     let mut runner = begun;
     let mut at = 0;
     while at < input.len() {
-        let some = feed_some(
-            runner,
-            states,
-            counts,
-            handles,
-            sizes,
-            &input[at..],
-            output,
-        );
+        let some = feed_some(runner, states, counts, handles, sizes, &input[at..], output);
         let taken = some.taken;
         runner = some.runner;
         at += taken;
@@ -111,15 +103,7 @@ fn read_piece(
             more: false,
         };
     }
-    feed_piece(
-        runner,
-        states,
-        counts,
-        handles,
-        sizes,
-        &input[..n],
-        output,
-    )
+    feed_piece(runner, states, counts, handles, sizes, &input[..n], output)
 }
 
 // A proved loop has to end, and nothing says that an input does. So the loop counts its turns

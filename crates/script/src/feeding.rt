@@ -89,7 +89,8 @@ pub fn feed(
         reader = scanned.reader;
         taken = scanned.at;
         if taken < input.len() {
-            let answered = answer(session, command::finish(reader), handles, sizes, output, written);
+            let read = command::finish(reader);
+            let answered = answer(session, read, handles, sizes, output, written);
             session = answered.session;
             reader = Reader::begin();
             taken += 1;

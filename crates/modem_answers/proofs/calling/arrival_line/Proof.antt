@@ -42,11 +42,14 @@ part-arrival-start-2 c = search needs
 part-arrival-end-2 : tie.Need-part-arrival-end-2
 part-arrival-end-2 c = search needs
 
+cast-t32 : tie.Need-cast-t32
+cast-t32 c = search needs
+
 arrival-requires : tie.Need-arrival-requires
 arrival-requires c κs = search needs
 
 take-back-requires : tie.Need-take-back-requires
-take-back-requires c κs = c .before .before .before .before .before .before .before .before .before .before .before .before .before .before .before .before .before .before .before .before .pre
+take-back-requires c κs = c .before .before .before .before .before .before .before .before .before .before .before .before .before .before .before .before .before .before .before .before .before .pre
 
 same-length : tie.Need-same-length
 same-length c = search needs
@@ -80,6 +83,7 @@ arrival-line-spec =
     sub-arrival-2
     part-arrival-start-2
     part-arrival-end-2
+    cast-t32
     arrival-requires
     take-back-requires
     same-length
