@@ -214,8 +214,7 @@ grace-holds start calls before e later row handles sizes t handle size u q is dr
     let answered : (reply s c) .answer ≡ e .answer = ap (λ (x : Entry). x .answer) (here .replied) in
     let returned : (reply s c) .state ≡ e .returned = ap (λ (x : Entry). x .returned) (here .replied) in
     let left : Dropped t ((reply s c) .state) = rw is (dropped s row handles sizes t handle size u (rw is at (answered ∙ drops)) idle) in
-    let out : Dropped t (e .returned) = rw returned at left in
-    (
+    let out : Dropped t (e .returned) = rw returned at left in (
       out .protected .activity,
       out .protected .allowance,
       rw (← here .onward) (along flowCalls (SafeState t) (ByLimitsBefore (t + grace)) (kept-safe t) (entry-by-limits t) ((reply s c) .state) (here .calls) (left .safe)),
