@@ -19,8 +19,8 @@ use Rattle.docsis_flow.proofs.WhenAccepted.{arrival-accepted}
 use Rattle.docsis.specs.Calls.{flowRefused, forFlow}
 use Rattle.docsis.specs.Counts.{countsAfter}
 use Rattle.docsis_capi.specs.Codes.{placeIn}
-use Rattle.docsis_capi.specs.Words.{arrivalWords, raisedAt, stateOf, stateWords}
-use Rattle.docsis_capi.proofs.Changed.{arrival-words, words-taken}
+use Rattle.docsis_capi.specs.Words.{arrivalWords, departureWords, raisedAt, stateOf, stateWords}
+use Rattle.docsis_capi.proofs.Changed.{arrival-words, departure-words, words-taken}
 use Rattle.docsis_capi.proofs.Entries.{Gives, answer-taken, gives-accepted, gives-refused, state-taken, taken}
 
 -- ── a tick ──
@@ -58,14 +58,17 @@ departure-refused s row handles sizes clock flow counts r n w er en e h ew =
     let k = departureRefusal s row (length handles) (length sizes) clock (headOf s sizes) in
     gives-refused s (departureReply s handles sizes clock) k r n er en flow counts e w refl h ew
 
-pub departure-taken : (s : State) (row handles sizes : List ℕ) (clock flow : ℕ) (counts : List (List ℕ)) (r : Replied) (n : ℕ) (w : List ℕ) →
+pub departure-taken : (s : State) (row handles sizes : List ℕ) (clock flow : ℕ) (counts : List (List ℕ)) (r : Replied) (n : ℕ) (w after : List ℕ) →
     replyIn r ≡ departure s row handles sizes clock → n ≡ refusalOf (r .outcome) → flowRefused flow ≡ false → ltb 0 n ≡ false →
-    w ≡ stateWords (r .state) → Gives (forFlow flow s counts (departure s row handles sizes clock)) 0 w counts
+    (s ≡ stateOf w) × (length w ≡ 16) → after ≡ departureWords w (r .state) →
+    Gives (forFlow flow s counts (departure s row handles sizes clock)) 0 after counts
 unfolding departure countsAfter
-departure-taken s row handles sizes clock flow counts r n w er en e h ew =
+departure-taken s row handles sizes clock flow counts r n w after er en e h ed ew =
     let a = departureReply s handles sizes clock in
     let k = departureRefusal s row (length handles) (length sizes) clock (headOf s sizes) in
-    gives-accepted s a k r n er en flow counts e counts 0 w h refl (ew ∙ ap stateWords (state-taken s a k r n er en h)) refl
+    gives-accepted s a k r n er en flow counts e counts 0 after h refl
+    (departure-words w after s (r .state) clock (headOf s sizes) ed ew (state-taken s a k r n er en h))
+    refl
 
 -- ── an arrival ──
 

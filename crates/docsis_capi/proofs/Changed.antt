@@ -16,8 +16,9 @@ use Rattle.docsis_pie.specs.DropDecision.{scaledOf, staysInactive, summed, with
 use Rattle.docsis_pie.specs.declared.Decided.{Decided}
 use Rattle.docsis_pie.specs.declared.DocsisPie.{DocsisPie}
 use Rattle.docsis_flow.specs.Arrival.{arrivedState, bytesFull, decisionOf, slotsFull, turnedAway}
+use Rattle.docsis_flow.specs.Departure.{departedState}
 use Rattle.docsis_flow.specs.declared.State.{State}
-use Rattle.docsis_capi.specs.Words.{arrivalWords, stateOf, stateWords}
+use Rattle.docsis_capi.specs.Words.{arrivalWords, departureWords, stateOf, stateWords}
 
 -- f 0, f 1, ..: n of them
 abbrev listed : ℕ → (ℕ → ℕ) → List ℕ
@@ -102,3 +103,18 @@ arrival-words w s clock size u h =
 pub words-taken : (w after : List ℕ) (s next : State) → after ≡ arrivalWords w s → s ≡ next → arrivalWords w next ≡ stateWords next →
     after ≡ stateWords next
 words-taken w after s next a b c = a ∙ ap (λ (x : State). arrivalWords w x) b ∙ c
+
+-- ── the words that a departure changes ──
+
+left : (w : List ℕ) (clock size : ℕ) →
+    departureWords (listed 16 (λ i. getD w i 0)) (departedState (stateOf w) clock size) ≡ stateWords (departedState (stateOf w) clock size)
+unfolding stateOf stateWords departedState
+left w clock size = refl
+
+pub departure-words : (w after : List ℕ) (s next : State) (clock size : ℕ) → (s ≡ stateOf w) × (length w ≡ 16) →
+    after ≡ departureWords w next → next ≡ departedState s clock size → after ≡ stateWords (departedState s clock size)
+departure-words w after s next clock size h e f =
+    e
+    ∙ ap (λ (x : State). departureWords w x) f
+    ∙ rw (h .0)
+    (ap (λ (l : List ℕ). departureWords l (departedState (stateOf w) clock size)) (written-out 16 w (h .1)) ∙ left w clock size)

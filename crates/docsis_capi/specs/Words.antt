@@ -62,6 +62,10 @@ arrivalWords w s =
     let early = set (set (set w 5 (s .clock .0)) 8 (s .pie .accumulated .0)) 10 (s .pie .allowance .0) in
     set (set (set early 12 (s .pie .phase .activity .0)) 14 (s .backlog .count)) 15 (s .backlog .bytes .0)
 
+-- the words that a departure changes: clock, first place, count and bytes
+abbrev pub departureWords : (words : List ℕ) → State → List ℕ
+departureWords w s = set (set (set (set w 5 (s .clock .0)) 13 (s .first)) 14 (s .backlog .count)) 15 (s .backlog .bytes .0)
+
 -- the counts with the one at this place of the flow's row raised by one
 abbrev pub raisedAt : (counts : List (List ℕ)) (flow place : ℕ) → List (List ℕ)
 raisedAt counts flow place = set counts flow (set (rowOf counts flow) place (getD (rowOf counts flow) place 0 + 1))

@@ -24,7 +24,7 @@ ghost use Rattle.docsis_flow.specs.Fresh.{settingsOf};
 ghost use Rattle.docsis_flow.specs.State.{wellFormed};
 ghost use Rattle.docsis.specs.Calls.{arrival, departure, flowRefused, fresh, tick};
 ghost use Rattle.docsis.specs.Counts.{countsAfter, rowOf};
-ghost use Rattle.docsis_capi.specs.Words.{arrivalWords, raisedAt, stateOf, stateWords};
+ghost use Rattle.docsis_capi.specs.Words.{arrivalWords, departureWords, raisedAt, stateOf, stateWords};
 ghost use Rattle.docsis_capi.specs.Codes.{codeOf, packetOf, placeIn};
 
 // The state that the words hold, and that they are sixteen.
@@ -95,6 +95,16 @@ fn write_arrival(w: &mut [u64; 16], s: State)
     w[8] = s.pie.accumulated.0;
     w[10] = s.pie.allowance.0;
     w[12] = s.pie.phase.activity.0;
+    w[14] = s.backlog.count;
+    w[15] = s.backlog.bytes.0;
+}
+
+// The words that a departure changes.
+fn write_departure(w: &mut [u64; 16], s: State)
+    ensures { λ _. ⌜ now (w .exit) ≡ departureWords (now (w .entry)) s ⌝ }
+{
+    w[5] = s.clock.0;
+    w[13] = s.first;
     w[14] = s.backlog.count;
     w[15] = s.backlog.bytes.0;
 }
@@ -253,7 +263,7 @@ pub extern "C" fn obikuteru_modem_departure(
     if refused {
         return 100 + refusal;
     }
-    encode(words, state);
+    write_departure(words, state);
     0
 }
 

@@ -43,8 +43,8 @@ returns-2 c =
     let g = departure-refused _ _ _ _ _ _ _ r _ _ (k .0) (c .before .refusal .ensures .0) (i .if1 .left) (c .if2 .taken) (kept _ _ d) in
     rw (← (d .0)) (g .0, g .1, g .2, packet-known _ _ _ _ r (i .if1 .left) (k .1))
 
-encode-requires : tie.Need-encode-requires
-encode-requires c κs = search needs
+write-departure-requires : tie.Need-write-departure-requires
+write-departure-requires c κs = search needs
 
 returns-3 : tie.Need-returns-3
 unfolding departure
@@ -52,10 +52,11 @@ returns-3 c =
     let f = c .before .before in
     let t = f .before .before .before .before in
     let i = t .before .before in
+    let d = i .before .decode .ensures in
     let r = t .departure .result in
     let k = t .departure .ensures in
-    let g = departure-taken _ _ _ _ _ _ _ r _ _ (k .0) (f .before .refusal .ensures .0) (i .if1 .left) (f .if2 .left) (c .encode .ensures) in
-    rw (← (i .before .decode .ensures .0)) (g .0, g .1, g .2, packet-known _ _ _ _ r (i .if1 .left) (k .1))
+    let g = departure-taken _ _ _ _ _ _ _ r _ _ _ (k .0) (f .before .refusal .ensures .0) (i .if1 .left) (f .if2 .left) d (c .write-departure .ensures) in
+    rw (← (d .0)) (g .0, g .1, g .2, packet-known _ _ _ _ r (i .if1 .left) (k .1))
 
 pub obikuteru-modem-departure-spec : {M : Type 1} → statement M
 obikuteru-modem-departure-spec =
@@ -69,5 +70,5 @@ obikuteru-modem-departure-spec =
     refusal-requires
     add-result
     returns-2
-    encode-requires
+    write-departure-requires
     returns-3)
