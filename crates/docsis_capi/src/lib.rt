@@ -239,7 +239,8 @@ pub extern "C" fn obikuteru_modem_departure(
     clock: u64,
     packet: &mut [u32; 2],
 ) -> u32
-    ensures { λ r. ⌜ (let a = departure (stateOf (now (words .entry))) (now (counts .entry)) flow (now (handles .entry)) (now (sizes .entry)) clock in
+    ensures { λ r. ⌜ (let s = stateOf (now (words .entry)) in
+        let a = departure s (now (counts .entry)) flow (now (handles .entry)) (now (sizes .entry)) clock in
         (r ≡ codeOf (a .answer))
         × (now (words .exit) ≡ stateWords (a .state))
         × (now (counts .entry) ≡ a .counts)
