@@ -1,0 +1,212 @@
+// States that an example starts from, changed one number at a time, and one call on each.
+use docsis_flow::Outcome;
+use docsis_flow::Settings;
+use docsis_flow::State;
+use docsis_pie::Activity;
+use docsis_pie::DocsisPie;
+use docsis_pie::Phase;
+use pie::Backlog;
+use units::Bytes;
+use units::BytesPerSecond;
+use units::Micros;
+use units::Prob;
+
+pub struct Situation {
+    pub target: u64,
+    pub buffer: u64,
+    pub slots: u64,
+    pub peak: u64,
+    pub sustained: u64,
+    pub prob: u64,
+    pub accumulated: u64,
+    pub old: u64,
+    pub allowance: u64,
+    pub activity: u64,
+    pub reset: u64,
+    pub count: u64,
+    pub bytes: u64,
+}
+
+// What a call did: the place of the verdict's count, 6 where it gave no verdict, or 100 and a refusal's number; and some fields after it.
+pub struct Done {
+    pub code: u64,
+    pub prob: u64,
+    pub accumulated: u64,
+    pub old: u64,
+    pub allowance: u64,
+    pub activity: u64,
+    pub reset: u64,
+}
+
+impl Situation {
+    // What holds from W16 on where nothing else is said.
+    pub fn loaded() -> Situation {
+        Situation {
+            target: 10_000,
+            buffer: 30_000,
+            slots: 64,
+            peak: 1_000_000,
+            sustained: 1_000_000,
+            prob: 0,
+            accumulated: 0,
+            old: 10_000,
+            allowance: 0,
+            activity: 2,
+            reset: 0,
+            count: 10,
+            bytes: 15_000,
+        }
+    }
+
+    // At 1,000,000 bytes per second so many bytes are so many microseconds of delay.
+    pub fn delayed(delay: u64) -> Situation {
+        let loaded = Situation::loaded();
+        Situation {
+            buffer: 16_777_216,
+            slots: 65_536,
+            count: delay / 65_535 + (delay % 65_535 + 65_534) / 65_535,
+            bytes: delay,
+            ..loaded
+        }
+    }
+
+    pub fn with_target(self, target: u64) -> Situation {
+        Situation { target, ..self }
+    }
+
+    pub fn with_buffer(self, buffer: u64) -> Situation {
+        Situation { buffer, ..self }
+    }
+
+    pub fn with_slots(self, slots: u64) -> Situation {
+        Situation { slots, ..self }
+    }
+
+    pub fn with_rates(self, peak: u64, sustained: u64) -> Situation {
+        Situation {
+            peak,
+            sustained,
+            ..self
+        }
+    }
+
+    pub fn with_prob(self, prob: u64) -> Situation {
+        Situation { prob, ..self }
+    }
+
+    pub fn with_accumulated(self, accumulated: u64) -> Situation {
+        Situation {
+            accumulated,
+            ..self
+        }
+    }
+
+    pub fn with_old(self, old: u64) -> Situation {
+        Situation { old, ..self }
+    }
+
+    pub fn with_allowance(self, allowance: u64) -> Situation {
+        Situation { allowance, ..self }
+    }
+
+    pub fn with_activity(self, activity: u64) -> Situation {
+        Situation { activity, ..self }
+    }
+
+    pub fn with_reset(self, reset: u64) -> Situation {
+        Situation { reset, ..self }
+    }
+
+    pub fn with_bytes(self, bytes: u64) -> Situation {
+        Situation { bytes, ..self }
+    }
+
+    // Clock and last tick are 0.
+    pub fn state(self) -> State {
+        let settings = Settings {
+            target: Micros(self.target),
+            buffer: Bytes(self.buffer),
+            slots: self.slots,
+            peak: BytesPerSecond(self.peak),
+            sustained: BytesPerSecond(self.sustained),
+        };
+        let phase = Phase {
+            activity: Activity(self.activity),
+            reset: Micros(self.reset),
+        };
+        let pie = DocsisPie {
+            prob: Prob(self.prob),
+            accumulated: Prob(self.accumulated),
+            old: Micros(self.old),
+            allowance: Micros(self.allowance),
+            phase,
+        };
+        let backlog = Backlog {
+            count: self.count,
+            bytes: Bytes(self.bytes),
+        };
+        State {
+            settings,
+            clock: Micros(0),
+            last: Micros(0),
+            pie,
+            backlog,
+            first: 0,
+        }
+    }
+
+    // A packet arrives at flow 3; the tables have 64 slots.
+    pub fn arrival(self, size: u64, u: u32) -> Done {
+        let mut handles = [0u32; 64];
+        let mut sizes = [0u32; 64];
+        let counts = [[0u64; 5]; 16];
+        let r = docsis::arrival(
+            self.state(),
+            counts,
+            3,
+            &mut handles,
+            &mut sizes,
+            Micros(0),
+            7,
+            Bytes(size),
+            u,
+        );
+        let replied = r.replied;
+        let outcome = replied.outcome;
+        told(outcome, replied.state)
+    }
+
+    // A tick of flow 3 at 16,000.
+    pub fn tick(self, credits: u64) -> Done {
+        let counts = [[0u64; 5]; 16];
+        let r = docsis::tick(self.state(), counts, 3, Micros(16_000), Bytes(credits));
+        let replied = r.replied;
+        let outcome = replied.outcome;
+        told(outcome, replied.state)
+    }
+}
+
+// What an outcome and a state come to.
+pub fn told(outcome: Outcome, state: State) -> Done {
+    let pie = state.pie;
+    Done {
+        code: code(outcome),
+        prob: pie.prob.0,
+        accumulated: pie.accumulated.0,
+        old: pie.old.0,
+        allowance: pie.allowance.0,
+        activity: pie.phase.activity.0,
+        reset: pie.phase.reset.0,
+    }
+}
+
+pub fn code(outcome: Outcome) -> u64 {
+    match outcome {
+        Outcome::Refused(refusal) => 100 + refusal.number() as u64,
+        Outcome::NoFlow => 110,
+        Outcome::Made => 6,
+        Outcome::Decided(v) => v.place() as u64,
+        Outcome::Departed => 6,
+        Outcome::Ticked => 6,
+    }
+}
