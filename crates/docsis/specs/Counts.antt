@@ -15,8 +15,8 @@ rowOf counts flow = getD counts flow []
 abbrev pub zeroRow : List ℕ
 zeroRow = 0 ∷ 0 ∷ 0 ∷ 0 ∷ 0 ∷ []
 
--- the counts after a call of this flow that was so answered: an accepted fresh call sets its row to 0, a verdict's count in it rises by one,
--- and nothing else changes
+-- the counts after a call of this flow that was so answered: an accepted fresh call sets its row to 0, a verdict's count in it rises by
+-- one, and nothing else changes
 unfoldable pub countsAfter : (counts : List (List ℕ)) (flow : ℕ) → Answer → List (List ℕ)
 countsAfter counts flow (refused number) = counts
 countsAfter counts flow made = set counts flow zeroRow

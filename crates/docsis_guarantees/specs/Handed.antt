@@ -60,7 +60,8 @@ returned q (askArrival clock handle size u) r =
       sizes = stored (q .state) (r .answer) (q .sizes) size;
     }
 returned q (askDeparture clock) r = record { state = r .state; row = rowAfter (r .answer) (q .row); handles = q .handles; sizes = q .sizes }
-returned q (askTick clock credits) r = record { state = r .state; row = rowAfter (r .answer) (q .row); handles = q .handles; sizes = q .sizes }
+returned q (askTick clock credits) r =
+    record { state = r .state; row = rowAfter (r .answer) (q .row); handles = q .handles; sizes = q .sizes }
 
 abbrev pub after : Queue → Request → Queue
 after q r = returned q r (reply (q .state) (callOf q r))

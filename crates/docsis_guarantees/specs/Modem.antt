@@ -1,5 +1,5 @@
--- A modem: up to sixteen flows, each with a state and two tables of its own, and one table of counts. Its calls, fresh ones among them, name
--- their flow and come in any order; states, tables and counts are handed back untouched.
+-- A modem: up to sixteen flows, each with a state and two tables of its own, and one table of counts. Its calls, fresh ones among them,
+-- name their flow and come in any order; states, tables and counts are handed back untouched.
 use mathlib.Core.Bool.{cond}
 use mathlib.Core.List.{List}
 use Prim.Native.Nat.{ℕ}

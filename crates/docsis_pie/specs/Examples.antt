@@ -74,7 +74,8 @@ _also_ : {A B : Type 0} → A → B → A × B
 _also_ a b = (a, b)
 
 pub examples-hold : Every Holds examples
-unfolding adjusted capped decided delayOf divisorOf drawn drawnWith errorOf limited lookup nextProb phaseAfter scaledOf stepOf steppedProb updated
+unfolding adjusted capped decided delayOf divisorOf drawn drawnWith errorOf limited lookup nextProb
+    phaseAfter scaledOf stepOf steppedProb updated
 examples-hold =
     refl also refl  -- W1
     also refl also refl  -- W3

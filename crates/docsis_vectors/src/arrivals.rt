@@ -4,48 +4,56 @@ use crate::print::print_number;
 use crate::print::print_verdict;
 use crate::situation::Done;
 use crate::situation::Situation;
-use docsis_flow::State;
+use crate::situation::told;
 use units::Bytes;
 use units::Micros;
 
+// At an inactive flow with so many bytes in this buffer.
+fn sleeping(buffer: u64, bytes: u64) -> Done {
+    let s = Situation::loaded();
+    let situation = Situation {
+        buffer,
+        activity: 0,
+        bytes,
+        ..s
+    };
+    situation.arrival(1_000, 0)
+}
+
 pub fn a_third() {
-    let s = Situation::loaded().with_activity(0);
     print_activity(
         b"W16 9,999 of 30,000 bytes: rule 5",
         0,
-        s.with_bytes(9_999).arrival(1_000, 0).activity,
+        sleeping(30_000, 9_999).activity,
     );
     print_activity(
         b"W16 10,000 bytes: rule 11",
         1,
-        s.with_bytes(10_000).arrival(1_000, 0).activity,
+        sleeping(30_000, 10_000).activity,
     );
-    let odd = s.with_buffer(30_001);
     print_activity(
         b"W16 10,000 of 30,001 bytes: rule 5",
         0,
-        odd.with_bytes(10_000).arrival(1_000, 0).activity,
+        sleeping(30_001, 10_000).activity,
     );
     print_activity(
         b"W16 10,001 bytes: rule 11",
         1,
-        odd.with_bytes(10_001).arrival(1_000, 0).activity,
+        sleeping(30_001, 10_001).activity,
     );
-    print_verdict(
-        b"W16 they are",
-        0,
-        odd.with_bytes(10_001).arrival(1_000, 0).code,
-    );
+    print_verdict(b"W16 they are", 0, sleeping(30_001, 10_001).code);
 }
 
 // In a small queue rule 10 enqueues, and what is accumulated from 0 is scaled.
 fn scale(prob: u64, size: u64) -> u64 {
-    Situation::loaded()
-        .with_buffer(100_000)
-        .with_bytes(2_048)
-        .with_prob(prob)
-        .arrival(size, 0)
-        .accumulated
+    let s = Situation::loaded();
+    let situation = Situation {
+        buffer: 100_000,
+        bytes: 2_048,
+        prob,
+        ..s
+    };
+    situation.arrival(size, 0).accumulated
 }
 
 pub fn scaled() {
@@ -63,9 +71,6 @@ pub fn scaled() {
     );
     print_number(b"W17 size 870", 3_649_044_480, scale(4_294_967_296, 870));
     print_number(b"W17 size 871", 3_650_722_201, scale(4_294_967_296, 871));
-}
-
-pub fn scaled_at_the_end() {
     print_number(
         b"W17 p 58,411,555,225, size 63",
         3_593_679_667,
@@ -84,153 +89,182 @@ pub fn scaled_at_the_end() {
     );
 }
 
+// With accumulated 8.5, a packet of 1,024 bytes and u 0.
+fn at_high(old: u64, prob: u64, bytes: u64) -> u64 {
+    let s = Situation::loaded();
+    let situation = Situation {
+        accumulated: 36_507_222_016,
+        old,
+        prob,
+        bytes,
+        ..s
+    };
+    situation.arrival(1_024, 0).code
+}
+
 pub fn spared() {
-    let s = Situation::loaded().with_accumulated(36_507_222_016);
     print_verdict(
         b"W18 old 4,999, p 858,993,459: rule 9",
         0,
-        s.with_old(4_999)
-            .with_prob(858_993_459)
-            .arrival(1_024, 0)
-            .code,
+        at_high(4_999, 858_993_459, 15_000),
     );
     print_verdict(
         b"W18 old 5,000: rule 12",
         4,
-        s.with_old(5_000)
-            .with_prob(858_993_459)
-            .arrival(1_024, 0)
-            .code,
+        at_high(5_000, 858_993_459, 15_000),
     );
     print_verdict(
         b"W18 old 4,999, p 858,993,460: rule 12",
         4,
-        s.with_old(4_999)
-            .with_prob(858_993_460)
-            .arrival(1_024, 0)
-            .code,
+        at_high(4_999, 858_993_460, 15_000),
     );
-    let whole = s.with_prob(4_294_967_296);
     print_verdict(
         b"W18 p 2^32, bytes 2,048: rule 10",
         0,
-        whole.with_bytes(2_048).arrival(1_024, 0).code,
+        at_high(10_000, 4_294_967_296, 2_048),
     );
     print_verdict(
         b"W18 bytes 2,049: rule 12",
         4,
-        whole.with_bytes(2_049).arrival(1_024, 0).code,
+        at_high(10_000, 4_294_967_296, 2_049),
     );
 }
 
-pub fn low_sums() {
-    let s = Situation::loaded().with_prob(1);
+fn drawn(prob: u64, accumulated: u64, size: u64, u: u32) -> u64 {
+    let s = Situation::loaded();
+    let situation = Situation {
+        prob,
+        accumulated,
+        ..s
+    };
+    situation.arrival(size, u).code
+}
+
+pub fn sums() {
     print_verdict(
         b"W19 p 1, accumulated 3,650,722,199: rule 11",
         0,
-        s.with_accumulated(3_650_722_199).arrival(1_024, 0).code,
+        drawn(1, 3_650_722_199, 1_024, 0),
     );
     print_verdict(
         b"W19 3,650,722,200: rule 13",
         4,
-        s.with_accumulated(3_650_722_200).arrival(1_024, 0).code,
+        drawn(1, 3_650_722_200, 1_024, 0),
     );
-    let most = Situation::loaded().with_prob(58_411_555_225);
     print_verdict(
         b"W19 p 58,411,555,225, size 63: rule 11",
         0,
-        most.arrival(63, 0).code,
+        drawn(58_411_555_225, 0, 63, 0),
     );
-    print_verdict(b"W19 size 64: rule 13", 4, most.arrival(64, 0).code);
-}
-
-pub fn high_sums() {
-    let s = Situation::loaded().with_prob(1);
-    let last = 4_294_967_295;
+    print_verdict(b"W19 size 64: rule 13", 4, drawn(58_411_555_225, 0, 64, 0));
     print_verdict(
         b"W20 accumulated 36,507,222,014: rule 14",
         0,
-        s.with_accumulated(36_507_222_014).arrival(1_024, last).code,
+        drawn(1, 36_507_222_014, 1_024, 4_294_967_295),
     );
     print_verdict(
         b"W20 36,507,222,015: rule 12",
         4,
-        s.with_accumulated(36_507_222_015).arrival(1_024, last).code,
+        drawn(1, 36_507_222_015, 1_024, 4_294_967_295),
     );
     print_verdict(
         b"W20 36,507,222,016: rule 12",
         4,
-        s.with_accumulated(36_507_222_016).arrival(1_024, last).code,
+        drawn(1, 36_507_222_016, 1_024, 4_294_967_295),
     );
 }
 
 pub fn draws() {
-    let s = Situation::loaded()
-        .with_prob(5)
-        .with_accumulated(4_294_967_296);
-    print_verdict(b"W21 p 5, u 4: rule 13", 4, s.arrival(1_024, 4).code);
-    print_verdict(b"W21 u 5: rule 14", 0, s.arrival(1_024, 5).code);
-    print_verdict(b"W21 size 100, u 0: rule 14", 0, s.arrival(100, 0).code);
-    let whole = Situation::loaded().with_prob(4_294_967_296);
+    print_verdict(
+        b"W21 p 5, u 4: rule 13",
+        4,
+        drawn(5, 4_294_967_296, 1_024, 4),
+    );
+    print_verdict(b"W21 u 5: rule 14", 0, drawn(5, 4_294_967_296, 1_024, 5));
+    print_verdict(
+        b"W21 size 100, u 0: rule 14",
+        0,
+        drawn(5, 4_294_967_296, 100, 0),
+    );
     print_verdict(
         b"W22 p 2^32, u 3,650,722,200: rule 13",
         4,
-        whole.arrival(1_024, 3_650_722_200).code,
+        drawn(4_294_967_296, 0, 1_024, 3_650_722_200),
     );
     print_verdict(
         b"W22 u 3,650,722,201: rule 14",
         0,
-        whole.arrival(1_024, 3_650_722_201).code,
+        drawn(4_294_967_296, 0, 1_024, 3_650_722_201),
     );
+}
+
+// A packet of 1,024 bytes with u 0, at a flow with this activity.
+fn at(activity: u64, prob: u64, accumulated: u64, bytes: u64) -> Done {
+    let s = Situation::loaded();
+    let situation = Situation {
+        activity,
+        prob,
+        accumulated,
+        bytes,
+        ..s
+    };
+    situation.arrival(1_024, 0)
 }
 
 pub fn probability_0() {
-    let high = Situation::loaded().with_accumulated(36_507_222_016);
+    let high = at(2, 0, 36_507_222_016, 15_000);
     print_verdict(
         b"W23 p 0, accumulated 36,507,222,016: rule 11",
         0,
-        high.arrival(1_024, 0).code,
+        high.code,
     );
-    print_number(
-        b"W23 accumulated after it",
-        0,
-        high.arrival(1_024, 0).accumulated,
-    );
-    let s = Situation::loaded()
-        .with_activity(0)
-        .with_bytes(9_999)
-        .with_accumulated(7);
+    print_number(b"W23 accumulated after it", 0, high.accumulated);
     print_number(
         b"W23 inactive, bytes 9,999, p 2^32: accumulated",
         7,
-        s.with_prob(4_294_967_296).arrival(1_024, 0).accumulated,
+        at(0, 4_294_967_296, 7, 9_999).accumulated,
     );
-    print_number(b"W23 p 0: accumulated", 0, s.arrival(1_024, 0).accumulated);
-}
-
-fn dropped(activity: u64) -> Done {
-    Situation::loaded()
-        .with_prob(4_294_967_296)
-        .with_activity(activity)
-        .arrival(1_024, 0)
+    print_number(b"W23 p 0: accumulated", 0, at(0, 0, 7, 9_999).accumulated);
 }
 
 pub fn activity() {
-    print_verdict(b"W24 quiescent: rule 13", 4, dropped(1).code);
-    print_activity(b"W24 the flow is then", 2, dropped(1).activity);
-    print_number(b"W24 its allowance", 142_000, dropped(1).allowance);
-    print_verdict(b"W24 active: rule 13", 4, dropped(2).code);
-    print_number(b"W24 its allowance", 0, dropped(2).allowance);
-    print_verdict(b"W24 inactive: rule 13", 4, dropped(0).code);
-    print_activity(b"W24 the flow is then", 2, dropped(0).activity);
-    print_number(b"W24 its allowance", 142_000, dropped(0).allowance);
+    let quiescent = at(1, 4_294_967_296, 0, 15_000);
+    print_verdict(b"W24 quiescent: rule 13", 4, quiescent.code);
+    print_activity(b"W24 the flow is then", 2, quiescent.activity);
+    print_number(b"W24 its allowance", 142_000, quiescent.allowance);
+    let active = at(2, 4_294_967_296, 0, 15_000);
+    print_verdict(b"W24 active: rule 13", 4, active.code);
+    print_number(b"W24 its allowance", 0, active.allowance);
+    let inactive = at(0, 4_294_967_296, 0, 15_000);
+    print_verdict(b"W24 inactive: rule 13", 4, inactive.code);
+    print_activity(b"W24 the flow is then", 2, inactive.activity);
+    print_number(b"W24 its allowance", 142_000, inactive.allowance);
 }
 
-// A packet of 1,000 bytes arrives at a flow of ten slots.
-fn ten_slots(s: State) -> Done {
+// With accumulated 7, a packet of this size at a quiescent flow.
+fn quiescent(old: u64, size: u64) -> Done {
+    let s = Situation::loaded();
+    let situation = Situation {
+        activity: 1,
+        accumulated: 7,
+        old,
+        ..s
+    };
+    situation.arrival(size, 0)
+}
+
+// With accumulated 7, a packet of 1,000 bytes at an active flow that has ten packets in ten slots.
+fn ten_slots() -> Done {
+    let s = Situation::loaded();
+    let situation = Situation {
+        slots: 10,
+        accumulated: 7,
+        ..s
+    };
     let mut handles = [0u32; 10];
     let mut sizes = [0u32; 10];
-    let r = s.arrival(
+    let state = situation.state();
+    let r = state.arrival(
         [0, 0, 0, 0, 0],
         &mut handles,
         &mut sizes,
@@ -240,26 +274,20 @@ fn ten_slots(s: State) -> Done {
         0,
     );
     let outcome = r.outcome;
-    crate::situation::told(outcome, r.state)
+    told(outcome, r.state)
 }
 
 pub fn full() {
-    let s = Situation::loaded().with_activity(1);
     print_verdict(
         b"W25 quiescent, old 0, p 0, size 15,000: rule 9",
         0,
-        s.with_old(0).arrival(15_000, 0).code,
+        quiescent(0, 15_000).code,
     );
-    let over = s.with_accumulated(7).arrival(15_001, 0);
+    let over = quiescent(10_000, 15_001);
     print_verdict(b"W25 size 15,001, accumulated 7: rule 1", 2, over.code);
     print_number(b"W25 accumulated after it", 0, over.accumulated);
     print_activity(b"W25 the flow stays", 1, over.activity);
-    let ten = ten_slots(
-        Situation::loaded()
-            .with_slots(10)
-            .with_accumulated(7)
-            .state(),
-    );
+    let ten = ten_slots();
     print_verdict(
         b"W25 active, 10 of 10 slots, accumulated 7: rule 2",
         3,

@@ -18,10 +18,8 @@ fn main() {
     phases::idle_flow();
     arrivals::a_third();
     arrivals::scaled();
-    arrivals::scaled_at_the_end();
     arrivals::spared();
-    arrivals::low_sums();
-    arrivals::high_sums();
+    arrivals::sums();
     arrivals::draws();
     arrivals::probability_0();
     arrivals::activity();

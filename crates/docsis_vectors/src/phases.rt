@@ -3,15 +3,17 @@ use crate::print::print_activity;
 use crate::print::print_number;
 use crate::situation::Done;
 use crate::situation::Situation;
-use docsis_flow::State;
 use units::Bytes;
 use units::Micros;
 
 fn spend(allowance: u64) -> Done {
-    Situation::delayed(10_000)
-        .with_prob(5)
-        .with_allowance(allowance)
-        .tick(0)
+    let s = Situation::delayed(10_000);
+    let situation = Situation {
+        prob: 5,
+        allowance,
+        ..s
+    };
+    situation.tick(0)
 }
 
 pub fn allowances() {
@@ -28,12 +30,15 @@ pub fn allowances() {
 
 // A tick of a quiescent flow with probability 0.
 fn wait(target: u64, delay: u64, old: u64, reset: u64) -> Done {
-    Situation::delayed(delay)
-        .with_target(target)
-        .with_old(old)
-        .with_activity(1)
-        .with_reset(reset)
-        .tick(0)
+    let s = Situation::delayed(delay);
+    let situation = Situation {
+        target,
+        old,
+        activity: 1,
+        reset,
+        ..s
+    };
+    situation.tick(0)
 }
 
 pub fn resets() {
@@ -99,42 +104,45 @@ pub fn resets() {
     );
 }
 
-// So many ticks, 16,000 apart, of a flow with an allowance of 142,000 and nothing queued.
-fn idle(ticks: u64) -> State {
-    let mut s = Situation::delayed(0)
-        .with_old(0)
-        .with_allowance(142_000)
-        .state();
+// An active flow with this allowance, nothing queued and no old delay.
+fn unused(allowance: u64) -> Situation {
+    let s = Situation::delayed(0);
+    Situation {
+        old: 0,
+        allowance,
+        ..s
+    }
+}
+
+// Its activity after so many ticks, 16,000 apart, from an allowance of 142,000.
+fn idle(ticks: u64) -> u64 {
+    let mut s = unused(142_000).state();
     let mut left = ticks;
     while left > 0 {
         let last = s.last.0;
         if last < 100_000_000 {
-            let r = s.tick([0, 0, 0, 0, 0], Micros(last + 16_000), Bytes(0));
+            let next = last + 16_000;
+            let r = s.tick([0, 0, 0, 0, 0], Micros(next), Bytes(0));
             s = r.state;
         }
         left -= 1;
     }
-    s
+    s.pie.phase.activity.0
 }
 
 pub fn idle_flow() {
-    let s = Situation::delayed(0).with_old(0);
     print_activity(
         b"W15 active, delay and old 0, allowance 14,000",
         1,
-        s.with_allowance(14_000).tick(0).activity,
+        unused(14_000).tick(0).activity,
     );
-    print_activity(
-        b"W15 allowance 16,001",
-        2,
-        s.with_allowance(16_001).tick(0).activity,
-    );
+    print_activity(b"W15 allowance 16,001", 2, unused(16_001).tick(0).activity);
     print_activity(
         b"W15 from an allowance of 142,000, after 8 ticks",
         2,
-        idle(8).pie.phase.activity.0,
+        idle(8),
     );
-    print_activity(b"W15 after 9 ticks", 1, idle(9).pie.phase.activity.0);
-    print_activity(b"W15 after 71 ticks", 1, idle(71).pie.phase.activity.0);
-    print_activity(b"W15 after 72 ticks", 0, idle(72).pie.phase.activity.0);
+    print_activity(b"W15 after 9 ticks", 1, idle(9));
+    print_activity(b"W15 after 71 ticks", 1, idle(71));
+    print_activity(b"W15 after 72 ticks", 0, idle(72));
 }

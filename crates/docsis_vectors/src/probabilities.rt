@@ -2,53 +2,67 @@
 use crate::print::print_number;
 use crate::situation::Situation;
 
+// The delay that a tick finds, its old delay after it.
+fn delay(bytes: u64, credits: u64, peak: u64, sustained: u64) -> u64 {
+    let s = Situation::delayed(bytes);
+    let situation = Situation {
+        peak,
+        sustained,
+        ..s
+    };
+    situation.tick(credits).old
+}
+
 pub fn delays() {
-    let s = Situation::delayed(100_000).with_rates(12_500_000, 1_250_000);
     print_number(
         b"W1 bytes 100,000, credits 100,000: delay",
         8_000,
-        s.tick(100_000).old,
+        delay(100_000, 100_000, 12_500_000, 1_250_000),
     );
     print_number(
         b"W1 credits 4,294,967,295: delay",
         8_000,
-        s.tick(4_294_967_295).old,
+        delay(100_000, 4_294_967_295, 12_500_000, 1_250_000),
     );
-    print_number(b"W1 credits 99,999: delay", 7_999, s.tick(99_999).old);
-    print_number(b"W1 credits 0: delay", 80_000, s.tick(0).old);
+    print_number(
+        b"W1 credits 99,999: delay",
+        7_999,
+        delay(100_000, 99_999, 12_500_000, 1_250_000),
+    );
+    print_number(
+        b"W1 credits 0: delay",
+        80_000,
+        delay(100_000, 0, 12_500_000, 1_250_000),
+    );
     print_number(
         b"W2 sustained 1, bytes 9: delay",
         9_000_000,
-        Situation::delayed(9).with_rates(1, 1).tick(0).old,
+        delay(9, 0, 1, 1),
     );
-    print_number(
-        b"W2 bytes 10: delay",
-        10_000_000,
-        Situation::delayed(10).with_rates(1, 1).tick(0).old,
-    );
-    print_number(
-        b"W2 bytes 11: delay",
-        10_000_000,
-        Situation::delayed(11).with_rates(1, 1).tick(0).old,
-    );
-    let fast = Situation::delayed(1_249).with_rates(1_250_000_000, 1);
+    print_number(b"W2 bytes 10: delay", 10_000_000, delay(10, 0, 1, 1));
+    print_number(b"W2 bytes 11: delay", 10_000_000, delay(11, 0, 1, 1));
     print_number(
         b"W2 peak 1,250,000,000, credits 5,000, bytes 1,249: delay",
         0,
-        fast.tick(5_000).old,
+        delay(1_249, 5_000, 1_250_000_000, 1),
     );
-    let more = Situation::delayed(1_250).with_rates(1_250_000_000, 1);
-    print_number(b"W2 bytes 1,250: delay", 1, more.tick(5_000).old);
+    print_number(
+        b"W2 bytes 1,250: delay",
+        1,
+        delay(1_250, 5_000, 1_250_000_000, 1),
+    );
 }
 
 // The probability after a tick with this target, probability, delay and old delay.
 fn next(target: u64, prob: u64, delay: u64, old: u64) -> u64 {
-    Situation::delayed(delay)
-        .with_target(target)
-        .with_prob(prob)
-        .with_old(old)
-        .tick(0)
-        .prob
+    let s = Situation::delayed(delay);
+    let situation = Situation {
+        target,
+        prob,
+        old,
+        ..s
+    };
+    situation.tick(0).prob
 }
 
 pub fn steps() {

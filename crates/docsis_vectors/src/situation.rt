@@ -1,4 +1,4 @@
-// States that an example starts from, changed one number at a time, and one call on each.
+// The state of a flow that an example starts from, and one call on it.
 use docsis_flow::Outcome;
 use docsis_flow::Settings;
 use docsis_flow::State;
@@ -68,57 +68,6 @@ impl Situation {
             bytes: delay,
             ..loaded
         }
-    }
-
-    pub fn with_target(self, target: u64) -> Situation {
-        Situation { target, ..self }
-    }
-
-    pub fn with_buffer(self, buffer: u64) -> Situation {
-        Situation { buffer, ..self }
-    }
-
-    pub fn with_slots(self, slots: u64) -> Situation {
-        Situation { slots, ..self }
-    }
-
-    pub fn with_rates(self, peak: u64, sustained: u64) -> Situation {
-        Situation {
-            peak,
-            sustained,
-            ..self
-        }
-    }
-
-    pub fn with_prob(self, prob: u64) -> Situation {
-        Situation { prob, ..self }
-    }
-
-    pub fn with_accumulated(self, accumulated: u64) -> Situation {
-        Situation {
-            accumulated,
-            ..self
-        }
-    }
-
-    pub fn with_old(self, old: u64) -> Situation {
-        Situation { old, ..self }
-    }
-
-    pub fn with_allowance(self, allowance: u64) -> Situation {
-        Situation { allowance, ..self }
-    }
-
-    pub fn with_activity(self, activity: u64) -> Situation {
-        Situation { activity, ..self }
-    }
-
-    pub fn with_reset(self, reset: u64) -> Situation {
-        Situation { reset, ..self }
-    }
-
-    pub fn with_bytes(self, bytes: u64) -> Situation {
-        Situation { bytes, ..self }
     }
 
     // Clock and last tick are 0.
@@ -200,7 +149,7 @@ pub fn told(outcome: Outcome, state: State) -> Done {
     }
 }
 
-pub fn code(outcome: Outcome) -> u64 {
+fn code(outcome: Outcome) -> u64 {
     match outcome {
         Outcome::Refused(refusal) => 100 + refusal.number() as u64,
         Outcome::NoFlow => 110,

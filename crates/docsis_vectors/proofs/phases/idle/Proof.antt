@@ -10,14 +10,8 @@ Inv-loop ticks s₀ left₀ s left = Unit {0}
 abbrev μ-loop : tie.MeasureT-loop
 μ-loop ticks s₀ left₀ s left = left
 
-delayed-requires : tie.Need-delayed-requires Inv-loop μ-loop
-delayed-requires c κs = search needs
-
-with-old-requires : tie.Need-with-old-requires Inv-loop μ-loop
-with-old-requires c κs = search needs
-
-with-allowance-requires : tie.Need-with-allowance-requires Inv-loop μ-loop
-with-allowance-requires c κs = search needs
+unused-requires : tie.Need-unused-requires Inv-loop μ-loop
+unused-requires c κs = search needs
 
 state-requires : tie.Need-state-requires Inv-loop μ-loop
 state-requires c κs = search needs
@@ -25,8 +19,8 @@ state-requires c κs = search needs
 loop-holds : tie.Need-loop-holds Inv-loop μ-loop
 loop-holds c = search needs
 
-add-t11 : tie.Need-add-t11 Inv-loop μ-loop
-add-t11 c = search needs
+add-next : tie.Need-add-next Inv-loop μ-loop
+add-next c = search needs
 
 tick-requires : tie.Need-tick-requires Inv-loop μ-loop
 tick-requires c κs = search needs
@@ -49,12 +43,10 @@ idle-spec =
     (tie.spec
     Inv-loop
     μ-loop
-    delayed-requires
-    with-old-requires
-    with-allowance-requires
+    unused-requires
     state-requires
     loop-holds
-    add-t11
+    add-next
     tick-requires
     sub-left
     loop-less
