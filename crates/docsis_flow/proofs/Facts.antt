@@ -1,6 +1,6 @@
 -- What the numbers of a record that is formed are, as facts that `omega` reads.
-use mathlib.Core.Path.{_≡_}
-use mathlib.Core.Bool.{true, _&&_, _||_}
+use mathlib.Core.Path.{_≡_, refl}
+use mathlib.Core.Bool.{Bool, true, false, _&&_, _||_}
 use mathlib.Core.List.{List, _++_}
 use Prim.Native.Nat.{ℕ, _*_, _≤_, _<_}
 use lib.Dec.{eqb, leb}
@@ -120,3 +120,14 @@ row-fits s row w = leb-true _ _ (and-right (formed s) (leb (total row) mostVerdi
 pub well-formed : (s : State) (row : List ℕ) → formed s ≡ true → total row ≤ mostVerdicts → wellFormed s row ≡ true
 unfolding wellFormed
 well-formed s row e h = rw (e, le-leb (total row) mostVerdicts h)
+
+-- tested the other way round
+pub by-parts : (s : State) (row : List ℕ) (a b : Bool) → a ≡ leb (total row) mostVerdicts → b ≡ formed s → (a && b) ≡ wellFormed s row
+unfolding wellFormed
+by-parts s row a b e f = rw (← e, ← f) (turned a b)
+  where
+    turned : (x y : Bool) → (x && y) ≡ (y && x)
+    turned true true = refl
+    turned true false = refl
+    turned false true = refl
+    turned false false = refl

@@ -9,6 +9,7 @@ use pie::LATEST;
 use pie::Verdict;
 use refusals::Accepted;
 use refusals::Refusal;
+use refusals::counts_fit;
 use refusals::counts_full;
 use ring::store;
 use units::Bytes;
@@ -37,7 +38,7 @@ impl State {
     ) -> Accepted
         ensures { λ r. ⌜ refusalIn r ≡ arrivalRefusal self row handles sizes (clock .0) (size .0) ⌝ }
     {
-        let formed = self.well_formed(row);
+        let formed = counts_fit(row) & self.formed();
         if !formed {
             return Accepted::No(Refusal::Malformed);
         }

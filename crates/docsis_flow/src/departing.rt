@@ -5,6 +5,7 @@ use crate::State;
 use pie::LATEST;
 use refusals::Accepted;
 use refusals::Refusal;
+use refusals::counts_fit;
 use refusals::wrong_head;
 use ring::place;
 use units::Bytes;
@@ -24,7 +25,7 @@ impl State {
         ensures { λ r. ⌜ refusalIn r
             ≡ departureRefusal self row handles (length (now (sizes .entry))) (clock .0) (headOf self (now (sizes .entry))) ⌝ }
     {
-        let formed = self.well_formed(row);
+        let formed = counts_fit(row) & self.formed();
         if !formed {
             return Accepted::No(Refusal::Malformed);
         }

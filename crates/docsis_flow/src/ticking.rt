@@ -6,6 +6,7 @@ use docsis_pie::PERIOD;
 use pie::LATEST;
 use refusals::Accepted;
 use refusals::Refusal;
+use refusals::counts_fit;
 use units::Bytes;
 use units::Micros;
 ghost use mathlib.Core.Path.{_≡_};
@@ -20,7 +21,7 @@ impl State {
     fn check_tick(self, row: [u64; 5], clock: Micros) -> Accepted
         ensures { λ r. ⌜ refusalIn r ≡ tickRefusal self row (clock .0) ⌝ }
     {
-        let formed = self.well_formed(row);
+        let formed = counts_fit(row) & self.formed();
         if !formed {
             return Accepted::No(Refusal::Malformed);
         }

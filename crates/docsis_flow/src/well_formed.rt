@@ -49,7 +49,7 @@ fn phase_fits(pie: DocsisPie) -> bool
 
 impl State {
     // All that is asked of the record itself. The product comes after the tests that bound it.
-    fn formed(self) -> bool
+    pub(crate) fn formed(self) -> bool
         ensures { λ r. ⌜ r ≡ formed self ⌝ }
     {
         let settings = self.settings;

@@ -3,41 +3,44 @@ use borrow.Author.Needs.{needs}
 use borrow.Author.Tests.{not-false}
 use mathlib.Core.Path.{sym, _∙_}
 use Rattle.docsis_flow.specs.Arrival.{arrivalRefusal}
-use Rattle.docsis_flow.proofs.Facts.{row-fits}
+use Rattle.docsis_flow.proofs.Facts.{by-parts, row-fits}
 use Rattle.docsis_flow.proofs.State.check_arrival.Statement.{statement}
 use Rattle.docsis_flow.proofs.State.check_arrival.Tie as tie
 
-well-formed-requires : tie.Need-well-formed-requires
-well-formed-requires c κs = search needs
+counts-fit-requires : tie.Need-counts-fit-requires
+counts-fit-requires c κs = search needs
+
+formed-requires : tie.Need-formed-requires
+formed-requires c κs = search needs
 
 returns : tie.Need-returns
 unfolding arrivalRefusal
-returns c = simp (← (c .before .well-formed .ensures), c .if1 .taken)
+returns c = simp (← (by-parts (c .before .before .before .args .self) (c .before .before .before .args .row) _ _ (c .before .before .counts-fit .ensures) (c .before .formed .ensures)), c .if1 .taken)
 
 returns-2 : tie.Need-returns-2
 unfolding arrivalRefusal
 returns-2 c =
-    let e1 = c .before in simp (← (e1 .before .well-formed .ensures), e1 .if1 .left, c .if2 .taken)
+    let e1 = c .before in simp (← (by-parts (e1 .before .before .before .args .self) (e1 .before .before .before .args .row) _ _ (e1 .before .before .counts-fit .ensures) (e1 .before .formed .ensures)), e1 .if1 .left, c .if2 .taken)
 
 returns-3 : tie.Need-returns-3
 unfolding arrivalRefusal
 returns-3 c =
     let e2 = c .before .before .before .before in
-    let e1 = e2 .before in simp (← (e1 .before .well-formed .ensures), e1 .if1 .left, e2 .if2 .left, c .if3 .taken)
+    let e1 = e2 .before in simp (← (by-parts (e1 .before .before .before .args .self) (e1 .before .before .before .args .row) _ _ (e1 .before .before .counts-fit .ensures) (e1 .before .formed .ensures)), e1 .if1 .left, e2 .if2 .left, c .if3 .taken)
 
 returns-4 : tie.Need-returns-4
 unfolding arrivalRefusal
 returns-4 c =
     let e3 = c .before .before .before in
     let e2 = e3 .before .before .before .before in
-    let e1 = e2 .before in simp (← (e1 .before .well-formed .ensures), e1 .if1 .left, e2 .if2 .left, e3 .if3 .left, c .if4 .taken)
+    let e1 = e2 .before in simp (← (by-parts (e1 .before .before .before .args .self) (e1 .before .before .before .args .row) _ _ (e1 .before .before .counts-fit .ensures) (e1 .before .formed .ensures)), e1 .if1 .left, e2 .if2 .left, e3 .if3 .left, c .if4 .taken)
 
 counts-full-requires : tie.Need-counts-full-requires
 counts-full-requires c κs =
     let e3 = c .before .before .before in
     let e1 = e3 .before .before .before .before .before in
     let w = e1 .before in
-    row-fits (w .before .args .self) _ (sym (w .well-formed .ensures) ∙ not-false _ (e1 .if1 .left))
+    row-fits (w .before .before .args .self) _ (sym (by-parts (w .before .before .args .self) (w .before .before .args .row) _ _ (w .before .counts-fit .ensures) (w .formed .ensures)) ∙ not-false _ (e1 .if1 .left))
 
 returns-5 : tie.Need-returns-5
 unfolding arrivalRefusal
@@ -47,7 +50,7 @@ returns-5 c =
     let e2 = e3 .before .before .before .before in
     let e1 = e2 .before in
     simp (
-      ← (e1 .before .well-formed .ensures),
+      ← (by-parts (e1 .before .before .before .args .self) (e1 .before .before .before .args .row) _ _ (e1 .before .before .counts-fit .ensures) (e1 .before .formed .ensures)),
       e1 .if1 .left,
       e2 .if2 .left,
       e3 .if3 .left,
@@ -64,7 +67,7 @@ returns-6 c =
     let e2 = e3 .before .before .before .before in
     let e1 = e2 .before in
     simp (
-      ← (e1 .before .well-formed .ensures),
+      ← (by-parts (e1 .before .before .before .args .self) (e1 .before .before .before .args .row) _ _ (e1 .before .before .counts-fit .ensures) (e1 .before .formed .ensures)),
       e1 .if1 .left,
       e2 .if2 .left,
       e3 .if3 .left,
@@ -76,4 +79,4 @@ returns-6 c =
 pub check-arrival-spec : {M : Type 1} → statement M
 check-arrival-spec =
     tie.close
-    (tie.spec well-formed-requires returns returns-2 returns-3 returns-4 counts-full-requires returns-5 returns-6)
+    (tie.spec counts-fit-requires formed-requires returns returns-2 returns-3 returns-4 counts-full-requires returns-5 returns-6)

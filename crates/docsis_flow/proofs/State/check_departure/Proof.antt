@@ -8,44 +8,47 @@ use lib.Dec.{eqb}
 use lib.ListN.{length}
 use denote.Ref.{now}
 use Rattle.docsis_flow.specs.Departure.{departureRefusal}
-use Rattle.docsis_flow.proofs.Facts.{Facts, facts, record-formed}
+use Rattle.docsis_flow.proofs.Facts.{by-parts, Facts, facts, record-formed}
 use Rattle.laws.proofs.Tests.{and-right}
 use Rattle.docsis_flow.proofs.State.check_departure.Statement.{statement}
 use Rattle.docsis_flow.proofs.State.check_departure.Tie as tie
 
-well-formed-requires : tie.Need-well-formed-requires
-well-formed-requires c κs = search needs
+counts-fit-requires : tie.Need-counts-fit-requires
+counts-fit-requires c κs = search needs
+
+formed-requires : tie.Need-formed-requires
+formed-requires c κs = search needs
 
 returns : tie.Need-returns
 unfolding departureRefusal
-returns c = simp (← (c .before .well-formed .ensures), c .if1 .taken)
+returns c = simp (← (by-parts (c .before .before .before .before .args .self) (c .before .before .before .before .args .row) _ _ (c .before .before .counts-fit .ensures) (c .before .formed .ensures)), c .if1 .taken)
 
 returns-2 : tie.Need-returns-2
 unfolding departureRefusal
 returns-2 c =
-    let e1 = c .before in simp (← (e1 .before .well-formed .ensures), e1 .if1 .left, c .if2 .taken)
+    let e1 = c .before in simp (← (by-parts (e1 .before .before .before .before .args .self) (e1 .before .before .before .before .args .row) _ _ (e1 .before .before .counts-fit .ensures) (e1 .before .formed .ensures)), e1 .if1 .left, c .if2 .taken)
 
 returns-3 : tie.Need-returns-3
 unfolding departureRefusal
 returns-3 c =
     let e2 = c .before .before .before .before in
-    let e1 = e2 .before in simp (← (e1 .before .well-formed .ensures), e1 .if1 .left, e2 .if2 .left, c .if3 .taken)
+    let e1 = e2 .before in simp (← (by-parts (e1 .before .before .before .before .args .self) (e1 .before .before .before .before .args .row) _ _ (e1 .before .before .counts-fit .ensures) (e1 .before .formed .ensures)), e1 .if1 .left, e2 .if2 .left, c .if3 .taken)
 
 returns-4 : tie.Need-returns-4
 unfolding departureRefusal
 returns-4 c =
     let e3 = c .before .before .before in
     let e2 = e3 .before .before .before .before in
-    let e1 = e2 .before in simp (← (e1 .before .well-formed .ensures), e1 .if1 .left, e2 .if2 .left, e3 .if3 .left, c .if4 .taken)
+    let e1 = e2 .before in simp (← (by-parts (e1 .before .before .before .before .args .self) (e1 .before .before .before .before .args .row) _ _ (e1 .before .before .counts-fit .ensures) (e1 .before .formed .ensures)), e1 .if1 .left, e2 .if2 .left, e3 .if3 .left, c .if4 .taken)
 
 -- what is known where the head is read: the state's facts, that the table fits, and that a packet is queued
 abbrev at-start : tie.Else4 → tie.Start
-at-start c = c .before .before .before .before .before .before .before .before .before .before .before
+at-start c = c .before .before .before .before .before .before .before .before .before .before .before .before
 
 known : (c : tie.Else4) → Facts (at-start c .args .self)
 known c =
     let e1 = c .before .before .before .before .before .before .before .before in
-    let w = e1 .before in facts (w .before .before .args .self) (record-formed _ _ (sym (w .well-formed .ensures) ∙ not-false _ (e1 .if1 .left)))
+    let w = e1 .before in facts (w .before .before .before .args .self) (record-formed _ _ (sym (by-parts (w .before .before .before .args .self) (w .before .before .before .args .row) _ _ (w .before .counts-fit .ensures) (w .formed .ensures)) ∙ not-false _ (e1 .if1 .left)))
 
 fits : (c : tie.Else4) → length (now (at-start c .args .sizes)) ≡ at-start c .args .self .settings .slots
 fits c =
@@ -77,7 +80,7 @@ returns-5 c =
     let e2 = e3 .before .before .before .before in
     let e1 = e2 .before in
     simp (
-      ← (e1 .before .well-formed .ensures),
+      ← (by-parts (e1 .before .before .before .before .args .self) (e1 .before .before .before .before .args .row) _ _ (e1 .before .before .counts-fit .ensures) (e1 .before .formed .ensures)),
       e1 .if1 .left,
       e2 .if2 .left,
       e3 .if3 .left,
@@ -94,7 +97,7 @@ returns-6 c =
     let e2 = e3 .before .before .before .before in
     let e1 = e2 .before in
     simp (
-      ← (e1 .before .well-formed .ensures),
+      ← (by-parts (e1 .before .before .before .before .args .self) (e1 .before .before .before .before .args .row) _ _ (e1 .before .before .counts-fit .ensures) (e1 .before .formed .ensures)),
       e1 .if1 .left,
       e2 .if2 .left,
       e3 .if3 .left,
@@ -107,7 +110,8 @@ pub check-departure-spec : {M : Type 1} → statement M
 check-departure-spec =
     tie.close
     (tie.spec
-    well-formed-requires
+    counts-fit-requires
+    formed-requires
     returns
     returns-2
     returns-3
