@@ -77,7 +77,7 @@ are-take zero l h = tt
 are-take (suc n) [] h = tt
 are-take (suc n) (b ∷ l) h = (h .0, are-take n l (h .1))
 
-joined-parted : (ws l : List ℕ) (at : ℕ) → AreBytes l → at + total ws ≤ length l → joined ws (parted ws l at) ≡ take (total ws) (drop at l)
+pub joined-parted : (ws l : List ℕ) (at : ℕ) → AreBytes l → at + total ws ≤ length l → joined ws (parted ws l at) ≡ take (total ws) (drop at l)
 joined-parted [] l at a h = refl
 joined-parted (w ∷ ws) l at a h =
     let t = take w (drop at l) in

@@ -6,7 +6,9 @@ mod records;
 pub use headers::get_header;
 pub use headers::put_header;
 pub use numbers::get4;
+pub use numbers::get8;
 pub use numbers::put4;
+pub use numbers::put8;
 pub use records::get;
 pub use records::put;
 

@@ -6,3 +6,4 @@ pub mod Records
 pub mod Replies
 pub mod Shape
 pub mod Stores
+pub mod Copied

@@ -2,6 +2,7 @@
 use codec::Header;
 use codec::Record;
 
+mod copying;
 mod faults;
 mod reading;
 mod refusing;
@@ -20,6 +21,7 @@ pub use turns::next;
 pub use turns::start;
 pub use whole::check;
 pub use writing::add;
+pub use writing::add_call;
 pub use writing::begin;
 
 // One case for each refusal number, in order, from 11.

@@ -3,6 +3,8 @@ use crate::Accepted;
 use crate::Refusal;
 use crate::Writer;
 use crate::Written;
+use crate::copying::copy;
+use crate::copying::forty;
 use crate::faults::faulty;
 use crate::faults::header_refused;
 use codec::Header;
@@ -11,6 +13,7 @@ ghost use mathlib.Core.Path.{_≡_};
 ghost use Prim.Native.Nat.{_+_, _*_, _≤_, _<_};
 ghost use lib.ListN.{length};
 ghost use lib.Seq.{sets};
+ghost use Rattle.codec.specs.Records.{decoded};
 ghost use Rattle.log.specs.Layout.{trailerOf};
 ghost use Rattle.log.specs.declared.Accepted.the-variants.{No};
 ghost use Rattle.log.specs.Writer.{add as addBy, added, begin as beginBy, begun, replyOf};
@@ -48,13 +51,13 @@ fn put_beginning(h: Header, note: &[u8], bytes: &mut [u8])
     put_trailer((32 + n) as u32, 0, bytes, 32 + n);
 }
 
-// A record over the old trailer, and the new trailer after it.
-fn put_record(w: Writer, r: Record, bytes: &mut [u8])
+// A record's bytes over the old trailer, and the new trailer after them.
+fn put_call(w: Writer, call: &[u8; 40], bytes: &mut [u8])
     requires { ⌜ (w .offset ≤ 4128) × (w .count < 100000) × (w .offset + 40 * (w .count + 1) + 16 ≤ length (now bytes)) ⌝ }
-    ensures { λ _. ⌜ now (bytes .exit) ≡ added w r (now (bytes .entry)) ⌝ }
+    ensures { λ _. ⌜ now (bytes .exit) ≡ added w (decoded (now (call .entry)) 0) (now (bytes .entry)) ⌝ }
 {
     let at = (w.offset + 40 * w.count) as usize;
-    codec::put(r, bytes, at);
+    copy(call, bytes, at);
     put_trailer(w.offset, w.count + 1, bytes, at + 40);
 }
 
@@ -97,9 +100,12 @@ pub fn begin(h: Header, note: &[u8], bytes: &mut [u8]) -> Written
     }
 }
 
-pub fn add(w: Writer, r: Record, bytes: &mut [u8]) -> Written
-    ensures { λ a. ⌜ replyOf a (now (bytes .exit)) ≡ addBy w r (now (bytes .entry)) ⌝ }
+// A record that is lent as its bytes.
+pub fn add_call(w: Writer, call: &[u8; 40], bytes: &mut [u8]) -> Written
+    ensures { λ a. ⌜ replyOf a (now (bytes .exit)) ≡ addBy w (decoded (now (call .entry)) 0) (now (bytes .entry)) ⌝ }
 {
+    forty(*call);
+    let r = codec::get(call, 0);
     let offset = w.offset as u64;
     let count = w.count as u64;
     let length = bytes.len() as u64;
@@ -118,7 +124,7 @@ pub fn add(w: Writer, r: Record, bytes: &mut [u8]) -> Written
     if full {
         return refused(Refusal::Room, w);
     }
-    put_record(w, r, bytes);
+    put_call(w, call, bytes);
     Written {
         accepted: Accepted::Yes,
         writer: Writer {
@@ -126,4 +132,12 @@ pub fn add(w: Writer, r: Record, bytes: &mut [u8]) -> Written
             count: w.count + 1,
         },
     }
+}
+
+pub fn add(w: Writer, r: Record, bytes: &mut [u8]) -> Written
+    ensures { λ a. ⌜ replyOf a (now (bytes .exit)) ≡ addBy w r (now (bytes .entry)) ⌝ }
+{
+    let mut call = [0; 40];
+    codec::put(r, &mut call, 0);
+    add_call(w, &call, bytes)
 }

@@ -12,11 +12,7 @@ ghost use Rattle.log.specs.Reader.{noteOf, placeAfter, readAt, settingsOf};
 ghost use Rattle.log.specs.Writer.{add, begin};
 ghost use Rattle.log_capi.specs.Codes.{answerCode, codeOf, noteWords, partWords, settingsBytes, turnBytes, turnCode, writerOf, writerWords};
 
-// What 40 and 32 bytes are known to be.
-fn forty(b: [u8; 40])
-    ensures { λ _. ⌜ length b ≡ 40 ⌝ }
-{}
-
+// What 32 bytes are known to be.
 fn thirty_two(b: [u8; 32])
     ensures { λ _. ⌜ length b ≡ 32 ⌝ }
 {}
@@ -54,12 +50,11 @@ pub extern "C" fn obikuteru_log_add(words: &mut [u32; 2], call: &[u8; 40], bytes
     ensures { λ r. ⌜ (let a = add (writerOf (now (words .entry))) (decoded (now (call .entry)) 0) (now (bytes .entry)) in
         (r ≡ codeOf (a .refusal)) × (now (words .exit) ≡ writerWords (a .writer)) × (now (bytes .exit) ≡ a .bytes)) ⌝ }
 {
-    forty(*call);
     let w = Writer {
         offset: words[0],
         count: words[1],
     };
-    let r = log::add(w, codec::get(call, 0), bytes);
+    let r = log::add_call(w, call, bytes);
     let writer = r.writer;
     *words = [writer.offset, writer.count];
     let accepted = r.accepted;
