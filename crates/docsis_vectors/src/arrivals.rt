@@ -20,7 +20,7 @@ fn sleeping(buffer: u64, bytes: u64) -> Done {
     situation.arrival(1_000, 0)
 }
 
-pub fn a_third() {
+pub(crate) fn a_third() {
     print_activity(
         b"W16 9,999 of 30,000 bytes: rule 5",
         0,
@@ -56,7 +56,7 @@ fn scale(prob: u64, size: u64) -> u64 {
     situation.arrival(size, 0).accumulated
 }
 
-pub fn scaled() {
+pub(crate) fn scaled() {
     print_number(b"W17 p 1, size 1,023: scaled", 0, scale(1, 1_023));
     print_number(b"W17 size 1,024", 1, scale(1, 1_024));
     print_number(
@@ -102,7 +102,7 @@ fn at_high(old: u64, prob: u64, bytes: u64) -> u64 {
     situation.arrival(1_024, 0).code
 }
 
-pub fn spared() {
+pub(crate) fn spared() {
     print_verdict(
         b"W18 old 4,999, p 858,993,459: rule 9",
         0,
@@ -140,7 +140,7 @@ fn drawn(prob: u64, accumulated: u64, size: u64, u: u32) -> u64 {
     situation.arrival(size, u).code
 }
 
-pub fn sums() {
+pub(crate) fn sums() {
     print_verdict(
         b"W19 p 1, accumulated 3,650,722,199: rule 11",
         0,
@@ -174,7 +174,7 @@ pub fn sums() {
     );
 }
 
-pub fn draws() {
+pub(crate) fn draws() {
     print_verdict(
         b"W21 p 5, u 4: rule 13",
         4,
@@ -211,7 +211,7 @@ fn at(activity: u64, prob: u64, accumulated: u64, bytes: u64) -> Done {
     situation.arrival(1_024, 0)
 }
 
-pub fn probability_0() {
+pub(crate) fn probability_0() {
     let high = at(2, 0, 36_507_222_016, 15_000);
     print_verdict(
         b"W23 p 0, accumulated 36,507,222,016: rule 11",
@@ -227,7 +227,7 @@ pub fn probability_0() {
     print_number(b"W23 p 0: accumulated", 0, at(0, 0, 7, 9_999).accumulated);
 }
 
-pub fn activity() {
+pub(crate) fn activity() {
     let quiescent = at(1, 4_294_967_296, 0, 15_000);
     print_verdict(b"W24 quiescent: rule 13", 4, quiescent.code);
     print_activity(b"W24 the flow is then", 2, quiescent.activity);
@@ -277,7 +277,7 @@ fn ten_slots() -> Done {
     told(outcome, r.state)
 }
 
-pub fn full() {
+pub(crate) fn full() {
     print_verdict(
         b"W25 quiescent, old 0, p 0, size 15,000: rule 9",
         0,

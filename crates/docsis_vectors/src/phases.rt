@@ -16,7 +16,7 @@ fn spend(allowance: u64) -> Done {
     situation.tick(0)
 }
 
-pub fn allowances() {
+pub(crate) fn allowances() {
     print_number(
         b"W12 allowance 142,000 becomes",
         126_000,
@@ -41,7 +41,7 @@ fn wait(target: u64, delay: u64, old: u64, reset: u64) -> Done {
     situation.tick(0)
 }
 
-pub fn resets() {
+pub(crate) fn resets() {
     print_number(
         b"W13 reset time 32,000, delay and old 4,999",
         48_000,
@@ -130,7 +130,7 @@ fn idle(ticks: u64) -> u64 {
     s.pie.phase.activity.0
 }
 
-pub fn idle_flow() {
+pub(crate) fn idle_flow() {
     print_activity(
         b"W15 active, delay and old 0, allowance 14,000",
         1,

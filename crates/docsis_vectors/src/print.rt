@@ -29,7 +29,7 @@ fn say_activity(activity: u64) {
     }
 }
 
-pub fn print_verdict(example: &[u8], expected: u64, came: u64) {
+pub(crate) fn print_verdict(example: &[u8], expected: u64, came: u64) {
     say(example);
     say(b": expected ");
     say_verdict(expected);
@@ -38,7 +38,7 @@ pub fn print_verdict(example: &[u8], expected: u64, came: u64) {
     say(b"\n");
 }
 
-pub fn print_activity(example: &[u8], expected: u64, came: u64) {
+pub(crate) fn print_activity(example: &[u8], expected: u64, came: u64) {
     say(example);
     say(b": expected ");
     say_activity(expected);
@@ -47,7 +47,7 @@ pub fn print_activity(example: &[u8], expected: u64, came: u64) {
     say(b"\n");
 }
 
-pub fn print_number(example: &[u8], expected: u64, came: u64) {
+pub(crate) fn print_number(example: &[u8], expected: u64, came: u64) {
     say(example);
     say(b": expected ");
     io::print_decimal(STDOUT_FILENO, expected);
@@ -57,7 +57,7 @@ pub fn print_number(example: &[u8], expected: u64, came: u64) {
 }
 
 // The fields of a state that the whole case tells, after the words of its call.
-pub fn print_line(
+pub(crate) fn print_line(
     words: &[u8],
     prob: u64,
     accumulated: u64,

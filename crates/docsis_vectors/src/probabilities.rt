@@ -13,7 +13,7 @@ fn delay(bytes: u64, credits: u64, peak: u64, sustained: u64) -> u64 {
     situation.tick(credits).old
 }
 
-pub fn delays() {
+pub(crate) fn delays() {
     print_number(
         b"W1 bytes 100,000, credits 100,000: delay",
         8_000,
@@ -65,7 +65,7 @@ fn next(target: u64, prob: u64, delay: u64, old: u64) -> u64 {
     situation.tick(0).prob
 }
 
-pub fn steps() {
+pub(crate) fn steps() {
     print_number(
         b"W3 p 5,000,000, delay 9,900, old 10,000: p",
         4_852_361,
@@ -133,7 +133,7 @@ pub fn steps() {
     );
 }
 
-pub fn caps() {
+pub(crate) fn caps() {
     print_number(
         b"table: p 429,496,729 becomes",
         430_087_287,
@@ -196,7 +196,7 @@ pub fn caps() {
     );
 }
 
-pub fn decays() {
+pub(crate) fn decays() {
     print_number(
         b"W6 p 1,000,000, delay and old 4,999: p",
         815_552,
@@ -230,7 +230,7 @@ pub fn decays() {
     print_number(b"W8 p 21,021 becomes", 49, next(10_000, 21_021, 0, 0));
 }
 
-pub fn ends() {
+pub(crate) fn ends() {
     print_number(
         b"W9 target 1,000, p 429,496,729, delay 10,000,000, old 0: p",
         58_411_555_225,

@@ -15,7 +15,7 @@ fn tick(s: State, flow: u64, clock: u64) -> u64 {
     outcome.refusal() as u64
 }
 
-pub fn ticks() {
+pub(crate) fn ticks() {
     let s = Situation::loaded().state();
     print_number(
         b"W26 flow 15, a tick at 15,999: refusal",
@@ -69,7 +69,7 @@ fn counted_tick(sum: u64) -> u64 {
     outcome.refusal() as u64
 }
 
-pub fn counts() {
+pub(crate) fn counts() {
     print_number(
         b"W27 the row sums to 2^48 - 1: an arrival",
         0,
@@ -104,7 +104,7 @@ fn fresh(flow: u64, target: u64, peak: u64, sustained: u64) -> u64 {
     outcome.refusal() as u64
 }
 
-pub fn settings() {
+pub(crate) fn settings() {
     print_number(
         b"W28 fresh, peak 1, sustained 1,250,000,000",
         0,

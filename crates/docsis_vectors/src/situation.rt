@@ -40,7 +40,7 @@ pub struct Done {
 
 impl Situation {
     // What holds from W16 on where nothing else is said.
-    pub fn loaded() -> Situation {
+    pub(crate) fn loaded() -> Situation {
         Situation {
             target: 10_000,
             buffer: 30_000,
@@ -59,7 +59,7 @@ impl Situation {
     }
 
     // At 1,000,000 bytes per second so many bytes are so many microseconds of delay.
-    pub fn delayed(delay: u64) -> Situation {
+    pub(crate) fn delayed(delay: u64) -> Situation {
         let loaded = Situation::loaded();
         Situation {
             buffer: 16_777_216,
@@ -71,7 +71,7 @@ impl Situation {
     }
 
     // Clock and last tick are 0.
-    pub fn state(self) -> State {
+    pub(crate) fn state(self) -> State {
         let settings = Settings {
             target: Micros(self.target),
             buffer: Bytes(self.buffer),
@@ -105,7 +105,7 @@ impl Situation {
     }
 
     // A packet arrives at flow 3; the tables have 64 slots.
-    pub fn arrival(self, size: u64, u: u32) -> Done {
+    pub(crate) fn arrival(self, size: u64, u: u32) -> Done {
         let mut handles = [0u32; 64];
         let mut sizes = [0u32; 64];
         let counts = [[0u64; 5]; 16];
@@ -126,7 +126,7 @@ impl Situation {
     }
 
     // A tick of flow 3 at 16,000.
-    pub fn tick(self, credits: u64) -> Done {
+    pub(crate) fn tick(self, credits: u64) -> Done {
         let counts = [[0u64; 5]; 16];
         let r = docsis::tick(self.state(), counts, 3, Micros(16_000), Bytes(credits));
         let replied = r.replied;
@@ -136,7 +136,7 @@ impl Situation {
 }
 
 // What an outcome and a state come to.
-pub fn told(outcome: Outcome, state: State) -> Done {
+pub(crate) fn told(outcome: Outcome, state: State) -> Done {
     let pie = state.pie;
     Done {
         code: code(outcome),

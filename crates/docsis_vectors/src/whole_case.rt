@@ -160,7 +160,7 @@ fn ended(r: Returned, handles: &[u32], sizes: &[u32]) {
     rows(d);
 }
 
-pub fn whole_case() {
+pub(crate) fn whole_case() {
     let mut handles = [0u32; 64];
     let mut sizes = [0u32; 64];
     let full = thirteen(&mut handles, &mut sizes);

@@ -20,7 +20,7 @@ fn say_verdict(code: u64) {
     }
 }
 
-pub fn print_verdict(example: &[u8], expected: u64, came: u64) {
+pub(crate) fn print_verdict(example: &[u8], expected: u64, came: u64) {
     say(example);
     say(b": expected ");
     say_verdict(expected);
@@ -29,7 +29,7 @@ pub fn print_verdict(example: &[u8], expected: u64, came: u64) {
     say(b"\n");
 }
 
-pub fn print_number(example: &[u8], expected: u64, came: u64) {
+pub(crate) fn print_number(example: &[u8], expected: u64, came: u64) {
     say(example);
     say(b": expected ");
     io::print_decimal(STDOUT_FILENO, expected);

@@ -21,7 +21,7 @@ pub struct Situation {
 
 impl Situation {
     // No allowance, a delay above half the target, more than a small queue: rule 6 decides.
-    pub fn loaded() -> Situation {
+    pub(crate) fn loaded() -> Situation {
         Situation {
             target: 15_000,
             bytes: 20_000,
@@ -33,7 +33,7 @@ impl Situation {
     }
 
     // 16,384 bytes queued with an average of 14,000: a delay of 14,000.
-    pub fn measured() -> Situation {
+    pub(crate) fn measured() -> Situation {
         Situation {
             target: 15_000,
             bytes: 16_384,
@@ -45,7 +45,7 @@ impl Situation {
     }
 
     // An empty queue at rest.
-    pub fn resting() -> Situation {
+    pub(crate) fn resting() -> Situation {
         Situation {
             target: 15_000,
             bytes: 0,
@@ -56,28 +56,28 @@ impl Situation {
         }
     }
 
-    pub fn with_target(self, target: u64) -> Situation {
+    pub(crate) fn with_target(self, target: u64) -> Situation {
         Situation { target, ..self }
     }
 
-    pub fn with_bytes(self, bytes: u64) -> Situation {
+    pub(crate) fn with_bytes(self, bytes: u64) -> Situation {
         Situation { bytes, ..self }
     }
 
-    pub fn with_prob(self, prob: u64) -> Situation {
+    pub(crate) fn with_prob(self, prob: u64) -> Situation {
         Situation { prob, ..self }
     }
 
-    pub fn with_old(self, old: u64) -> Situation {
+    pub(crate) fn with_old(self, old: u64) -> Situation {
         Situation { old, ..self }
     }
 
-    pub fn with_allowance(self, allowance: u64) -> Situation {
+    pub(crate) fn with_allowance(self, allowance: u64) -> Situation {
         Situation { allowance, ..self }
     }
 
     // One packet holds all the bytes; the clock and the last tick are 0; the accumulated probability is 2^32.
-    pub fn state(self) -> State {
+    pub(crate) fn state(self) -> State {
         let rate = Rate {
             average: Micros(self.average),
             measuring: false,
@@ -113,7 +113,7 @@ impl Situation {
     }
 
     // A packet of 1,000 bytes, not ECN-capable, arrives: the place of the verdict's count, or 100 and a refusal's number.
-    pub fn arrival(self, u: u32) -> u64 {
+    pub(crate) fn arrival(self, u: u32) -> u64 {
         let mut handles = [0u32; 4];
         let mut sizes = [0u32; 4];
         let state = self.state();
@@ -135,13 +135,13 @@ impl Situation {
 }
 
 // The state after a tick at this clock.
-pub fn ticked(s: State, clock: u64) -> State {
+pub(crate) fn ticked(s: State, clock: u64) -> State {
     let r = s.tick(Micros(clock));
     r.state
 }
 
 // The number by which a tick at this clock is refused, or 0.
-pub fn tick_refusal(s: State, clock: u64) -> u64 {
+pub(crate) fn tick_refusal(s: State, clock: u64) -> u64 {
     let r = s.tick(Micros(clock));
     let accepted = r.accepted;
     match accepted {
