@@ -1,5 +1,6 @@
 -- The proofs of the claims in specs/, each in the file of its name, and what they share.
 pub mod Traces
+pub mod Parts
 pub mod Packets
 pub mod Ring
 pub mod RunKept

@@ -1,8 +1,8 @@
 -- What every call keeps of a queue that is handed back untouched: the one induction over a list of calls.
-use mathlib.Core.Path.{_≡_, refl, ap, _∙_}
+use mathlib.Core.Path.{_≡_, ap, _∙_}
 use mathlib.Core.Bool.{Bool, cond}
 use mathlib.Core.List.{List, [], _∷_, _++_, append-assoc, foldl}
-use Prim.Native.Nat.{ℕ, _+_}
+use Prim.Native.Nat.{_+_}
 use native.Mathlib.Omega.{arith}
 use Rattle.pie.specs.declared.Verdict.{Verdict}
 use Rattle.calls.specs.Conservation.{Empty, Held, Keeps, Readings, timesGiven}

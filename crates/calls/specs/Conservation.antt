@@ -9,7 +9,7 @@ use lib.ListN.{length}
 use Rattle.pie.specs.declared.Verdict.{Verdict}
 use Rattle.calls.specs.FirstInFirstOut.{MovesInOrder}
 use Rattle.calls.specs.Handed.{QueueKind, Run, run}
-use Rattle.calls.specs.Packets.{Packet, Sized, bytesOf}
+use Rattle.calls.specs.Packets.{Sized, bytesOf}
 
 -- how many of the answers pass the test
 abbrev pub timesGiven : {A : Type 0} → (A → Bool) → List A → ℕ

@@ -1,5 +1,5 @@
 -- Question 2 in general: the ring sheds load by PIE, so its allowances last.
-use mathlib.Core.Path.{_≡_, ap, _∙_}
+use mathlib.Core.Path.{ap, _∙_}
 use native.Mathlib.Omega.{arith}
 use Prim.Native.Nat.{ℕ}
 use Rattle.pie.specs.declared.Verdict.the-variants.{Enqueued}

@@ -1,6 +1,5 @@
 -- From fresh no measurement is given up: in a fresh state none runs, and the ring sheds load by PIE.
 use mathlib.Core.Path.{refl, ap}
-use mathlib.Core.List.{List, List·Memᴰ}
 use Rattle.pie_guarantees.specs.NeverGivenUp as general
 use Rattle.pie_guarantees.proofs.NeverGivenUp as proved
 use Rattle.queue.specs.Fresh.{fresh}

@@ -1,5 +1,5 @@
 -- How far early verdicts stand apart: the ring sheds load by PIE, and what its entries add is what the general law counts.
-use mathlib.Core.Path.{_≡_, refl, sym, ap, _∙_}
+use mathlib.Core.Path.{_≡_, refl, _∙_}
 use mathlib.Core.List.{List, [], _∷_, _++_}
 use native.Mathlib.Omega.{arith}
 use Rattle.pie.specs.declared.Verdict.{Verdict}

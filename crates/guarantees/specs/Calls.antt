@@ -29,7 +29,7 @@ abbrev pub ringCalls : Kind
 ringCalls =
     record { State = State; Call = Call; Answer = Answer; answer = λ s c. (reply s c) .answer; next = λ s c. (reply s c) .state }
 
--- one call of a list, the state that it was given, its answer, and the state that it returned
+-- one call of a list, the state that it was given, its answer, and the state that it returned: call, given, answer, returned
 abbrev pub Entry : Type 0
 Entry = general.Entry ringCalls
 

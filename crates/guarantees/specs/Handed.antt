@@ -79,7 +79,7 @@ ringQueue =
       departedBy = departedBy;
     }
 
--- a queue, with all that was admitted, departed and answered since it was fresh, in order
+-- a queue, with all that was admitted, departed and answered since it was fresh, in order: queue, admitted, departed, answers
 abbrev pub Run : Type 0
 Run = general.Run ringQueue
 

@@ -10,7 +10,7 @@ use Rattle.pie.specs.Update.{updated}
 use Rattle.pie.specs.Verdicts.{admitted}
 use Rattle.pie.specs.declared.Pie.{Pie}
 use Rattle.pie.specs.declared.Verdict.{Verdict}
-use Rattle.pie.specs.declared.Verdict.the-variants.{Enqueued, DroppedBytes, DroppedSlots}
+use Rattle.pie.specs.declared.Verdict.the-variants.{DroppedBytes, DroppedSlots}
 use Rattle.calls.specs.Kind.{Kind}
 
 -- what an answer tells

@@ -1,6 +1,5 @@
 -- What a call answers and returns, in document 01's numbers and values.
 use mathlib.Core.Bool.{Bool, false}
-use mathlib.Core.List.{List}
 use Prim.Native.Nat.{ℕ, zero, suc}
 use Rattle.pie.specs.declared.Verdict.{Verdict}
 use Rattle.pie.specs.Verdicts.{admitted}

@@ -33,10 +33,10 @@ tooSoonRefused s clock = ltb clock (s .last .0 + period)
 abbrev pub emptyRefused : State → Bool
 emptyRefused s = eqb (s .backlog .count) 0
 
--- 7: sizeRefused (crate refusals)
+-- 7: size is 0 or above 65,535: sizeRefused (crate refusals)
 
 -- 8: the five counts sum to 2^48
 abbrev pub countsRefused : State → Bool
 countsRefused s = eqb (total (s .verdicts)) mostVerdicts
 
--- 9: headRefused (crate refusals)
+-- 9: the head's stored size is 0 or above 65,535, or removing it would break the backlog: headRefused (crate refusals)

@@ -1,7 +1,7 @@
 -- Which state records are well formed (document 01, 'The state record').
 use mathlib.Core.Bool.{Bool, not, _&&_, _||_}
 use mathlib.Core.List.{List, [], _∷_, _++_}
-use Prim.Native.Nat.{ℕ, _*_, _^_}
+use Prim.Native.Nat.{_*_}
 use lib.Dec.{leb, ltb, eqb}
 use Rattle.laws.specs.Tests.{all}
 use Rattle.units.specs.Kinds.{whole}

@@ -12,7 +12,7 @@ use units::Micros;
 ghost use mathlib.Core.Path.{_≡_};
 ghost use mathlib.Core.Bool.{true};
 ghost use Prim.Native.Nat.{_≤_, _<_};
-ghost use lib.ListN.{getD, length};
+ghost use lib.ListN.{length};
 ghost use Rattle.pie.specs.Constants.{largest};
 ghost use Rattle.queue.specs.State.{wellFormed};
 ghost use Rattle.refusals.specs.Numbers.{refusalIn};

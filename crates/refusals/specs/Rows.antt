@@ -1,5 +1,4 @@
 -- Which refusal is given, by a call's rows of the table of refusals: each number with its test.
-use mathlib.Core.Path.{_≡_}
 use mathlib.Core.Bool.{Bool, true, cond}
 use mathlib.Core.Logic.{_≢_}
 use mathlib.Core.List.{List, [], _∷_, List·Memᴰ}
