@@ -43,7 +43,10 @@ pub record AsAlone {whole alone : Kind} (p : Part whole alone) (s : whole .State
   pub answers : ownAnswers p (trace whole s calls) ≡ map (λ e. e .answer) (trace alone (p .state s) (ownCalls p calls))
   pub state : p .state (foldl (whole .next) s calls) ≡ foldl (alone .next) (p .state s) (ownCalls p calls)
 
+-- `Sound` is what the kind asks of a whole for that, and keeps
 abbrev pub Parts : Type 1
 Parts =
-    (whole alone : Kind) (p : Part whole alone) → ((s : whole .State) (c : whole .Call) → Does p s c (p .whose c)) →
-    (s : whole .State) (calls : List (whole .Call)) → AsAlone p s calls
+    (whole alone : Kind) (p : Part whole alone) (Sound : whole .State → Type 0) →
+    ((s : whole .State) (c : whole .Call) → Sound s → Sound (whole .next s c)) →
+    ((s : whole .State) (c : whole .Call) → Sound s → Does p s c (p .whose c)) →
+    (s : whole .State) (calls : List (whole .Call)) → Sound s → AsAlone p s calls

@@ -2,7 +2,7 @@
 use mathlib.Core.Path.{_≡_, refl, ap, ap₂, _∙_}
 use mathlib.Core.Bool.{Bool, true, false, cond}
 use mathlib.Core.Logic.{_≢_}
-use mathlib.Core.List.{List, [], _∷_}
+use mathlib.Core.List.{List, []}
 use Prim.Native.Nat.{ℕ, _≤_, _<_}
 use native.Mathlib.Omega.{arith}
 use lib.Dec.{eqb}
@@ -10,7 +10,8 @@ use lib.ListN.{getD, length, length-set}
 use lib.Seq.{getD-set-other, getD-set-same}
 use borrow.Author.Tests.{eq-eqb, eqb-false, eqb-true, le-ltb}
 use Rattle.laws.proofs.Choice.{either}
-use Rattle.calls.specs.Traces.{trace}
+use Rattle.calls.specs.Parts.{Does, another, own}
+use Rattle.calls.proofs.Parts.{parts}
 use Rattle.pie.specs.Verdicts.{raised}
 use Rattle.queue.specs.Answer.{Answer, departed, made, refused, ticked, verdict}
 use Rattle.docsis_flow.specs.declared.State.{State}
@@ -18,10 +19,10 @@ use Rattle.docsis_flow.specs.Answer.{Reply}
 use Rattle.docsis.specs.Answer.{ModemReply}
 use Rattle.docsis.specs.Calls.{arrival, departure, flowRefused, forFlow, fresh, tick}
 use Rattle.docsis.specs.Counts.{countsAfter, rowOf, zeroRow}
-use Rattle.docsis_guarantees.specs.AsIfAlone.{AsIfAlone, answers, answersTo, askedOf, final}
+use Rattle.docsis_guarantees.specs.AsIfAlone.{AsIfAlone}
 use Rattle.docsis_guarantees.specs.Handed.{Queue, askArrival, askDeparture, askTick, rowAfter}
 use Rattle.docsis_guarantees.specs.Modem.{Asked, Call, Flow, Modem, alone, aloneAfter, aloneReply, ask, flowAfter, modem, modemAfter}
-use Rattle.docsis_guarantees.specs.Modem.{replyTo, start, view}
+use Rattle.docsis_guarantees.specs.Modem.{flowPart, replyTo, start, view}
 
 -- ── the table of counts ──
 
@@ -124,30 +125,23 @@ other-view m c flow e =
 
 -- ── the claim ──
 
-abbrev Claim : Modem → List Call → (flow : ℕ) → Type 0
-Claim m calls flow =
-    (answersTo flow (trace modem m calls) ≡ answers (trace alone (view flow m) (askedOf flow calls)))
-    × (view flow (final modem m calls) ≡ final alone (view flow m) (askedOf flow calls))
+own-does : (m : Modem) (c : Call) → c .flow ≤ 15 → c .flow < length (m .counts) → Does (flowPart (c .flow)) m c (own (c .asked))
+own-does m c h k =
+    (own-view m (c .flow) (c .asked) h k, ap (λ (r : ModemReply). r .answer) (own-reply m (c .flow) (c .asked) h))
 
-own-call : (m : Modem) (c : Call) (calls : List Call) → c .flow ≤ 15 → c .flow < length (m .counts) →
-    Claim (modemAfter m c) calls (c .flow) → Claim m (c ∷ calls) (c .flow)
-own-call m c calls h k rest =
-    let seen = own-view m (c .flow) (c .asked) h k in
-    let same = ap (λ (r : ModemReply). r .answer) (own-reply m (c .flow) (c .asked) h) in
-    let then = rw seen at rest in
-    rw (eq-eqb (c .flow) (c .flow) refl) (ap₂ _∷_ same (then .0), then .1)
-
-other-call : (m : Modem) (c : Call) (calls : List Call) (flow : ℕ) → eqb flow (c .flow) ≡ false →
-    Claim (modemAfter m c) calls flow → Claim m (c ∷ calls) flow
-other-call m c calls flow e rest = rw e (rw (other-view m c flow e) at rest)
+flow-does : (flow : ℕ) → flow ≤ 15 → (m : Modem) (c : Call) → length (m .counts) ≡ 16 →
+    Does (flowPart flow) m c (cond (eqb flow (c .flow)) (own (c .asked)) another)
+flow-does flow h m c rows = go (eqb flow (c .flow)) refl
+  where
+    go : (b : Bool) → eqb flow (c .flow) ≡ b → Does (flowPart flow) m c (cond b (own (c .asked)) another)
+    go true e =
+        let same : flow ≡ c .flow = eqb-true flow (c .flow) e in
+        rw same (own-does m c (omega arith) (omega arith))
+    go false e = other-view m c flow e
 
 pub as-if-alone : AsIfAlone
-as-if-alone m [] flow rows h = (refl, refl)
-as-if-alone m (c ∷ calls) flow rows h =
-    go (as-if-alone (modemAfter m c) calls flow (reply-leaves m (c .flow) (c .asked) .rows ∙ rows) h) (eqb flow (c .flow)) refl
-  where
-    go : Claim (modemAfter m c) calls flow → (b : Bool) → eqb flow (c .flow) ≡ b → Claim m (c ∷ calls) flow
-    go rest true e =
-        let same : flow ≡ c .flow = eqb-true flow (c .flow) e in
-        rw same (own-call m c calls (omega arith) (omega arith) (rw same at rest))
-    go rest false e = other-call m c calls flow e rest
+as-if-alone m calls flow rows h =
+    parts modem alone (flowPart flow) (λ m. length (m .counts) ≡ 16)
+    (λ m c s. reply-leaves m (c .flow) (c .asked) .rows ∙ s)
+    (λ m c s. flow-does flow h m c s)
+    m calls rows

@@ -5,6 +5,7 @@ use mathlib.Core.List.{List}
 use Prim.Native.Nat.{ℕ}
 use lib.Dec.{eqb}
 use Rattle.calls.specs.Kind.{Kind}
+use Rattle.calls.specs.Parts.{Part, another, own}
 use Rattle.queue.specs.Answer.{Answer}
 use Rattle.docsis_flow.specs.declared.Settings.{Settings}
 use Rattle.docsis_flow.specs.declared.State.{State}
@@ -88,3 +89,7 @@ alone = record { State = Queue; Call = Asked; Answer = Answer; answer = λ q a. 
 abbrev pub view : (flow : ℕ) → Modem → Queue
 view flow m =
     let f = m .flows flow in record { state = f .state; row = rowOf (m .counts) flow; handles = f .handles; sizes = f .sizes }
+
+-- a flow as a part of the modem: its own calls are those that name it
+abbrev pub flowPart : (flow : ℕ) → Part modem alone
+flowPart flow = record { state = view flow; answer = λ a. a; whose = λ c. cond (eqb flow (c .flow)) (own (c .asked)) another }

@@ -9,21 +9,12 @@ mod whole_case;
 
 fn main() {
     probabilities::delays();
-    probabilities::steps();
-    probabilities::caps();
-    probabilities::decays();
-    probabilities::ends();
-    phases::allowances();
-    phases::resets();
+    probabilities::probs();
+    probabilities::tables();
+    phases::phases();
     phases::idle_flow();
-    arrivals::a_third();
-    arrivals::scaled();
-    arrivals::spared();
-    arrivals::sums();
-    arrivals::draws();
-    arrivals::probability_0();
-    arrivals::activity();
-    arrivals::full();
+    arrivals::arrivals();
+    arrivals::ten_slots();
     refused::ticks();
     refused::counts();
     refused::settings();

@@ -1,8 +1,14 @@
-// One line for an example: what it is, what was expected, what came.
+// One line for an example: what is given, what was expected, what came.
 use libc::STDOUT_FILENO;
 
-fn say(text: &[u8]) {
+pub(crate) fn say(text: &[u8]) {
     io::write_all(STDOUT_FILENO, text);
+}
+
+// A number with its name before it.
+pub(crate) fn say_number(name: &[u8], n: u64) {
+    say(name);
+    io::print_decimal(STDOUT_FILENO, n);
 }
 
 // The name of a verdict, by the place of its count; 5 and more are a refusal's number and 100.
@@ -13,46 +19,39 @@ fn say_verdict(code: u64) {
         2 => say(b"dropped-bytes"),
         3 => say(b"dropped-slots"),
         4 => say(b"dropped-early"),
-        _ => {
-            say(b"refused as ");
-            io::print_decimal(STDOUT_FILENO, code);
-        }
+        _ => say_number(b"refused as ", code),
     }
 }
 
 fn say_activity(activity: u64) {
     match activity {
-        0 => say(b"inactive"),
-        1 => say(b"quiescent"),
-        2 => say(b"active"),
-        _ => say(b"no activity"),
+        0 => say(b", inactive"),
+        1 => say(b", quiescent"),
+        2 => say(b", active"),
+        _ => say_number(b", no activity ", activity),
     }
 }
 
-pub(crate) fn print_verdict(example: &[u8], expected: u64, came: u64) {
-    say(example);
-    say(b": expected ");
-    say_verdict(expected);
-    say(b", came ");
-    say_verdict(came);
-    say(b"\n");
+// What a tick leaves of a flow.
+pub(crate) fn say_ticked(prob: u64, allowance: u64, activity: u64, reset: u64) {
+    say_number(b"p ", prob);
+    say_number(b", allowance ", allowance);
+    say_activity(activity);
+    say_number(b", reset time ", reset);
 }
 
-pub(crate) fn print_activity(example: &[u8], expected: u64, came: u64) {
-    say(example);
-    say(b": expected ");
-    say_activity(expected);
-    say(b", came ");
-    say_activity(came);
-    say(b"\n");
+// What an arrival leaves.
+pub(crate) fn say_arrived(code: u64, accumulated: u64, activity: u64, allowance: u64) {
+    say_verdict(code);
+    say_number(b", accumulated ", accumulated);
+    say_activity(activity);
+    say_number(b", allowance ", allowance);
 }
 
 pub(crate) fn print_number(example: &[u8], expected: u64, came: u64) {
     say(example);
-    say(b": expected ");
-    io::print_decimal(STDOUT_FILENO, expected);
-    say(b", came ");
-    io::print_decimal(STDOUT_FILENO, came);
+    say_number(b": expected ", expected);
+    say_number(b", came ", came);
     say(b"\n");
 }
 
@@ -67,17 +66,11 @@ pub(crate) fn print_line(
     bytes: u64,
 ) {
     say(words);
-    say(b": p ");
-    io::print_decimal(STDOUT_FILENO, prob);
-    say(b", accumulated ");
-    io::print_decimal(STDOUT_FILENO, accumulated);
-    say(b", old ");
-    io::print_decimal(STDOUT_FILENO, old);
-    say(b", ");
+    say_number(b": p ", prob);
+    say_number(b", accumulated ", accumulated);
+    say_number(b", old ", old);
     say_activity(activity);
-    say(b", allowance ");
-    io::print_decimal(STDOUT_FILENO, allowance);
-    say(b", bytes ");
-    io::print_decimal(STDOUT_FILENO, bytes);
+    say_number(b", allowance ", allowance);
+    say_number(b", bytes ", bytes);
     say(b"\n");
 }

@@ -105,7 +105,8 @@ impl Situation {
     }
 
     // A packet arrives at flow 3; the tables have 64 slots.
-    pub(crate) fn arrival(self, size: u64, u: u32) -> Done {
+    pub(crate) fn arrival(self, size: u64, u: u64) -> Done {
+        let random = if u < 4_294_967_296 { u as u32 } else { 0 };
         let mut handles = [0u32; 64];
         let mut sizes = [0u32; 64];
         let counts = [[0u64; 5]; 16];
@@ -118,7 +119,7 @@ impl Situation {
             Micros(0),
             7,
             Bytes(size),
-            u,
+            random,
         );
         let replied = r.replied;
         let outcome = replied.outcome;

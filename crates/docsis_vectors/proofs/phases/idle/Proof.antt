@@ -10,8 +10,8 @@ Inv-loop ticks s₀ left₀ s left = Unit {0}
 abbrev μ-loop : tie.MeasureT-loop
 μ-loop ticks s₀ left₀ s left = left
 
-unused-requires : tie.Need-unused-requires Inv-loop μ-loop
-unused-requires c κs = search needs
+delayed-requires : tie.Need-delayed-requires Inv-loop μ-loop
+delayed-requires c κs = search needs
 
 state-requires : tie.Need-state-requires Inv-loop μ-loop
 state-requires c κs = search needs
@@ -43,7 +43,7 @@ idle-spec =
     (tie.spec
     Inv-loop
     μ-loop
-    unused-requires
+    delayed-requires
     state-requires
     loop-holds
     add-next
