@@ -27,6 +27,9 @@ ghost use Rattle.docsis.specs.Counts.{countsAfter, rowOf};
 ghost use Rattle.docsis_capi.specs.Words.{arrivalWords, departureWords, raisedAt, stateOf, stateWords};
 ghost use Rattle.docsis_capi.specs.Codes.{codeOf, packetOf, placeIn};
 
+// Flows are 0 to 15.
+const LAST_FLOW: u32 = 15;
+
 // The state that the words hold, and that they are sixteen.
 fn decode(w: [u64; 16]) -> State
     ensures { λ r. ⌜ (r ≡ stateOf w) × (length w ≡ 16) ⌝ }
@@ -156,7 +159,7 @@ pub extern "C" fn obikuteru_modem_fresh(
     ensures { λ r. ⌜ (let a = fresh (now (counts .entry)) flow (settingsOf target buffer slots peak sustained) clock in
         (r ≡ codeOf (a .answer)) × (now (words .exit) ≡ stateWords (a .state)) × (now (counts .exit) ≡ a .counts)) ⌝ }
 {
-    let unknown = 15 < flow;
+    let unknown = LAST_FLOW < flow;
     if unknown {
         encode(words, State::zero());
         return 110;
@@ -202,7 +205,7 @@ pub extern "C" fn obikuteru_modem_arrival(
         × (now (sizes .exit) ≡ stored s (a .answer) (now (sizes .entry)) size)) ⌝ }
 {
     let s = decode(*words);
-    let unknown = 15 < flow;
+    let unknown = LAST_FLOW < flow;
     if unknown {
         return 110;
     }
@@ -247,7 +250,7 @@ pub extern "C" fn obikuteru_modem_departure(
         × (now (packet .exit) ≡ packetOf (a .answer))) ⌝ }
 {
     let s = decode(*words);
-    let unknown = 15 < flow;
+    let unknown = LAST_FLOW < flow;
     if unknown {
         *packet = [0, 0];
         return 110;
@@ -282,7 +285,7 @@ pub extern "C" fn obikuteru_modem_tick(
         × (now (counts .entry) ≡ a .counts)) ⌝ }
 {
     let s = decode(*words);
-    let unknown = 15 < flow;
+    let unknown = LAST_FLOW < flow;
     if unknown {
         return 110;
     }
@@ -307,7 +310,7 @@ pub extern "C" fn obikuteru_modem_well_formed(
 ) -> bool
     ensures { λ r. ⌜ r ≡ (not (flowRefused flow) && wellFormed (stateOf (now (words .entry))) (rowOf (now (counts .entry)) flow)) ⌝ }
 {
-    let unknown = 15 < flow;
+    let unknown = LAST_FLOW < flow;
     if unknown {
         return false;
     }
