@@ -1,22 +1,14 @@
-// The worked numbers of docs/DOCSIS-PIE.md, part 7: W1 to W28, and the whole case. Each line says what was expected and what came.
-mod arrivals;
-mod phases;
+// The worked numbers of docs/DOCSIS-PIE.md, part 7: W1 to W28, and the whole case. They stand in the file stdin, in the notation that is
+// explained there; a line is printed for each, with what was expected and what came.
+mod example;
+mod letters;
+mod notation;
 mod print;
-mod probabilities;
-mod refused;
-mod situation;
-mod whole_case;
+
+use libc::STDIN_FILENO;
 
 fn main() {
-    probabilities::delays();
-    probabilities::probs();
-    probabilities::tables();
-    phases::phases();
-    phases::idle_flow();
-    arrivals::arrivals();
-    arrivals::ten_slots();
-    refused::ticks();
-    refused::counts();
-    refused::settings();
-    whole_case::whole_case();
+    let mut input = io::large_buffer();
+    let n = io::read_full(STDIN_FILENO, &mut input);
+    notation::run(&input[..n]);
 }

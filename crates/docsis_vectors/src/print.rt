@@ -1,17 +1,11 @@
-// One line for an example: what is given, what was expected, what came.
+// A line of output by its template.
 use libc::STDOUT_FILENO;
 
-pub(crate) fn say(text: &[u8]) {
+fn say(text: &[u8]) {
     io::write_all(STDOUT_FILENO, text);
 }
 
-// A number with its name before it.
-pub(crate) fn say_number(name: &[u8], n: u64) {
-    say(name);
-    io::print_decimal(STDOUT_FILENO, n);
-}
-
-// The name of a verdict, by the place of its count; 5 and more are a refusal's number and 100.
+// The name of a verdict, by the place of its count.
 fn say_verdict(code: u64) {
     match code {
         0 => say(b"enqueued"),
@@ -19,58 +13,70 @@ fn say_verdict(code: u64) {
         2 => say(b"dropped-bytes"),
         3 => say(b"dropped-slots"),
         4 => say(b"dropped-early"),
-        _ => say_number(b"refused as ", code),
+        _ => say(b"no verdict"),
     }
 }
 
 fn say_activity(activity: u64) {
     match activity {
-        0 => say(b", inactive"),
-        1 => say(b", quiescent"),
-        2 => say(b", active"),
-        _ => say_number(b", no activity ", activity),
+        0 => say(b"inactive"),
+        1 => say(b"quiescent"),
+        2 => say(b"active"),
+        _ => say(b"no activity"),
     }
 }
 
-// What a tick leaves of a flow.
-pub(crate) fn say_ticked(prob: u64, allowance: u64, activity: u64, reset: u64) {
-    say_number(b"p ", prob);
-    say_number(b", allowance ", allowance);
-    say_activity(activity);
-    say_number(b", reset time ", reset);
+fn say_byte(byte: u8) {
+    let one = [byte];
+    say(&one);
 }
 
-// What an arrival leaves.
-pub(crate) fn say_arrived(code: u64, accumulated: u64, activity: u64, allowance: u64) {
-    say_verdict(code);
-    say_number(b", accumulated ", accumulated);
-    say_activity(activity);
-    say_number(b", allowance ", allowance);
+// The text from here up to this byte.
+fn say_up_to(input: &[u8], from: usize, end: u8) {
+    let mut i = from;
+    while i < input.len() {
+        let byte = input[i];
+        if byte == end {
+            return;
+        }
+        say_byte(byte);
+        i += 1;
+    }
 }
 
-pub(crate) fn print_number(example: &[u8], expected: u64, came: u64) {
-    say(example);
-    say_number(b": expected ", expected);
-    say_number(b", came ", came);
-    say(b"\n");
+// A letter's number after this mark.
+fn put(mark: u8, n: u64) {
+    match mark {
+        b'$' => {
+            io::print_decimal(STDOUT_FILENO, n);
+        }
+        b'~' => say_activity(n),
+        _ => say_verdict(n),
+    }
 }
 
-// The fields of a state that the whole case tells, after the words of its call.
-pub(crate) fn print_line(
-    words: &[u8],
-    prob: u64,
-    accumulated: u64,
-    old: u64,
-    activity: u64,
-    allowance: u64,
-    bytes: u64,
-) {
-    say(words);
-    say_number(b": p ", prob);
-    say_number(b", accumulated ", accumulated);
-    say_number(b", old ", old);
-    say_activity(activity);
-    say_number(b", allowance ", allowance);
-    say_number(b", bytes ", bytes);
-    say(b"\n");
+// The line of the template from here on.
+pub(crate) fn show(input: &[u8], from: usize, expected: usize, v: [u64; 64]) {
+    let mut mark = 0u8;
+    let mut i = from;
+    while i < input.len() {
+        let byte = input[i];
+        i += 1;
+        if mark != 0 {
+            let place = (byte % 64) as usize;
+            put(mark, v[place]);
+            mark = 0;
+        } else {
+            match byte {
+                b'$' => mark = byte,
+                b'~' => mark = byte,
+                b'&' => mark = byte,
+                b'@' => say_up_to(input, expected, b'}'),
+                _ => say_byte(byte),
+            }
+            if byte == b'\n' {
+                return;
+            }
+        }
+    }
 }

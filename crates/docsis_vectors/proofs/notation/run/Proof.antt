@@ -1,0 +1,116 @@
+-- `notation::run`: the bytes left count down.
+use borrow.Author.Needs.{needs}
+use mathlib.Core.Path.{_≡_}
+use Prim.Native.Nat.{_-_}
+use lib.ListN.{length}
+use Rattle.docsis_vectors.proofs.notation.run.Statement.{statement}
+use Rattle.docsis_vectors.proofs.notation.run.Tie as tie
+
+abbrev Inv-loop : tie.InvT-loop
+Inv-loop input handles₀ sizes₀ counts₀ s₀ i₀ handles sizes counts s i = (length handles ≡ 64) × (length sizes ≡ 64)
+
+abbrev μ-loop : tie.MeasureT-loop
+μ-loop input handles₀ sizes₀ counts₀ s₀ i₀ handles sizes counts s i = length input - i
+
+blank-requires : tie.Need-blank-requires Inv-loop μ-loop
+blank-requires c κs = search needs
+
+loop-holds : tie.Need-loop-holds Inv-loop μ-loop
+loop-holds c = search needs
+
+shared-slice-read-byte : tie.Need-shared-slice-read-byte Inv-loop μ-loop
+shared-slice-read-byte c = search needs
+
+add-i : tie.Need-add-i Inv-loop μ-loop
+add-i c = search needs
+
+filled-requires : tie.Need-filled-requires Inv-loop μ-loop
+filled-requires c κs = search needs
+
+loop-less : tie.Need-loop-less Inv-loop μ-loop
+loop-less c = search needs
+
+loop-again : tie.Need-loop-again Inv-loop μ-loop
+loop-again c = search needs
+
+counted-requires : tie.Need-counted-requires Inv-loop μ-loop
+counted-requires c κs = search needs
+
+show-requires : tie.Need-show-requires Inv-loop μ-loop
+show-requires c κs = search needs
+
+loop-less-2 : tie.Need-loop-less-2 Inv-loop μ-loop
+loop-less-2 c = search needs
+
+loop-again-2 : tie.Need-loop-again-2 Inv-loop μ-loop
+loop-again-2 c = search needs
+
+slice-aggregate-call : tie.Need-slice-aggregate-call Inv-loop μ-loop
+slice-aggregate-call c = search needs
+
+slice-aggregate-call-2 : tie.Need-slice-aggregate-call-2 Inv-loop μ-loop
+slice-aggregate-call-2 c = search needs
+
+call-requires : tie.Need-call-requires Inv-loop μ-loop
+call-requires c κs = search needs
+
+counts-of-requires : tie.Need-counts-of-requires Inv-loop μ-loop
+counts-of-requires c κs = search needs
+
+told-requires : tie.Need-told-requires Inv-loop μ-loop
+told-requires c κs = search needs
+
+show-requires-2 : tie.Need-show-requires-2 Inv-loop μ-loop
+show-requires-2 c κs = search needs
+
+after-requires : tie.Need-after-requires Inv-loop μ-loop
+after-requires c κs = search needs
+
+loop-less-3 : tie.Need-loop-less-3 Inv-loop μ-loop
+loop-less-3 c = search needs
+
+loop-again-3 : tie.Need-loop-again-3 Inv-loop μ-loop
+loop-again-3 c = search needs
+
+read-requires : tie.Need-read-requires Inv-loop μ-loop
+read-requires c κs = search needs
+
+loop-less-4 : tie.Need-loop-less-4 Inv-loop μ-loop
+loop-less-4 c = search needs
+
+loop-again-4 : tie.Need-loop-again-4 Inv-loop μ-loop
+loop-again-4 c = search needs
+
+returns : tie.Need-returns Inv-loop μ-loop
+returns c = search needs
+
+pub run-spec : {M : Type 1} → statement M
+run-spec =
+    tie.close
+    (tie.spec
+    Inv-loop
+    μ-loop
+    blank-requires
+    loop-holds
+    shared-slice-read-byte
+    add-i
+    filled-requires
+    loop-less
+    loop-again
+    counted-requires
+    show-requires
+    loop-less-2
+    loop-again-2
+    slice-aggregate-call
+    slice-aggregate-call-2
+    call-requires
+    counts-of-requires
+    told-requires
+    show-requires-2
+    after-requires
+    loop-less-3
+    loop-again-3
+    read-requires
+    loop-less-4
+    loop-again-4
+    returns)
