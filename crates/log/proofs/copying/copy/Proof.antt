@@ -1,94 +1,95 @@
--- `copy`: five words of eight bytes.
+-- `copy`: byte by byte.
+use mathlib.Core.Path.{_≡_, refl, ap, _∙_}
+use mathlib.Core.List.{List}
+use Prim.Native.Nat.{ℕ, _+_, _<_, _≤_, _-_}
+use lib.ListN.{getD, length, take}
+use lib.Seq.{sets, take-all}
 use native.Mathlib.Omega.{arith}
-use Rattle.log.proofs.Copied.{five-words}
 use borrow.Author.Needs.{needs}
+use Rattle.codec.specs.Fields.{AreBytes}
+use Rattle.log.proofs.Copied.{all-bytes, next-byte, next-bytes}
+use Rattle.log.proofs.Stores.{as-long}
 use Rattle.log.proofs.copying.copy.Statement.{statement}
 use Rattle.log.proofs.copying.copy.Tie as tie
 
-all-bytes-requires : tie.Need-all-bytes-requires
-all-bytes-requires c κs = search needs
+abbrev Inv-loop : tie.InvT-loop
+Inv-loop call bytes₀ at own i₀ bytes i = (i ≤ 40) × (bytes ≡ sets bytes₀ at (take i call)) × AreBytes (take i call)
 
-get8-requires : tie.Need-get8-requires
-get8-requires c κs = search needs
+abbrev μ-loop : tie.MeasureT-loop
+μ-loop call bytes₀ at own i₀ bytes i = 40 - i
 
-put8-requires : tie.Need-put8-requires
-put8-requires c κs = search needs
+forty-requires : tie.Need-forty-requires Inv-loop μ-loop
+forty-requires c κs = search needs
 
-get8-requires-2 : tie.Need-get8-requires-2
-get8-requires-2 c κs = search needs
+loop-holds : tie.Need-loop-holds Inv-loop μ-loop
+loop-holds c = (omega arith, refl, tt)
 
-add-put8 : tie.Need-add-put8
-add-put8 c = search needs
+array-read-byte : tie.Need-array-read-byte Inv-loop μ-loop
+array-read-byte c = omega arith
 
-put8-requires-2 : tie.Need-put8-requires-2
-put8-requires-2 c κs = search needs
+byte-requires : tie.Need-byte-requires Inv-loop μ-loop
+byte-requires c κs = search needs
 
-get8-requires-3 : tie.Need-get8-requires-3
-get8-requires-3 c κs = search needs
+add-bytes : tie.Need-add-bytes Inv-loop μ-loop
+add-bytes c =
+    let s = c .before .before .before .before .before .before in
+    omega (arith, s .pre, s .good .1 .0 .0)
 
-add-put8-2 : tie.Need-add-put8-2
-add-put8-2 c = search needs
+slice-write-bytes : tie.Need-slice-write-bytes Inv-loop μ-loop
+slice-write-bytes c =
+    let k = c .before .before .loop in
+    let s = c .before .before .before .before .before .before .args in
+    omega (arith, as-long (s .bytes .now) (s .at) (take (k .i) (s .call .now)) (k .inv .1))
 
-put8-requires-3 : tie.Need-put8-requires-3
-put8-requires-3 c κs = search needs
+add-i : tie.Need-add-i Inv-loop μ-loop
+add-i c = omega arith
 
-get8-requires-4 : tie.Need-get8-requires-4
-get8-requires-4 c κs = search needs
+loop-less : tie.Need-loop-less Inv-loop μ-loop
+loop-less c = omega arith
 
-add-put8-3 : tie.Need-add-put8-3
-add-put8-3 c = search needs
+loop-again : tie.Need-loop-again Inv-loop μ-loop
+loop-again c =
+    let k = c .before .before .loop in
+    let s = c .before .before .before .before .before .before .args in
+    let call = s .call .now in
+    let long : length call ≡ 40 = c .before .before .before .forty .ensures in
+    let is : c .byte .result ≡ getD call (k .i) 0 = c .byte .ensures .0 in
+    let low : getD call (k .i) 0 < 256 = omega (arith, is, c .byte .ensures .1) in
+    let short : k .i < length call = omega (arith, long) in
+    (omega arith, next-bytes (s .bytes .now) call (s .at) (k .i) short (k .inv .1) is, next-byte call (k .i) short (k .inv .2) low)
 
-put8-requires-4 : tie.Need-put8-requires-4
-put8-requires-4 c κs = search needs
+same-length : tie.Need-same-length Inv-loop μ-loop
+same-length c =
+    let k = c .before .loop in
+    let s = c .before .before .before .before .before .args in
+    as-long (s .bytes .now) (s .at) (take (k .i) (s .call .now)) (k .inv .1)
 
-get8-requires-5 : tie.Need-get8-requires-5
-get8-requires-5 c κs = search needs
-
-add-put8-4 : tie.Need-add-put8-4
-add-put8-4 c = let s = c .before .before .before .before .before .before .before .before .before .before .before .before .before .before .before .before .before .before .before .before .before .before .before .before .before .before .before .before .before in omega (arith, s .pre, s .good .1 .0 .0)
-
-put8-requires-5 : tie.Need-put8-requires-5
-put8-requires-5 c κs = search needs
-
-same-length : tie.Need-same-length
-same-length c = search needs
-
-returns : tie.Need-returns
+returns : tie.Need-returns Inv-loop μ-loop
 returns c =
-    let s = c .before .before .before .before .before .before .before .before .before .before .before .before .before .before .before .before .before .before .before .before .before .before .before .before .before .before .before .before .before .before .before .before .args in
-    let k = c .before .before .before .before .before .before .before .before .before .before .before .before .before .before .before .before .before .before .before .before .before .before .before .before .before .before .before .before .before .before .all-bytes .ensures in (
-      five-words (s .bytes .now) (s .at) (s .call .now) (k .0) (k .1)
-          (c .before .before .before .before .before .before .before .before .before .before .before .before .before .before .before .before .before .before .before .before .before .before .before .before .before .before .before .before .get8 .ensures)
-          (c .before .before .before .before .before .before .before .before .before .before .before .before .before .before .before .before .before .before .before .before .before .before .get82 .ensures)
-          (c .before .before .before .before .before .before .before .before .before .before .before .before .before .before .before .before .get83 .ensures)
-          (c .before .before .before .before .before .before .before .before .before .before .get84 .ensures)
-          (c .before .before .before .before .get85 .ensures)
-          (c .before .before .before .before .before .before .before .before .before .before .before .before .before .before .before .before .before .before .before .before .before .before .before .before .before .before .put8 .ensures)
-          (c .before .before .before .before .before .before .before .before .before .before .before .before .before .before .before .before .before .before .before .before .put82 .ensures)
-          (c .before .before .before .before .before .before .before .before .before .before .before .before .before .before .put83 .ensures)
-          (c .before .before .before .before .before .before .before .before .put84 .ensures)
-          (c .before .before .put85 .ensures),
-      k,
+    let k = c .before .loop in
+    let s = c .before .before .before .before .before .args in
+    let call = s .call .now in
+    let long : length call ≡ 40 = c .before .before .forty .ensures in
+    let whole : length call ≤ k .i = omega (arith, long) in
+    (
+      k .inv .1 ∙ ap (λ (t : List ℕ). sets (s .bytes .now) (s .at) t) (take-all (k .i) call whole),
+      (long, all-bytes call (k .i) whole (k .inv .2)),
     )
 
 pub copy-spec : {M : Type 1} → statement M
 copy-spec =
     tie.close
     (tie.spec
-    all-bytes-requires
-    get8-requires
-    put8-requires
-    get8-requires-2
-    add-put8
-    put8-requires-2
-    get8-requires-3
-    add-put8-2
-    put8-requires-3
-    get8-requires-4
-    add-put8-3
-    put8-requires-4
-    get8-requires-5
-    add-put8-4
-    put8-requires-5
+    Inv-loop
+    μ-loop
+    forty-requires
+    loop-holds
+    array-read-byte
+    byte-requires
+    add-bytes
+    slice-write-bytes
+    add-i
+    loop-less
+    loop-again
     same-length
     returns)
