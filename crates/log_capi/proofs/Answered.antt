@@ -4,7 +4,7 @@ use mathlib.Core.Bool.{Bool, true, false, cond}
 use mathlib.Core.List.{List, [], _∷_, _++_, append-nil}
 use Prim.Native.Nat.{ℕ, zero, suc, _+_, _-_, _≤_}
 use native.Mathlib.Omega.{arith}
-use lib.ListN.{drop, length, replicate, take}
+use lib.ListN.{drop, getD, length, replicate, set, take}
 use denote.Ref.{RefT, now}
 use lib.Seq.{sets, sets-eq}
 use Rattle.codec.specs.Headers.{encodedHeader}
@@ -16,17 +16,18 @@ use Rattle.log.specs.Answers.{Answer, Turn, end, given, handed, headerOf, refus
 use Rattle.log.specs.Faults.{headerRefused}
 use Rattle.log.specs.Layout.{headerIn, noteIn}
 use Rattle.log.specs.Reader.{Part, noteOf, notePart, partOf, placeAfter, settingsOf, trailerRefused}
-use Rattle.log.specs.Writer.{Reply, replyOf}
+use Rattle.log.specs.Writer.{Reply, add, addRefusal, added, replyOf, unlessRefused}
 use Rattle.log.specs.declared.Accepted.{Accepted}
-use Rattle.log.specs.declared.Accepted.the-variants.{No}
+use Rattle.log.specs.declared.Accepted.the-variants.{No, Yes}
 use Rattle.log.specs.declared.Opened.{Opened}
 use Rattle.log.specs.declared.Opened.the-variants.{Read, Refused as OpenRefused}
 use Rattle.log.specs.declared.Refusal.{Refusal}
 use Rattle.log.specs.declared.Refusal.the-variants.{Trailer, Settings, Fault, Room}
 use Rattle.log.specs.declared.Step.{Step}
 use Rattle.log.specs.declared.Step.the-variants.{Handed, End, Refused as StepRefused}
+use Rattle.log.specs.declared.Writer.{Writer}
 use Rattle.log.specs.declared.Written.{Written}
-use Rattle.log_capi.specs.Codes.{answerCode, codeOf, noteWords, partWords, settingsBytes, turnBytes, turnCode, writerWords}
+use Rattle.log_capi.specs.Codes.{answerCode, codeOf, noteWords, partWords, settingsBytes, turnBytes, turnCode, writerOf, writerWords}
 
 -- 100 and the number
 refusal-code : (r : Refusal) → 100 + refusalNumber r ≡ codeOf (refusalNumber r)
@@ -42,6 +43,70 @@ no-code {a} {r} {n} e f = ap (λ m. 100 + m) f ∙ refusal-code r ∙ ap (λ x. 
 pub written : (w : Written) {bytes : List ℕ} {a : Reply} {n : ℕ} → replyOf w bytes ≡ a → n ≡ codeOf (refusalIn (w .accepted)) →
     (n ≡ codeOf (a .refusal)) × (w .writer .offset ∷ w .writer .count ∷ [] ≡ writerWords (a .writer)) × (bytes ≡ a .bytes)
 written w e f = (f ∙ ap (λ a. codeOf (a .refusal)) e, ap (λ a. writerWords (a .writer)) e, ap (λ a. a .bytes) e)
+
+-- an addition leaves the offset, and a refused one the count too
+add-offset : (w : Writer) (r : Record) (l : List ℕ) → add w r l .writer .offset ≡ w .offset
+unfolding add
+add-offset w r l = go (addRefusal w r (length l))
+  where
+    go : (n : ℕ) →
+        unlessRefused n w l (record { refusal = 0; writer = record { offset = w .offset; count = w .count + 1 }; bytes = added w r l }) .writer .offset
+        ≡ w .offset
+    go zero = refl
+    go (suc n) = refl
+
+add-count : (w : Writer) (r : Record) (l : List ℕ) → (add w r l .refusal ≡ 0 → ⊥) → add w r l .writer .count ≡ w .count
+unfolding add
+add-count w r l h = go (addRefusal w r (length l)) h
+  where
+    go : (n : ℕ) →
+        let a = unlessRefused n w l (record { refusal = 0; writer = record { offset = w .offset; count = w .count + 1 }; bytes = added w r l }) in
+        (a .refusal ≡ 0 → ⊥) → a .writer .count ≡ w .count
+    go zero h = absurd (h refl)
+    go (suc n) h = refl
+
+some-number : (r : Refusal) → refusalNumber r ≡ 0 → ⊥
+some-number Trailer e = omega arith
+some-number Settings e = omega arith
+some-number Fault e = omega arith
+some-number Room e = omega arith
+
+second-set : (words : List ℕ) (x : ℕ) → length words ≡ 2 → set words 1 x ≡ getD words 0 0 ∷ x ∷ []
+second-set [] x h = absurd (omega arith)
+second-set (a ∷ []) x h = absurd (omega arith)
+second-set (a ∷ b ∷ []) x h = refl
+second-set (a ∷ b ∷ c ∷ l) x h = absurd (omega arith)
+
+both-words : (words : List ℕ) → length words ≡ 2 → words ≡ getD words 0 0 ∷ getD words 1 0 ∷ []
+both-words [] h = absurd (omega arith)
+both-words (a ∷ []) h = absurd (omega arith)
+both-words (a ∷ b ∷ []) h = refl
+both-words (a ∷ b ∷ c ∷ l) h = absurd (omega arith)
+
+-- of the two words an addition writes the count, and a refused one none
+module _ (words : List ℕ) (two : length words ≡ 2) (r : Record) (l : List ℕ) (w : Written) {bytes : List ℕ}
+    (e : replyOf w bytes ≡ add (writerOf words) r l) where
+  abbrev a : Reply
+  a = add (writerOf words) r l
+
+  pub one-added : w .accepted ≡ Yes →
+      (_≡_ {A = ℕ} 0 (codeOf (a .refusal))) × (set words 1 (w .writer .count) ≡ writerWords (a .writer)) × (bytes ≡ a .bytes)
+  one-added y =
+      let n = w .writer .count in (
+        ap (λ x. codeOf (refusalIn x)) (sym y) ∙ ap (λ a. codeOf (a .refusal)) e,
+        second-set words n two ∙ ap (λ o. o ∷ n ∷ []) (sym (add-offset (writerOf words) r l)) ∙ ap (λ c. a .writer .offset ∷ c ∷ []) (ap (λ a. a .writer .count) e),
+        ap (λ a. a .bytes) e,
+      )
+
+  pub none-added : {no : Refusal} {n : ℕ} → w .accepted ≡ No no → n ≡ refusalNumber no →
+      (100 + n ≡ codeOf (a .refusal)) × (words ≡ writerWords (a .writer)) × (bytes ≡ a .bytes)
+  none-added {no} y f =
+      let told : a .refusal ≡ refusalNumber no = ap (λ a. a .refusal) (sym e) ∙ ap refusalIn y in
+      let count = add-count (writerOf words) r l (λ z. some-number no (sym told ∙ z)) in (
+        no-code y f ∙ ap (λ a. codeOf (a .refusal)) e,
+        both-words words two ∙ ap (λ o. o ∷ getD words 1 0 ∷ []) (sym (add-offset (writerOf words) r l)) ∙ ap (λ c. a .writer .offset ∷ c ∷ []) (sym count),
+        ap (λ a. a .bytes) e,
+      )
 
 -- a list that is written over whole
 sets-whole : (l a : List ℕ) → length a ≡ length l → sets l 0 a ≡ a

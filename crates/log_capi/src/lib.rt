@@ -17,6 +17,11 @@ fn thirty_two(b: [u8; 32])
     ensures { λ _. ⌜ length b ≡ 32 ⌝ }
 {}
 
+// What two words are known to be.
+fn two(w: [u32; 2])
+    ensures { λ _. ⌜ length w ≡ 2 ⌝ }
+{}
+
 fn code(accepted: Accepted) -> u32
     ensures { λ r. ⌜ r ≡ codeOf (refusalIn accepted) ⌝ }
 {
@@ -50,15 +55,21 @@ pub extern "C" fn obikuteru_log_add(words: &mut [u32; 2], call: &[u8; 40], bytes
     ensures { λ r. ⌜ (let a = add (writerOf (now (words .entry))) (decoded (now (call .entry)) 0) (now (bytes .entry)) in
         (r ≡ codeOf (a .refusal)) × (now (words .exit) ≡ writerWords (a .writer)) × (now (bytes .exit) ≡ a .bytes)) ⌝ }
 {
+    two(*words);
     let w = Writer {
         offset: words[0],
         count: words[1],
     };
     let r = log::add_call(w, call, bytes);
     let writer = r.writer;
-    *words = [writer.offset, writer.count];
     let accepted = r.accepted;
-    code(accepted)
+    match accepted {
+        Accepted::Yes => {
+            words[1] = writer.count;
+            0
+        }
+        Accepted::No(refusal) => 100 + refusal.number(),
+    }
 }
 
 #[no_mangle]

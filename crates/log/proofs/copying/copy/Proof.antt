@@ -70,8 +70,7 @@ returns c =
     let s = c .before .before .before .before .before .args in
     let call = s .call .now in
     let long : length call ≡ 40 = c .before .before .forty .ensures in
-    let whole : length call ≤ k .i = omega (arith, long) in
-    (
+    let whole : length call ≤ k .i = omega (arith, long) in (
       k .inv .1 ∙ ap (λ (t : List ℕ). sets (s .bytes .now) (s .at) t) (take-all (k .i) call whole),
       (long, all-bytes call (k .i) whole (k .inv .2)),
     )
