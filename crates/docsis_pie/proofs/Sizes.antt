@@ -9,13 +9,8 @@ use lib.Dec.{leb}
 use Rattle.units.specs.Kinds.{tenth}
 use Rattle.laws.proofs.Choice.{either}
 use Rattle.pie.proofs.Ints.{abs-add}
-use Rattle.pie.proofs.Sizes.{Divides, found}
 use Rattle.docsis_pie.specs.Constants.{cap}
-use Rattle.docsis_pie.specs.Probability.{capped, divisorOf, table}
-
-pub divisor-range : (p : ℕ) → Divides 65536 (divisorOf p)
-unfolding divisorOf
-divisor-range p = found 65536 table p tt
+use Rattle.docsis_pie.specs.Probability.{capped}
 
 pub capped-small : (p most : ℕ) (step : ℤ) → cap ≤ most → natAbs step ≤ most → natAbs (capped p step) ≤ most
 unfolding capped

@@ -4,7 +4,7 @@ use units::Bytes;
 use units::BytesPerSecond;
 use units::Micros;
 ghost use mathlib.Core.Path.{_≡_};
-ghost use Prim.Native.Nat.{_≤_, _^_};
+ghost use Prim.Native.Nat.{_*_, _/_, _≤_, _^_};
 ghost use Rattle.units.specs.Kinds.{bytes, micros};
 ghost use Rattle.docsis_pie.specs.Delay.{delayOf, fastOf};
 
@@ -18,6 +18,15 @@ fn fast(queued: Bytes, credits: Bytes) -> Bytes
     credits
 }
 
+// The time in which bytes leave at a rate. It is worked out 8,192 times as long: the compiler divides so large a product at once, where it
+// asks of another whether it is a short number, and that cannot be foreseen.
+fn time(n: u64, rate: BytesPerSecond) -> u64
+    requires { ⌜ (n ≤ 2 ^ 24) × (1 ≤ rate .0) ⌝ }
+    ensures { λ r. ⌜ r ≡ n * 1000000 / rate .0 ⌝ }
+{
+    n * 8_192_000_000 / rate.0 / 8_192
+}
+
 pub fn delay(
     queued: Bytes,
     credits: Bytes,
@@ -29,7 +38,7 @@ pub fn delay(
 {
     let first = fast(queued, credits);
     let rest = queued.0 - first.0;
-    let d = first.0 * 1_000_000 / peak.0 + rest * 1_000_000 / sustained.0;
+    let d = time(first.0, peak) + time(rest, sustained);
     if d < LONGEST {
         return Micros(d);
     }

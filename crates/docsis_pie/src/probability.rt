@@ -14,31 +14,31 @@ ghost use Rattle.pie.specs.Constants.{longest};
 ghost use Rattle.docsis_pie.specs.Constants.{mostProb};
 ghost use Rattle.docsis_pie.specs.Probability.{adjusted, capped, divisorOf, limited, nextProb, stepOf, steppedProb};
 
-// Rule 4.
-pub fn divisor(p: Prob) -> u64
-    requires { ⌜ p .0 ≤ mostProb ⌝ }
-    ensures { λ r. ⌜ r ≡ divisorOf (p .0) ⌝ }
-{
-    let n = p.0;
-    match n {
-        0..=4_294 => 65_536,
-        4_295..=42_949 => 16_384,
-        42_950..=429_496 => 4_096,
-        429_497..=4_294_967 => 1_024,
-        4_294_968..=42_949_672 => 256,
-        42_949_673..=429_496_729 => 64,
-        429_496_730..=4_294_967_295 => 16,
-        4_294_967_296..=42_949_672_959 => 4,
-        42_949_672_960.. => 1,
-    }
-}
-
 // Rule 5.
 pub fn step(x: i64, k: u64) -> i64
     requires { ⌜ (natAbs x ≤ 300000000) × (0 < k) × (k ≤ 65536) ⌝ }
     ensures { λ r. ⌜ r ≡ stepOf x k ⌝ }
 {
     x * 536_870_912 / (15_625 * (k as i64))
+}
+
+// Rules 4 and 5, row by row: a divisor that stands in the code is divided by without a division.
+fn table_step(p: Prob, x: i64) -> i64
+    requires { ⌜ (p .0 ≤ mostProb) × (natAbs x ≤ 300000000) ⌝ }
+    ensures { λ r. ⌜ r ≡ stepOf x (divisorOf (p .0)) ⌝ }
+{
+    let n = p.0;
+    match n {
+        0..=4_294 => step(x, 65_536),
+        4_295..=42_949 => step(x, 16_384),
+        42_950..=429_496 => step(x, 4_096),
+        429_497..=4_294_967 => step(x, 1_024),
+        4_294_968..=42_949_672 => step(x, 256),
+        42_949_673..=429_496_729 => step(x, 64),
+        429_496_730..=4_294_967_295 => step(x, 16),
+        4_294_967_296..=42_949_672_959 => step(x, 4),
+        42_949_672_960.. => step(x, 1),
+    }
 }
 
 // Rule 6.
@@ -87,7 +87,7 @@ fn stepped_prob(p: Prob, delay: Micros, old: Micros, target: Micros) -> Prob
     requires { ⌜ (p .0 ≤ mostProb) × (delay .0 ≤ longest) × (old .0 ≤ longest) × (target .0 ≤ 100000) ⌝ }
     ensures { λ r. ⌜ r ≡ prob (steppedProb (p .0) (delay .0) (old .0) (target .0)) ⌝ }
 {
-    let s = cap_step(p, step(error(delay, old, target), divisor(p)));
+    let s = cap_step(p, table_step(p, error(delay, old, target)));
     limit(adjust(p.0 as i64 + s, delay, old))
 }
 

@@ -77,6 +77,18 @@ impl Phase {
         }
         self
     }
+
+    // Rules 9 to 11. Above probability 0 no more is asked.
+    fn ticked(self, p: Prob, allowance: Micros, delay: Micros, old: Micros, target: Micros) -> Phase
+        requires { ⌜ (self .reset .0 ≤ resetTimeout) × (delay .0 ≤ longest) × (old .0 ≤ longest) ⌝ }
+        ensures { λ r. ⌜ r ≡ phaseAfter (isQuiet (p .0) (allowance .0) (delay .0) (old .0) (target .0)) self ⌝ }
+    {
+        let none = p.0 == 0;
+        if none {
+            return self.after(quiet(p, allowance, delay, old, target));
+        }
+        self.after(false)
+    }
 }
 
 impl DocsisPie {
@@ -98,7 +110,7 @@ impl DocsisPie {
         let prob = next_prob(self.prob, self.allowance, now, old, target);
         let allowance = next_allowance(self.allowance);
         let before = self.phase;
-        let phase = before.after(quiet(prob, allowance, now, old, target));
+        let phase = before.ticked(prob, allowance, now, old, target);
         DocsisPie {
             prob,
             old: now,

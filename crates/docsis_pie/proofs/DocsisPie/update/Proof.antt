@@ -19,21 +19,16 @@ next-prob-requires c κs = let h = now-le c in search needs
 next-allowance-requires : tie.Need-next-allowance-requires
 next-allowance-requires c κs = search needs
 
-quiet-requires : tie.Need-quiet-requires
-quiet-requires c κs = let h = now-le (c .before .before .before) in search needs
-
-after-requires : tie.Need-after-requires
-after-requires c κs = search needs
+ticked-requires : tie.Need-ticked-requires
+ticked-requires c κs = let h = now-le (c .before .before .before) in search needs
 
 returns : tie.Need-returns
 unfolding updated
 returns c =
     let a = c .before in
-    let q = a .before in
-    let n = q .before .before in
+    let n = a .before .before in
     simp (
-      a .after .ensures,
-      q .quiet .ensures,
+      a .ticked .ensures,
       n .«next-allowance» .ensures,
       n .before .«next-prob» .ensures,
       n .before .before .delay .ensures,
@@ -41,11 +36,4 @@ returns c =
 
 pub update-spec : {M : Type 1} → statement M
 update-spec =
-    tie.close
-    (tie.spec
-    delay-requires
-    next-prob-requires
-    next-allowance-requires
-    quiet-requires
-    after-requires
-    returns)
+    tie.close (tie.spec delay-requires next-prob-requires next-allowance-requires ticked-requires returns)

@@ -39,40 +39,38 @@ fast-requires c κs = search needs
 sub-rest : tie.Need-sub-rest
 sub-rest c = fast-le (c .before .before)
 
-mul-d : tie.Need-mul-d
-mul-d c = omega (arith, fast-le (c .before .before .before))
+time-requires : tie.Need-time-requires
+time-requires c κs = let h = fast-le (c .before .before) in search needs
 
-div-d : tie.Need-div-d
-div-d c = search needs
-
-mul-d-2 : tie.Need-mul-d-2
-mul-d-2 c = search needs
-
-div-d-2 : tie.Need-div-d-2
-div-d-2 c = search needs
+time-requires-2 : tie.Need-time-requires-2
+time-requires-2 c κs = search needs
 
 add-d : tie.Need-add-d
 add-d c =
-    let a = c .before .before .before .before .before in
+    let a = c .before .before .before .before in
     let f = a .fast .result .0 in
     let q = a .before .args .queued .0 in
     omega (
       arith,
       fast-le a,
+      c .before .time .ensures,
+      c .time2 .ensures,
       div-le-self (f * 1000000) (a .before .args .peak .0),
       div-le-self ((q - f) * 1000000) (a .before .args .sustained .0),
     )
 
 returns : tie.Need-returns
 returns c =
-    let a = c .before .before .before .before .before .before in
-    short _ _ _ _ (a .fast .result) (a .fast .ensures) (c .if1 .taken)
+    let a = c .before .before .before .before .before in
+    let e = c .before .before .time .ensures in
+    let f = c .before .time2 .ensures in
+    rw (e, f) (short _ _ _ _ (a .fast .result) (a .fast .ensures) (rw (e, f) at (c .if1 .taken)))
 
 returns-2 : tie.Need-returns-2
 returns-2 c =
-    let a = c .before .before .before .before .before .before in
-    long _ _ _ _ (a .fast .result) (a .fast .ensures) (c .if1 .left)
+    let a = c .before .before .before .before .before in
+    long _ _ _ _ (a .fast .result) (a .fast .ensures) (rw (c .before .before .time .ensures, c .before .time2 .ensures) at (c .if1 .left))
 
 pub delay-spec : {M : Type 1} → statement M
 delay-spec =
-    tie.close (tie.spec fast-requires sub-rest mul-d div-d mul-d-2 div-d-2 add-d returns returns-2)
+    tie.close (tie.spec fast-requires sub-rest time-requires time-requires-2 add-d returns returns-2)

@@ -13,43 +13,43 @@ use Rattle.pie.specs.Update.{errorOf}
 use Rattle.pie.proofs.Ints.{abs-add, as-pos, back, read, small}
 use Rattle.pie.proofs.Sizes.{error-small, quotient-small}
 use Rattle.docsis_pie.specs.Probability.{adjusted, capped, divisorOf, limited, stepOf, steppedProb}
-use Rattle.docsis_pie.proofs.Sizes.{capped-small, divisor-range}
+use Rattle.docsis_pie.proofs.Sizes.{capped-small}
 use Rattle.docsis_pie.proofs.probability.stepped_prob.Statement.{statement}
 use Rattle.docsis_pie.proofs.probability.stepped_prob.Tie as tie
 
-rules : (p d o t k : ℕ) (x s z q : ℤ) (r : Prob) → x ≡ errorOf d o t → k ≡ divisorOf p → s ≡ stepOf x k → z ≡ capped p s →
+rules : (p d o t : ℕ) (x s z q : ℤ) (r : Prob) → x ≡ errorOf d o t → s ≡ stepOf x (divisorOf p) → z ≡ capped p s →
     q ≡ adjusted d o (pos p +ℤ z) → r ≡ prob (limited q) → r ≡ prob (steppedProb p d o t)
 unfolding steppedProb
-rules p d o t k x s z q r a b c e f g = cc
+rules p d o t x s z q r a b c e f = cc
 
-x-small : (c : tie.After-divisor) → natAbs (c .before .error .result) ≤ 300000000
+x-small : (c : tie.After-error) → natAbs (c .error .result) ≤ 300000000
 x-small c =
-    let a = c .before .before .args in
-    rw (c .before .error .ensures)
+    let a = c .before .args in
+    rw (c .error .ensures)
     (error-small (a .delay .0) (a .old .0) (a .target .0) (omega arith) (omega arith) (omega arith))
 
 module _ (c : tie.After-cap-step) where
   abbrev p : ℕ
-  p = c .before .before .before .before .args .p .0
+  p = c .before .before .before .args .p .0
 
-  x-back : read (c .before .before .before .error .result) ≡ c .before .before .before .error .result
+  x-back : read (c .before .before .error .result) ≡ c .before .before .error .result
   x-back = back _ (omega (arith, x-small (c .before .before)))
 
-  s-small : natAbs (c .before .step .result) ≤ 2 ^ 60
+  s-small : natAbs (c .before .«table-step» .result) ≤ 2 ^ 60
   unfolding stepOf
   s-small =
-      rw (c .before .step .ensures, x-back)
+      rw (c .before .«table-step» .ensures, x-back)
       (omega (
         arith,
-        quotient-small 536870912 (c .before .before .before .error .result) (15625 * c .before .before .divisor .result),
+        quotient-small 536870912 (c .before .before .error .result) (15625 * divisorOf p),
         x-small (c .before .before),
       ))
 
-  s-back : read (c .before .step .result) ≡ c .before .step .result
+  s-back : read (c .before .«table-step» .result) ≡ c .before .«table-step» .result
   s-back = back _ (omega (arith, s-small))
 
   z-small : natAbs (c .cap-step .result) ≤ 2 ^ 60
-  z-small = rw (c .cap-step .ensures, s-back) (capped-small p (2 ^ 60) (c .before .step .result) (omega arith) s-small)
+  z-small = rw (c .cap-step .ensures, s-back) (capped-small p (2 ^ 60) (c .before .«table-step» .result) (omega arith) s-small)
 
   z-back : read (c .cap-step .result) ≡ c .cap-step .result
   z-back = back _ (omega (arith, z-small))
@@ -66,13 +66,9 @@ module _ (c : tie.After-cap-step) where
 error-requires : tie.Need-error-requires
 error-requires c κs = search needs
 
-divisor-requires : tie.Need-divisor-requires
-divisor-requires c κs = search needs
-
-step-requires : tie.Need-step-requires
-step-requires c κs =
-    let h = divisor-range (c .before .before .args .p .0) in
-    rw (back (c .before .error .result) (omega (arith, x-small c)), c .divisor .ensures) (x-small c, h .0, h .1)
+table-step-requires : tie.Need-table-step-requires
+table-step-requires c κs =
+    rw (back (c .error .result) (omega (arith, x-small c))) (omega arith, x-small c)
 
 cap-step-requires : tie.Need-cap-step-requires
 cap-step-requires c κs = search needs
@@ -92,10 +88,9 @@ limit-requires c κs = search needs
 returns : tie.Need-returns
 returns c =
     let a = c .before .before .before in
-    rules _ _ _ _ _ _ _ _ _ _
-    (a .before .before .before .error .ensures)
-    (a .before .before .divisor .ensures)
-    (rw (x-back a) at (a .before .step .ensures))
+    rules _ _ _ _ _ _ _ _ _
+    (a .before .before .error .ensures)
+    (rw (x-back a) at (a .before .«table-step» .ensures))
     (rw (s-back a) at (a .cap-step .ensures))
     (rw (p-back a, z-back a, q-back a) at (c .before .adjust .ensures))
     (rw (toZ-ofZ (sfits-of (c .before .adjust .ok))) at (c .limit .ensures))
@@ -105,8 +100,7 @@ stepped-prob-spec =
     tie.close
     (tie.spec
     error-requires
-    divisor-requires
-    step-requires
+    table-step-requires
     cap-step-requires
     cast-adjust
     add-adjust
