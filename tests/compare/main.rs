@@ -9,166 +9,60 @@
 //! It ends with 1 at the first difference, with 2 if the calls did not reach everything, and
 //! with 3 if it was not understood.
 
+#[path = "../shared/area.rs"]
 mod area;
-mod pair;
 mod coverage;
 mod events;
 mod examples;
+#[path = "../shared/groups.rs"]
 mod groups;
 mod guard;
 mod library;
+#[path = "../shared/lines.rs"]
+mod lines;
 mod model;
+#[path = "../shared/numbers.rs"]
+mod numbers;
+#[path = "../shared/pair.rs"]
+mod pair;
 mod plans;
+#[path = "../shared/program.rs"]
+mod program;
+#[path = "../shared/random.rs"]
 mod random;
 mod report;
+#[path = "../shared/rounds.rs"]
+mod rounds;
 mod runs;
 mod shadow;
 mod side;
 mod single;
 mod states;
+#[path = "../shared/stop.rs"]
 mod stop;
+#[allow(dead_code)]
+#[path = "../shared/traffic.rs"]
+mod traffic;
 
 use pair::Failure;
-use coverage::Coverage;
-use guard::Guarded;
-use random::Random;
-use side::{Direct, Lender};
-use std::process::exit;
-use std::time::{Duration, Instant, SystemTime, UNIX_EPOCH};
+use program::Round;
+use side::Lender;
 
-/// What this program calls itself where it speaks of a difference.
+/// What this program calls itself.
 const NAME: &str = "compare";
-const SEED: u64 = 8_033;
-const BATCHES: u64 = 400;
-const STARTS: u64 = 1_000;
-const RUNS: u64 = 5 * plans::KINDS;
 
-/// What the single calls and the long runs reached.
-struct Reached {
-    single: Coverage,
-    runs: Coverage,
-}
-
-impl Reached {
-    fn new() -> Reached {
-        Reached { single: Coverage::new(false), runs: Coverage::new(true) }
-    }
-
-    fn calls(&self) -> u64 {
-        self.single.calls + self.runs.calls
-    }
-
-    fn print(&self, all: bool) {
-        println!("single calls: {}", self.single.calls);
-        self.single.print(false, all);
-        println!("calls of long runs: {}", self.runs.calls);
-        self.runs.print(true, all);
-    }
-
-    /// Ends the program with 2 if anything was not reached.
-    fn require_all(&self) {
-        let single = self.single.missing(false);
-        let runs = self.runs.missing(true);
-        for (name, missing) in [("single calls", &single), ("long runs", &runs)] {
-            for label in missing {
-                println!("compare: the {name} did not reach this: {label}");
-            }
-        }
-        if !single.is_empty() || !runs.is_empty() {
-            exit(2);
-        }
-    }
-}
-
-/// Runs one part of a round, and ends the program with 1 if it fails.
-fn require(place: &str, run: impl FnOnce() -> Result<(), Failure>) {
-    stop::set_place(place);
-    if let Err(failure) = run() {
-        failure.print(place);
-        exit(1);
-    }
-}
-
-/// The random numbers of one part of a round.
-fn part(seed: u64, part: u64) -> Random {
-    let mut mixed = Random::new(seed ^ part.wrapping_mul(0x2545_f491_4f6c_dd1d));
-    Random::new(mixed.number())
-}
-
-/// All parts of one round with the memory of the given lender.
-fn round(seed: u64, batches: u64, runs: u64, lender: &mut dyn Lender, reached: &mut Reached) {
-    let place = format!("fresh calls (seed {seed})");
-    require(&place, || single::fresh_calls(lender, &mut reached.single));
-    for batch in 0..batches {
-        let place = format!("single calls, batch {batch} of seed {seed}");
-        let mut r = part(seed, 2 * batch);
-        require(&place, || single::run(&mut r, STARTS, lender, &mut reached.single));
-    }
-    for run in 0..runs {
-        let kind = run % plans::KINDS;
-        let place = format!("long run {run} (plan {kind}) of seed {seed}");
-        let mut r = part(seed, 2 * run + 1);
-        require(&place, || runs::run(&mut r, kind, lender, &mut reached.runs));
-    }
-    require("the figures of the document", || examples::run(lender));
-}
-
-fn one_round(seed: u64, all: bool) {
-    let mut reached = Reached::new();
-    round(seed, BATCHES, RUNS, &mut Direct, &mut reached);
-    reached.print(all);
-    reached.require_all();
-    println!("compare: {} calls, no difference", reached.calls());
-}
-
-/// Whole rounds until the time is over.
-fn soak(seconds: u64) {
-    let end = Instant::now() + Duration::from_secs(seconds);
-    let now = SystemTime::now().duration_since(UNIX_EPOCH).unwrap_or_default();
-    let mut seeds = Random::new(now.as_nanos() as u64);
-    let mut reached = Reached::new();
-    while Instant::now() < end {
-        let seed = seeds.number() >> 16;
-        println!("seed {seed}");
-        round(seed, BATCHES, RUNS, &mut Direct, &mut reached);
-    }
-    reached.print(false);
-    reached.require_all();
-    println!("compare: soak of {seconds} seconds, {} calls, no difference", reached.calls());
-}
-
-fn guarded() {
-    let mut calls = 0;
-    for at_end in [true, false] {
-        let place = if at_end { "before" } else { "after" };
-        println!("memory right {place} a guarded page, tables of whole pages between two");
-        let mut reached = Reached::new();
-        round(SEED, 20, 2 * plans::KINDS, &mut Guarded::new(at_end), &mut reached);
-        reached.require_all();
-        calls += reached.calls();
-    }
-    println!("compare: guard, {calls} calls, no difference");
-}
-
-fn misunderstood() -> ! {
-    println!("compare: usage: compare [counts | seed N | soak SECONDS | guard]");
-    exit(3);
-}
-
-fn number(word: &str) -> u64 {
-    word.parse().unwrap_or_else(|_| misunderstood())
+fn figures(lender: &mut dyn Lender) -> Result<u64, Failure> {
+    examples::run(lender).map(|()| 0)
 }
 
 fn main() {
-    stop::install();
-    let arguments: Vec<String> = std::env::args().skip(1).collect();
-    let words: Vec<&str> = arguments.iter().map(String::as_str).collect();
-    match words[..] {
-        [] => one_round(SEED, false),
-        ["counts"] => one_round(SEED, true),
-        ["seed", seed] => one_round(number(seed), false),
-        ["soak", seconds] => soak(number(seconds)),
-        ["guard"] => guarded(),
-        _ => misunderstood(),
-    }
+    let round = Round {
+        seed: 8_033,
+        batches: 400,
+        runs: 5 * plans::KINDS,
+        guarded: (20, 2 * plans::KINDS),
+        figures: ("the figures of the document", figures),
+        checks: None,
+    };
+    round.main();
 }

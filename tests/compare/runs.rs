@@ -3,12 +3,12 @@
 use crate::pair::{Pair, Failure};
 use crate::coverage::Coverage;
 use crate::model::{Arriving, CLOCK_MAX};
+use crate::numbers::{split, Lent};
 use crate::plans::{self, Phase, Plan};
 use crate::random::Random;
 use crate::report::call_text;
 use crate::shadow::Shadow;
-use crate::side::{Call, Lender, Lent, Side};
-use crate::states;
+use crate::side::{Call, Lender, Side};
 
 struct Run<'a> {
     r: &'a mut Random,
@@ -22,14 +22,19 @@ struct Run<'a> {
     tick_at: u64,
 }
 
-/// One run with the plan of the given kind.
+/// What a run is called: its number and its kind of plan.
+pub fn name(run: u64) -> String {
+    format!("long run {run} (plan {})", run % plans::KINDS)
+}
+
+/// One run; the plans take turns from run to run.
 pub fn run(
     r: &mut Random,
-    kind: u64,
+    turn: u64,
     lender: &mut dyn Lender,
     coverage: &mut Coverage,
 ) -> Result<(), Failure> {
-    let plan = plans::plan(r, kind);
+    let plan = plans::plan(r, turn % plans::KINDS);
     let length = plan.slots as usize + 1;
     let fill = r.number() as u32;
     let start = Side::new(Default::default(), vec![fill; length], vec![!fill; length]);
@@ -63,7 +68,7 @@ fn begin(
         coverage.note(&pair.before, &call, &pair.library);
     }
     if plan.arrivals_left > 0 {
-        let counts = states::split(r, CLOCK_MAX - plan.arrivals_left);
+        let counts = split(r, CLOCK_MAX - plan.arrivals_left);
         pair.model.state.verdicts = counts;
         pair.library.state.verdicts = counts;
     }
@@ -92,7 +97,7 @@ impl Run<'_> {
 
     fn reschedule(&mut self) {
         let clock = self.pair.model.state.clock;
-        self.arrival_at = self.plan.arrival_gap(self.r, self.phase).map(|gap| clock + gap);
+        self.arrival_at = self.plan.traffic.arrival_gap(self.r, self.phase).map(|gap| clock + gap);
         self.departure_at = None;
         self.schedule_departure();
     }
@@ -111,7 +116,7 @@ impl Run<'_> {
                 if after.answer < 100 && clock < quiet {
                     self.coverage.note_run_event(0);
                 }
-                self.arrival_at = self.plan.arrival_gap(self.r, self.phase).map(|gap| clock + gap);
+                self.arrival_at = self.plan.traffic.arrival_gap(self.r, self.phase).map(|gap| clock + gap);
             }
             Call::Departure { .. } if after.answer < 100 => self.departure_at = None,
             Call::Tick { .. } if after.answer < 100 => {
@@ -128,7 +133,7 @@ impl Run<'_> {
         let side = &self.pair.model;
         if self.departure_at.is_none() && side.state.count > 0 {
             let size = u64::from(side.sizes[side.state.first as usize]);
-            let gap = self.plan.departure_gap(size, self.phase);
+            let gap = self.plan.traffic.departure_gap(size, self.phase);
             self.departure_at = Some(side.state.clock + gap);
         }
     }
@@ -156,32 +161,21 @@ impl Run<'_> {
     }
 
     fn lent(&self) -> Lent {
-        let slots = self.plan.slots as usize;
-        Lent { handles: slots, sizes: slots }
-    }
-
-    fn wrong_lent(&mut self) -> Lent {
-        let slots = self.plan.slots as usize;
-        let wrong = self.r.pick(&[0, slots - 1, slots + 1]);
-        let lengths = self.r.pick(&[(wrong, slots), (slots, wrong), (wrong, wrong)]);
-        Lent { handles: lengths.0, sizes: lengths.1 }
+        Lent::both(self.plan.slots as usize)
     }
 
     fn packet(&mut self) -> Arriving {
         let r = &mut *self.r;
         let handle = r.number() as u32;
-        let size = r.range(self.plan.sizes.0, self.plan.sizes.1) as u32;
+        let size = self.plan.traffic.size(r);
         let ecn = r.range(1, 100) <= self.plan.ecn;
-        let any = r.number() as u32;
-        let u = r.pick(&[any, any, any, any, any, any, any, 0, u32::MAX]);
-        let u = if self.plan.lucky { u32::MAX } else { u };
-        Arriving { handle, size, ecn, u }
+        Arriving { handle, size, ecn, u: self.plan.traffic.u(r) }
     }
 
     /// A call with one argument wrong, or at a time when it is refused or seldom comes.
     fn odd_call(&mut self) -> Call {
         let state = self.pair.model.state;
-        let (lent, wrong, mut packet) = (self.lent(), self.wrong_lent(), self.packet());
+        let (lent, wrong, mut packet) = (self.lent(), Lent::wrong(self.r, self.plan.slots as usize), self.packet());
         let clock = state.clock;
         let bad_clock = self.r.pick(&[clock.wrapping_sub(1), CLOCK_MAX + 1, u64::MAX]);
         let early = clock.max(state.last + self.r.pick(&[0, 1, 14_999]));

@@ -1,15 +1,10 @@
 //! One side of the comparison: a state, two tables, and what the last call gave.
 
 use crate::library::{self, Packet, Record};
+use crate::lines::STOPPED;
 use crate::model::{self, Arriving, State};
+pub use crate::numbers::Lent;
 use std::panic::{catch_unwind, AssertUnwindSafe};
-
-/// How many elements of each table are lent to a call.
-#[derive(Clone, Copy, Debug)]
-pub struct Lent {
-    pub handles: usize,
-    pub sizes: usize,
-}
 
 #[derive(Clone, Copy, Debug)]
 pub enum Call {
@@ -18,9 +13,6 @@ pub enum Call {
     Departure { lent: Lent, clock: u64 },
     Tick { clock: u64 },
 }
-
-/// The answer that stands for a panic of the model.
-pub const STOPPED: u32 = u32::MAX;
 
 /// A packet that no call gives back by chance: it shows that nothing was written.
 pub const UNWRITTEN: Packet = Packet { handle: 0xA5A5_5A5A, size: 0xA5A5_5A5A };

@@ -3,8 +3,9 @@
 use crate::pair::{Pair, Failure};
 use crate::coverage::Coverage;
 use crate::model::{Arriving, Refusals, State, CLOCK_MAX};
+use crate::numbers::{self, Lent};
 use crate::random::Random;
-use crate::side::{Call, Lender, Lent, Side};
+use crate::side::{Call, Lender, Side};
 use crate::states;
 
 #[derive(Clone, Copy, PartialEq)]
@@ -69,19 +70,14 @@ fn kind(r: &mut Random) -> Kind {
     r.pick(&[Kind::Arrival, Kind::Departure, Kind::Tick])
 }
 
-/// None, one, two or more of the refusals that the call can get. Never 6 with 9.
+/// None, one, two or more of the refusals that the call can get.
 fn wanted(r: &mut Random, kind: Kind) -> Refusals {
     let list: &[usize] = match kind {
         Kind::Arrival => &[2, 3, 4, 7, 8],
         Kind::Departure => &[2, 3, 4, 6, 9],
         Kind::Tick => &[2, 4, 5],
     };
-    let mut wanted = Refusals::default();
-    for _ in 0..r.pick(&[0, 0, 1, 1, 2, 2, 3]) {
-        wanted[r.pick(list)] = true;
-    }
-    wanted[9] &= !wanted[6];
-    wanted
+    numbers::wanted(r, list)
 }
 
 /// A state with its tables, and a call to which the wanted refusals apply where they can.
@@ -106,11 +102,11 @@ fn case(r: &mut Random) -> (Side, Call) {
         states::measurement(r, &mut s);
     }
     if wanted[8] || (kind != Kind::Arrival && r.one_in(8)) {
-        s.verdicts = states::split(r, CLOCK_MAX);
+        s.verdicts = numbers::split(r, CLOCK_MAX);
     }
     let (handles, mut sizes) = tables(r, &s);
     if wanted[9] {
-        sizes[s.first as usize] = wrong_size(r, &s);
+        sizes[s.first as usize] = numbers::wrong_size(r, s.count, s.bytes);
     }
     if wanted[2] && r.one_in(6) {
         states::scramble(r, &mut s);
@@ -145,43 +141,21 @@ fn tables(r: &mut Random, s: &State) -> (Vec<u32>, Vec<u32>) {
     (handles, sizes)
 }
 
-/// A stored size that refusal 9 is about.
-fn wrong_size(r: &mut Random, s: &State) -> u32 {
-    let others = s.count - 1;
-    let too_large = (s.bytes - others + 1).min(65_536) as u32;
-    let too_small = s.bytes.saturating_sub(65_535 * others + 1).min(65_535) as u32;
-    let below_zero = (s.bytes + 1).min(65_535) as u32;
-    r.pick(&[0, 65_536, u32::MAX, 1 << 16, too_large, too_large, too_small, too_small, below_zero])
-}
-
 fn next_call(r: &mut Random, kind: Kind, side: &Side, wanted: &Refusals) -> Call {
     let s = &side.state;
-    let clock = if wanted[4] { wrong_clock(r, s, wanted[5]) } else { right_clock(r, s) };
-    let lent = lent(r, side, wanted[3]);
+    let clock = match wanted[4] {
+        true => numbers::wrong_clock(r, s.clock, wanted[5]),
+        false => right_clock(r, s),
+    };
+    let lent = Lent::random(r, side.handles.len(), s.slots, wanted[3]);
     match kind {
         Kind::Arrival => Call::Arrival { lent, clock, packet: packet(r, s, wanted[7]) },
         Kind::Departure => Call::Departure { lent, clock },
         Kind::Tick if wanted[4] => Call::Tick { clock },
-        Kind::Tick => Call::Tick { clock: tick_clock(r, s, clock, wanted[5]) },
-    }
-}
-
-/// The lengths lent: the slots, or a wrong length for one table or for both.
-fn lent(r: &mut Random, side: &Side, wrong: bool) -> Lent {
-    let longest = side.handles.len();
-    let slots = side.state.slots.min(longest as u64) as usize;
-    if !wrong {
-        return Lent { handles: slots, sizes: slots };
-    }
-    let shorter = slots.saturating_sub(1);
-    let longer = (slots + 1).min(longest);
-    let other = r.pick(&[0, shorter, shorter, longer, longer, longest]);
-    let both = r.pick(&[0, shorter, longer]);
-    match r.range(0, 3) {
-        0 => Lent { handles: other, sizes: slots },
-        1 => Lent { handles: slots, sizes: other },
-        2 => Lent { handles: both, sizes: both },
-        _ => Lent { handles: shorter, sizes: longer },
+        Kind::Tick => {
+            let due = s.last.saturating_add(15_000);
+            Call::Tick { clock: numbers::tick_clock(r, due, s.clock, clock, wanted[5]) }
+        }
     }
 }
 
@@ -193,27 +167,6 @@ fn right_clock(r: &mut Random, s: &State) -> u64 {
     let same = s.clock;
     let list = [same, same, same.saturating_add(1), later, later, ended, any, CLOCK_MAX];
     r.pick(&list).max(s.clock).min(CLOCK_MAX)
-}
-
-/// A clock before the state's or above 2^48; if `early`, one that is too soon for a tick as well.
-fn wrong_clock(r: &mut Random, s: &State, early: bool) -> u64 {
-    let back = s.clock.wrapping_sub(1);
-    if early {
-        return r.pick(&[back, CLOCK_MAX + 1]);
-    }
-    let any = r.range(0, back.min(CLOCK_MAX));
-    let other = if s.clock > 0 { any } else { u64::MAX };
-    r.pick(&[back, back, other, CLOCK_MAX + 1, CLOCK_MAX + 1, 1 << 63, u64::MAX])
-}
-
-/// The clock of a tick: too soon, exactly when due, or later.
-fn tick_clock(r: &mut Random, s: &State, clock: u64, early: bool) -> u64 {
-    let due = s.last.saturating_add(15_000);
-    if early {
-        let any = r.range(s.clock, due - 1);
-        return r.pick(&[due - 1, due - 1, s.clock, any]).max(s.clock).min(CLOCK_MAX);
-    }
-    r.pick(&[due, due, due.saturating_add(1), clock.max(due)]).max(s.clock).min(CLOCK_MAX)
 }
 
 fn packet(r: &mut Random, s: &State, wrong: bool) -> Arriving {

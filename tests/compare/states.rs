@@ -1,6 +1,7 @@
 //! Random states: well formed, near the ends of every range, or with one condition broken.
 
 use crate::model::{self, State, BANDS, CLOCK_MAX, FORCED, TENTH, TIME_MAX, WHOLE};
+use crate::numbers::{above, outside, split, too_many, wild};
 use crate::random::Random;
 use crate::side::{state_of, words};
 
@@ -173,37 +174,6 @@ pub fn aim_at_refill(r: &mut Random, s: &mut State) {
     }
 }
 
-/// Five numbers with the given sum.
-pub fn split(r: &mut Random, sum: u64) -> [u64; 5] {
-    let mut parts = [0; 5];
-    let mut left = sum;
-    for part in parts.iter_mut().take(4) {
-        *part = if r.one_in(3) { 0 } else { r.spread(0, left) };
-        left -= *part;
-    }
-    parts[4] = left;
-    let turn = r.range(0, 4) as usize;
-    parts.rotate_left(turn);
-    parts
-}
-
-/// A number far outside most ranges, or one that looks in range if its high bits are lost.
-fn wild(r: &mut Random, value: u64) -> u64 {
-    let any = r.number();
-    let high = r.pick(&[1 << 32, 1 << 40, 1 << 49, 1 << 63]);
-    r.pick(&[u64::MAX, u64::MAX - 1, 1 << 63, (1 << 63) - 1, value | high, value | high, any])
-}
-
-/// A number just outside a range, or far outside.
-fn outside(r: &mut Random, value: u64, (least, most): (u64, u64)) -> u64 {
-    let far = wild(r, value).max(most + 1);
-    r.pick(&[least.saturating_sub(1), most + 1, most + 1, far])
-}
-
-fn above(r: &mut Random, value: u64, most: u64) -> u64 {
-    outside(r, value, (most + 2, most))
-}
-
 /// Puts wild numbers into a few words of the state, whatever that breaks.
 pub fn scramble(r: &mut Random, s: &mut State) {
     let mut words = words(s);
@@ -230,7 +200,7 @@ pub fn break_one(r: &mut Random, s: &mut State, condition: usize) {
         10..=13 => break_queue(r, s, condition),
         14..=18 => break_measurement(r, s, condition),
         19 => s.accumulated = above(r, s.accumulated, FORCED - 1),
-        _ => break_sum(r, s),
+        _ => s.verdicts = too_many(r),
     }
     if condition == 1 && r.one_in(4) {
         s.buffer = 0;
@@ -293,20 +263,5 @@ fn break_measurement(r: &mut Random, s: &mut State, condition: usize) {
             }
             (s.count, s.bytes) = (0, 0);
         }
-    }
-}
-
-fn break_sum(r: &mut Random, s: &mut State) {
-    s.verdicts = split(r, CLOCK_MAX + 1);
-    let place = r.range(0, 4) as usize;
-    match r.range(0, 3) {
-        0 => s.verdicts[place] = u64::MAX,
-        1 => {
-            // A sum that is small if it wraps round at 2^64.
-            s.verdicts = [1, 0, 2, 0, 0];
-            s.verdicts[place] = u64::MAX - r.range(0, 2);
-        }
-        2 => s.verdicts = [1 << 63, 1 << 63, 0, r.range(0, 9), 0],
-        _ => {}
     }
 }

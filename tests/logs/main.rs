@@ -25,18 +25,26 @@ mod model;
 #[allow(dead_code)]
 #[path = "../compare/plans.rs"]
 mod plans;
-#[path = "../compare/random.rs"]
+#[path = "../shared/random.rs"]
 mod random;
 mod replay;
+#[path = "../shared/rounds.rs"]
+mod rounds;
+#[path = "../shared/stop.rs"]
 mod stop;
+#[allow(dead_code)]
+#[path = "../shared/traffic.rs"]
+mod traffic;
+mod watch;
 
 use coverage::Coverage;
 use failure::Failure;
 use random::Random;
 use std::panic::{catch_unwind, AssertUnwindSafe};
 use std::process::exit;
-use std::time::{Duration, Instant, SystemTime, UNIX_EPOCH};
 
+/// What this program calls itself.
+const NAME: &str = "logs";
 const SEED: u64 = 8_033;
 
 /// One part of a round: its name, what it must reach, and its calls in memory before or after a
@@ -127,17 +135,9 @@ fn one_part(name: &str) {
     println!("logs: {} calls of {name}, no difference", reached.calls);
 }
 
-/// Whole rounds until the time is over.
 fn soak(seconds: u64) {
-    let end = Instant::now() + Duration::from_secs(seconds);
-    let now = SystemTime::now().duration_since(UNIX_EPOCH).unwrap_or_default();
-    let mut seeds = Random::new(now.as_nanos() as u64);
     let mut reached = begin();
-    while Instant::now() < end {
-        let seed = seeds.number() >> 16;
-        println!("seed {seed}");
-        round(seed, &mut reached);
-    }
+    rounds::soak(seconds, |seed| round(seed, &mut reached));
     print(&reached, false);
     require_all(&reached);
     println!("logs: soak of {seconds} seconds, {} calls, no difference", calls(&reached));
@@ -160,9 +160,7 @@ fn number(word: &str) -> u64 {
 
 fn main() {
     stop::install();
-    let arguments: Vec<String> = std::env::args().skip(1).collect();
-    let words: Vec<&str> = arguments.iter().map(String::as_str).collect();
-    match words[..] {
+    rounds::by_words(|words| match *words {
         [] => one_round(SEED, false),
         ["counts"] => one_round(SEED, true),
         ["seed", seed] => one_round(number(seed), false),
@@ -170,5 +168,5 @@ fn main() {
         ["soak", seconds] => soak(number(seconds)),
         ["page", file] => page(file),
         _ => misunderstood(),
-    }
+    });
 }

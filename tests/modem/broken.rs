@@ -1,30 +1,14 @@
 //! Records and rows with one condition broken, or many.
 
 use crate::model::numbers::*;
-use crate::model::{Row, State};
+use crate::model::State;
+use crate::numbers::{above, outside, wild};
 use crate::random::Random;
 use crate::states;
 use crate::words::{state_of, words};
 
 /// The place of the condition on the row.
 pub const ROW: usize = 21;
-
-/// A number far outside most ranges, or one that looks in range if its high bits are lost.
-fn wild(r: &mut Random, value: u64) -> u64 {
-    let any = r.number();
-    let high = r.pick(&[1 << 32, 1 << 40, 1 << 49, 1 << 63]);
-    r.pick(&[u64::MAX, u64::MAX - 1, 1 << 63, (1 << 63) - 1, value | high, value | high, any])
-}
-
-/// A number just outside a range, or far outside.
-fn outside(r: &mut Random, value: u64, (least, most): (u64, u64)) -> u64 {
-    let far = wild(r, value).max(most + 1);
-    r.pick(&[least.saturating_sub(1), most + 1, most + 1, far])
-}
-
-fn above(r: &mut Random, value: u64, most: u64) -> u64 {
-    outside(r, value, (most + 2, most))
-}
 
 /// Puts wild numbers into a few words of the record, whatever that breaks.
 pub fn scramble(r: &mut Random, s: &mut State) {
@@ -117,21 +101,4 @@ fn break_activity(r: &mut Random, s: &mut State, condition: usize) {
             s.reset = states::reset(r).max(1);
         }
     }
-}
-
-/// A row whose sum is above 2^48.
-pub fn break_row(r: &mut Random) -> Row {
-    let mut row = states::split(r, COUNTS_MAX + 1);
-    let place = r.range(0, 4) as usize;
-    match r.range(0, 3) {
-        0 => row[place] = u64::MAX,
-        1 => {
-            // A sum that is small if it wraps round at 2^64.
-            row = [1, 0, 2, 0, 0];
-            row[place] = u64::MAX - r.range(0, 2);
-        }
-        2 => row = [1 << 63, 1 << 63, 0, r.range(0, 9), 0],
-        _ => {}
-    }
-    row
 }

@@ -4,6 +4,7 @@ use crate::aims;
 use crate::call::{Call, Lent};
 use crate::model::numbers::*;
 use crate::model::{self, Arriving, Refusals, State};
+use crate::numbers;
 use crate::random::Random;
 use crate::side::Side;
 
@@ -17,34 +18,22 @@ pub enum What {
 /// A call to which the wanted ones of refusals 3, 4, 5 and 7 apply where they can.
 pub fn next(r: &mut Random, what: What, flow: u32, side: &Side, wanted: &Refusals) -> Call {
     let s = &side.state;
-    let clock = if wanted[4] { wrong_clock(r, s, wanted[5]) } else { right_clock(r, s) };
-    let lent = lent(r, side, wanted[3]);
+    let clock = match wanted[4] {
+        true => numbers::wrong_clock(r, s.clock, wanted[5]),
+        false => right_clock(r, s),
+    };
+    let lent = Lent::random(r, side.handles.len(), s.settings.slots, wanted[3]);
     match what {
         What::Arrival => Call::arrival(flow, lent, clock, packet(r, s, wanted[7])),
         What::Departure => Call::departure(flow, lent, clock),
         What::Tick => {
-            let clock = if wanted[4] { clock } else { tick_clock(r, s, clock, wanted[5]) };
+            let due = s.last.saturating_add(TICK_PERIOD);
+            let clock = match wanted[4] {
+                true => clock,
+                false => numbers::tick_clock(r, due, s.clock, clock, wanted[5]),
+            };
             Call::tick(flow, clock, aims::credits(r, s))
         }
-    }
-}
-
-/// The lengths lent: the slots, or a wrong length for one table or for both.
-fn lent(r: &mut Random, side: &Side, wrong: bool) -> Lent {
-    let longest = side.handles.len();
-    let slots = side.state.settings.slots.min(longest as u64) as usize;
-    if !wrong {
-        return Lent::both(slots);
-    }
-    let shorter = slots.saturating_sub(1);
-    let longer = (slots + 1).min(longest);
-    let other = r.pick(&[0, shorter, shorter, longer, longer, longest]);
-    let both = r.pick(&[0, shorter, longer]);
-    match r.range(0, 3) {
-        0 => Lent { handles: other, sizes: slots },
-        1 => Lent { handles: slots, sizes: other },
-        2 => Lent::both(both),
-        _ => Lent { handles: shorter, sizes: longer },
     }
 }
 
@@ -55,27 +44,6 @@ fn right_clock(r: &mut Random, s: &State) -> u64 {
     let same = s.clock;
     let list = [same, same, same.saturating_add(1), later, later, any, CLOCK_MAX];
     r.pick(&list).max(s.clock).min(CLOCK_MAX)
-}
-
-/// A clock before the record's or above 2^48; if `early`, one that is too soon for a tick as well.
-fn wrong_clock(r: &mut Random, s: &State, early: bool) -> u64 {
-    let back = s.clock.wrapping_sub(1);
-    if early {
-        return r.pick(&[back, CLOCK_MAX + 1]);
-    }
-    let any = r.range(0, back.min(CLOCK_MAX));
-    let other = if s.clock > 0 { any } else { u64::MAX };
-    r.pick(&[back, back, other, CLOCK_MAX + 1, CLOCK_MAX + 1, 1 << 63, u64::MAX])
-}
-
-/// The clock of a tick: too soon, exactly when due, or later.
-fn tick_clock(r: &mut Random, s: &State, clock: u64, early: bool) -> u64 {
-    let due = s.last.saturating_add(TICK_PERIOD);
-    if early {
-        let any = r.range(s.clock, due - 1);
-        return r.pick(&[due - 1, due - 1, s.clock, any]).max(s.clock).min(CLOCK_MAX);
-    }
-    r.pick(&[due, due, due.saturating_add(1), clock.max(due)]).max(s.clock).min(CLOCK_MAX)
 }
 
 /// Sizes at their ends and near those at which the scaled probability reaches its limit.

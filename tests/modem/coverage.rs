@@ -12,7 +12,7 @@ use crate::edges::{arrival, departure, ends, tick, Found};
 use crate::groups::{owned, Groups};
 use crate::model::numbers::BANDS;
 use crate::model::{self, Refusals, CONDITIONS};
-use crate::report::VERDICTS;
+use crate::lines::VERDICTS;
 use crate::sample;
 use crate::side::Side;
 

@@ -55,7 +55,7 @@ impl Flow {
             _ => r.range(50, 600),
         };
         let clock = self.model.state.clock;
-        self.arrival_at = self.plan.arrival_gap(r, self.phase).map(|gap| clock + gap);
+        self.arrival_at = self.plan.traffic.arrival_gap(r, self.phase).map(|gap| clock + gap);
         self.departure_at = None;
         self.schedule_departure();
     }
@@ -64,7 +64,7 @@ impl Flow {
         let side = &self.model;
         if self.departure_at.is_none() && side.state.count > 0 {
             let size = u64::from(side.sizes[side.state.first as usize]);
-            let gap = self.plan.departure_gap(size, self.phase);
+            let gap = self.plan.traffic.departure_gap(size, self.phase);
             self.departure_at = Some(side.state.clock + gap);
         }
     }
@@ -74,7 +74,7 @@ impl Flow {
         let (clock, accepted) = (self.model.state.clock, self.model.answer < 100);
         match call.kind {
             Kind::Arrival { .. } => {
-                self.arrival_at = self.plan.arrival_gap(r, self.phase).map(|gap| clock + gap);
+                self.arrival_at = self.plan.traffic.arrival_gap(r, self.phase).map(|gap| clock + gap);
             }
             Kind::Departure { .. } if accepted => self.departure_at = None,
             Kind::Tick { .. } if accepted => {
@@ -84,7 +84,7 @@ impl Flow {
             Kind::Fresh { .. } if accepted => {
                 self.tick_at = clock + TICK_PERIOD;
                 self.departure_at = None;
-                self.arrival_at = self.plan.arrival_gap(r, self.phase).map(|gap| clock + gap);
+                self.arrival_at = self.plan.traffic.arrival_gap(r, self.phase).map(|gap| clock + gap);
             }
             _ => {}
         }
@@ -120,13 +120,6 @@ impl Flow {
         Lent::both(self.plan.settings.slots as usize)
     }
 
-    fn wrong_lent(&self, r: &mut Random) -> Lent {
-        let slots = self.plan.settings.slots as usize;
-        let wrong = r.pick(&[0, slots - 1, slots + 1]);
-        let (handles, sizes) = r.pick(&[(wrong, slots), (slots, wrong), (wrong, wrong)]);
-        Lent { handles, sizes }
-    }
-
     fn credits(&self, r: &mut Random) -> u32 {
         let bytes = self.model.state.bytes;
         let some = r.range(0, bytes) as u32;
@@ -135,17 +128,14 @@ impl Flow {
 
     fn packet(&self, r: &mut Random) -> Arriving {
         let handle = r.number() as u32;
-        let size = r.range(self.plan.sizes.0, self.plan.sizes.1) as u32;
-        let any = r.number() as u32;
-        let u = r.pick(&[any, any, any, any, any, any, any, 0, u32::MAX]);
-        let u = if self.plan.lucky { u32::MAX } else { u };
-        Arriving { handle, size, u }
+        let size = self.plan.traffic.size(r);
+        Arriving { handle, size, u: self.plan.traffic.u(r) }
     }
 
     /// A call with one argument wrong, for a flow that no modem has, or a fresh one.
     fn odd_call(&mut self, r: &mut Random) -> Call {
         let (state, flow) = (self.model.state, self.number);
-        let (lent, wrong) = (self.lent(), self.wrong_lent(r));
+        let (lent, wrong) = (self.lent(), Lent::wrong(r, self.plan.settings.slots as usize));
         let (mut packet, credits) = (self.packet(r), self.credits(r));
         let clock = state.clock;
         let bad_clock = r.pick(&[clock.wrapping_sub(1), CLOCK_MAX + 1, u64::MAX]);

@@ -3,37 +3,18 @@
 use crate::model::numbers::{CLOCK_MAX, RATE};
 use crate::model::Settings;
 use crate::random::Random;
+pub use crate::traffic::Phase;
+use crate::traffic::Traffic;
 
-/// What a flow is made of. Departures take `ns_per_byte` for each byte of the head.
+/// What a flow is made of.
 pub struct Plan {
     pub settings: Settings,
     pub clock: u64,
-    pub ns_per_byte: u64,
-    pub sizes: (u64, u64),
+    pub traffic: Traffic,
     /// If not 0, how many arrivals are left before the row sums to 2^48.
     pub arrivals_left: u64,
-    /// Whether u is always the greatest: early drops then come from the sum alone.
-    pub lucky: bool,
     /// Of 100 calls of the modem, how many this flow gets, beside the others.
     pub weight: u64,
-}
-
-#[derive(Clone, Copy, PartialEq)]
-pub enum Phase {
-    /// More arrives than can leave.
-    Overload,
-    /// Nothing arrives.
-    Idle,
-    /// Many packets at one clock, then a pause.
-    Burst,
-    /// About as much arrives as leaves.
-    Balanced,
-    /// Less arrives than can leave: the queue is short, and often empty.
-    Light,
-    /// Nothing arrives and the queue leaves faster.
-    Draining,
-    /// The queue leaves at once, and 72 ticks and more find it empty.
-    Quiet,
 }
 
 /// The phases to choose from, some of them more often than others.
@@ -66,8 +47,8 @@ pub fn plan(r: &mut Random, kind: u64) -> Plan {
         sustained: 0,
     };
     let sizes = r.pick(&[(40, 1_500), (1_000, 1_500), (64, 9_000), (1, 1_500)]);
-    let mut plan =
-        Plan { settings, clock: 0, ns_per_byte, sizes, arrivals_left: 0, lucky: false, weight: 10 };
+    let traffic = Traffic { ns_per_byte, sizes, lucky: false };
+    let mut plan = Plan { settings, clock: 0, traffic, arrivals_left: 0, weight: 10 };
     if r.one_in(2) {
         plan.clock = r.spread(0, CLOCK_MAX / 2);
     }
@@ -77,63 +58,38 @@ pub fn plan(r: &mut Random, kind: u64) -> Plan {
 }
 
 fn choose(r: &mut Random, kind: u64, plan: &mut Plan) {
-    let set = &mut plan.settings;
+    let (set, link) = (&mut plan.settings, &mut plan.traffic);
     match kind {
         0 => set.slots = 1,
-        1 => (set.slots, plan.sizes) = (r.range(2, 5), (5_000, 30_000)),
-        2 => plan.ns_per_byte = r.range(700_000, 900_000),
-        3 => plan.ns_per_byte = r.range(5, 50),
+        1 => (set.slots, link.sizes) = (r.range(2, 5), (5_000, 30_000)),
+        2 => link.ns_per_byte = r.range(700_000, 900_000),
+        3 => link.ns_per_byte = r.range(5, 50),
         4 => plan.clock = CLOCK_MAX - r.range(1_000_000, 30_000_000),
         5 => plan.arrivals_left = r.range(100, 600),
         6 => set.buffer = r.range(1, 4_000),
         7 => {
             (set.slots, set.buffer) = (65_536, 16_777_216);
-            (plan.sizes, plan.weight) = ((1, 300), 1);
+            (link.sizes, plan.weight) = ((1, 300), 1);
         }
-        8 => (set.buffer, plan.sizes) = (r.range(1_000_000, 16_777_216), (20_000, 65_535)),
-        9 => (plan.ns_per_byte, plan.sizes) = (r.range(20_000, 60_000), (40, 120)), // p above 1
+        8 => (set.buffer, link.sizes) = (r.range(1_000_000, 16_777_216), (20_000, 65_535)),
+        9 => (link.ns_per_byte, link.sizes) = (r.range(20_000, 60_000), (40, 120)), // p above 1
         10 => (set.slots, plan.weight) = (1_024, 40), // tables of whole pages
         11 | 12 => {
             // The default target and a buffer of some delay, as in a coach.
             (set.target, set.buffer, set.slots) = (10_000, r.range(100_000, 200_000), 1_000);
-            (plan.ns_per_byte, plan.sizes) = (r.range(5_000, 20_000), (40, 1_500));
-            (plan.lucky, plan.weight) = (kind == 11, 30);
+            (link.ns_per_byte, link.sizes) = (r.range(5_000, 20_000), (40, 1_500));
+            (link.lucky, plan.weight) = (kind == 11, 30);
         }
-        13 => plan.ns_per_byte = r.range(100_000, 300_000),
+        13 => link.ns_per_byte = r.range(100_000, 300_000),
         _ => {}
     }
 }
 
 /// The sustained rate is about that of the departures, the peak rate often some times it.
 fn set_rates(r: &mut Random, plan: &mut Plan) {
-    let rate = (1_000_000_000 / plan.ns_per_byte).clamp(RATE.0, RATE.1);
+    let rate = (1_000_000_000 / plan.traffic.ns_per_byte).clamp(RATE.0, RATE.1);
     let set = &mut plan.settings;
     set.sustained = (rate * r.range(80, 120) / 100).clamp(RATE.0, RATE.1);
     let more = (rate * r.range(2, 10)).min(RATE.1);
     set.peak = r.pick(&[set.sustained, more, more, more, (rate / 2).max(1)]);
-}
-
-impl Plan {
-    /// The time until the next packet arrives; none arrives in three of the phases.
-    pub fn arrival_gap(&self, r: &mut Random, phase: Phase) -> Option<u64> {
-        let mean = (self.sizes.0 + self.sizes.1) / 2 * self.ns_per_byte / 1_000;
-        match phase {
-            Phase::Overload => Some(mean * r.range(10, 70) / 100),
-            Phase::Balanced => Some(mean * r.range(60, 140) / 100),
-            Phase::Light => Some(mean * r.range(150, 1_500) / 100),
-            Phase::Burst if r.one_in(30) => Some(mean * r.range(10, 60)),
-            Phase::Burst => Some(0),
-            Phase::Idle | Phase::Draining | Phase::Quiet => None,
-        }
-    }
-
-    /// The time until the head has left.
-    pub fn departure_gap(&self, size: u64, phase: Phase) -> u64 {
-        let time = size * self.ns_per_byte / 1_000;
-        match phase {
-            Phase::Draining => time / 4,
-            Phase::Quiet => 0,
-            _ => time,
-        }
-    }
 }

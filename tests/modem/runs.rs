@@ -6,12 +6,12 @@ use crate::coverage::Coverage;
 use crate::flow::Flow;
 use crate::model::numbers::COUNTS_MAX;
 use crate::model::{Counts, State};
+use crate::numbers::split;
 use crate::pair::{Failure, Pair};
 use crate::plans;
 use crate::random::Random;
 use crate::report::call_text;
 use crate::side::{Lender, Side};
-use crate::states;
 use std::mem::swap;
 
 /// Calls of one run.
@@ -23,6 +23,11 @@ struct Run<'a> {
     flows: Vec<Flow>,
     counts: Counts,
     coverage: &'a mut Coverage,
+}
+
+/// What a run is called.
+pub fn name(run: u64) -> String {
+    format!("long run {run}")
 }
 
 /// One run; the plans go round the flows from run to run.
@@ -89,7 +94,7 @@ impl Run<'_> {
         }
         self.counts = self.pair.library.counts;
         if plan.arrivals_left > 0 {
-            let row = states::split(self.r, COUNTS_MAX - plan.arrivals_left);
+            let row = split(self.r, COUNTS_MAX - plan.arrivals_left);
             self.counts[number as usize] = row;
             self.pair.library.counts = self.counts;
         }

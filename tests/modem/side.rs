@@ -4,12 +4,10 @@
 pub use crate::call::Call;
 use crate::call::Kind;
 use crate::library::{Memory, Packet, Record};
+use crate::lines::STOPPED;
 use crate::model::{self, Counts, State};
 use crate::words::{settings_words, state_of, words};
 use std::panic::{catch_unwind, AssertUnwindSafe};
-
-/// The answer that stands for a panic of the model.
-pub const STOPPED: u32 = u32::MAX;
 
 /// A packet that no call gives back by chance: it shows that nothing was written.
 pub const UNWRITTEN: Packet = Packet { handle: 0xA5A5_5A5A, size: 0xA5A5_5A5A };

@@ -7,6 +7,7 @@ use crate::calls::{self, What};
 use crate::coverage::Coverage;
 use crate::model::numbers::*;
 use crate::model::{Refusals, Row, Settings, State};
+use crate::numbers;
 use crate::pair::{Failure, Pair};
 use crate::random::Random;
 use crate::side::{Lender, Side};
@@ -95,19 +96,14 @@ fn what(r: &mut Random) -> What {
     r.pick(&[What::Arrival, What::Departure, What::Tick])
 }
 
-/// None, one, two or more of the refusals that the call can get. Never 6 with 9.
+/// None, one, two or more of the refusals that the call can get.
 fn wanted(r: &mut Random, what: What) -> Refusals {
     let list: &[usize] = match what {
         What::Arrival => &[2, 3, 4, 7, 8, 10],
         What::Departure => &[2, 3, 4, 6, 9, 10],
         What::Tick => &[2, 4, 5, 10],
     };
-    let mut wanted = Refusals::default();
-    for _ in 0..r.pick(&[0, 0, 1, 1, 2, 2, 3]) {
-        wanted[r.pick(list)] = true;
-    }
-    wanted[9] &= !wanted[6];
-    wanted
+    numbers::wanted(r, list)
 }
 
 /// A record with counts and tables, and a call to which the wanted refusals apply where they can.
@@ -127,7 +123,7 @@ fn case(r: &mut Random) -> (Side, Call) {
     }
     let (handles, mut sizes) = tables(r, &s);
     if wanted[9] {
-        sizes[s.first as usize] = wrong_size(r, &s);
+        sizes[s.first as usize] = numbers::wrong_size(r, s.count, s.bytes);
     }
     let row = damage(r, what, &wanted, &mut s);
     let flow = if wanted[10] { wrong_flow(r) } else { r.range(0, 15) as u32 };
@@ -168,13 +164,13 @@ fn aim(r: &mut Random, what: What, size: u32, s: &mut State) -> u32 {
 /// The row of the call's flow; record and row are broken where refusal 2 is wanted.
 fn damage(r: &mut Random, what: What, wanted: &Refusals, s: &mut State) -> Row {
     let full = wanted[8] || (what != What::Arrival && r.one_in(8));
-    let mut row = if full { states::split(r, COUNTS_MAX) } else { states::sound_row(r) };
+    let mut row = if full { numbers::split(r, COUNTS_MAX) } else { states::sound_row(r) };
     if wanted[2] && r.one_in(6) {
         broken::scramble(r, s);
     } else if wanted[2] {
         let last = if wanted[8] || wanted[10] { broken::ROW - 1 } else { broken::ROW };
         match r.range(0, last as u64) as usize {
-            broken::ROW => row = broken::break_row(r),
+            broken::ROW => row = numbers::too_many(r),
             condition => broken::break_one(r, s, condition),
         }
     }
@@ -202,13 +198,4 @@ fn tables(r: &mut Random, s: &State) -> (Vec<u32>, Vec<u32>) {
         bytes -= size;
     }
     (handles, sizes)
-}
-
-/// A stored size that refusal 9 is about.
-fn wrong_size(r: &mut Random, s: &State) -> u32 {
-    let others = s.count - 1;
-    let too_large = (s.bytes - others + 1).min(65_536) as u32;
-    let too_small = s.bytes.saturating_sub(SIZE.1 * others + 1).min(SIZE.1) as u32;
-    let below_zero = (s.bytes + 1).min(SIZE.1) as u32;
-    r.pick(&[0, 65_536, u32::MAX, 1 << 16, too_large, too_large, too_small, too_small, below_zero])
 }

@@ -2,6 +2,7 @@
 
 use crate::model::numbers::*;
 use crate::model::{Counts, Row, State};
+use crate::numbers::split;
 use crate::random::Random;
 
 /// A well-formed record. The row that goes with it is any sound one.
@@ -134,18 +135,4 @@ pub fn counts(r: &mut Random, flow: u32, row: Row) -> Counts {
 pub fn sound_row(r: &mut Random) -> Row {
     let sum = r.pick(&[0, 1, 5, COUNTS_MAX - 1, 1_000_000, COUNTS_MAX / 2]);
     split(r, sum)
-}
-
-/// Five numbers with the given sum.
-pub fn split(r: &mut Random, sum: u64) -> Row {
-    let mut parts = [0; 5];
-    let mut left = sum;
-    for part in parts.iter_mut().take(4) {
-        *part = if r.one_in(3) { 0 } else { r.spread(0, left) };
-        left -= *part;
-    }
-    parts[4] = left;
-    let turn = r.range(0, 4) as usize;
-    parts.rotate_left(turn);
-    parts
 }

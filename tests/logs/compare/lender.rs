@@ -2,7 +2,7 @@
 
 use super::model::Compared;
 use crate::memory::Area;
-use crate::stop::watched;
+use crate::watch::watched;
 
 extern "C" {
     fn obikuteru_compare(

@@ -3,7 +3,7 @@
 
 use super::types::{Part, Record, Settings, State};
 use crate::memory::Area;
-use crate::stop::watched;
+use crate::watch::watched;
 
 extern "C" {
     fn obikuteru_log_begin(

@@ -17,8 +17,8 @@ pub const KINDS: u64 = plans::KINDS + 3;
 fn plan(r: &mut Random, kind: u64) -> Plan {
     let mut plan = plans::plan(r, kind.min(plans::KINDS - 1));
     match kind.saturating_sub(plans::KINDS - 1) {
-        1 => (plan.buffer, plan.sizes) = (1, (1, 2)),
-        2 => (plan.clock, plan.ns_per_byte) = (CLOCK_MAX - 100_000, 300),
+        1 => (plan.buffer, plan.traffic.sizes) = (1, (1, 2)),
+        2 => (plan.clock, plan.traffic.ns_per_byte) = (CLOCK_MAX - 100_000, 300),
         3 => (plan.slots, plan.buffer) = (65_536, r.range(3_000, 100_000)),
         _ => {}
     }
@@ -123,13 +123,13 @@ impl Traffic<'_, '_> {
             return Record { kind: DEPARTURE, clock, ..Record::default() };
         }
         let any = self.r.number() as u32;
-        let u = if self.plan.lucky { u32::MAX } else { self.r.pick(&[any, any, any, 0]) };
+        let u = if self.plan.traffic.lucky { u32::MAX } else { self.r.pick(&[any, any, any, 0]) };
         Record {
             kind: ARRIVAL,
             ecn: u8::from(self.r.range(1, 100) <= self.plan.ecn),
             handle: self.r.number() as u32,
             clock,
-            size: self.r.range(self.plan.sizes.0, self.plan.sizes.1) as u32,
+            size: self.plan.traffic.size(self.r),
             u,
             ..Record::default()
         }
@@ -148,7 +148,7 @@ impl Traffic<'_, '_> {
     }
 
     fn schedule_arrival(&mut self) {
-        let gap = self.plan.arrival_gap(self.r, self.phase);
+        let gap = self.plan.traffic.arrival_gap(self.r, self.phase);
         self.arrival_at = gap.map_or(u64::MAX, |gap| self.queue.state.clock + gap);
     }
 
@@ -156,7 +156,7 @@ impl Traffic<'_, '_> {
         let state = &self.queue.state;
         if self.departure_at == u64::MAX && state.count > 0 {
             let size = u64::from(self.queue.sizes[state.first as usize]);
-            self.departure_at = state.clock + self.plan.departure_gap(size, self.phase);
+            self.departure_at = state.clock + self.plan.traffic.departure_gap(size, self.phase);
         }
     }
 }

@@ -37,9 +37,8 @@ impl<'a> Pair<'a> {
     pub fn call(&mut self, call: &Call) -> Result<(), Failure> {
         self.before.copy_from(&self.model);
         self.model.call_model(call);
-        stop::watch(&self.before, call);
-        self.lender.call(&mut self.library, call);
-        stop::unwatch();
+        let (lender, library) = (&mut self.lender, &mut self.library);
+        stop::watched(report::print_before, &self.before, call, || lender.call(library, call));
         if self.model == self.library {
             return Ok(());
         }

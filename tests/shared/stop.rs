@@ -1,9 +1,8 @@
 //! Where the library stops the whole program (a fault or an abort), this prints the call at which
 //! it did so, and ends the program with 1.
 
-use crate::report;
-use crate::side::{Call, Side};
 use crate::NAME;
+use std::mem::transmute;
 use std::ptr::null_mut;
 use std::sync::atomic::{AtomicPtr, Ordering::SeqCst};
 use std::sync::Mutex;
@@ -19,9 +18,13 @@ extern "C" {
     fn _exit(code: i32) -> !;
 }
 
+/// Prints a call, from what it was given before and from its arguments.
+type Print<Before, Call> = fn(&Before, &Call);
+
 static PLACE: Mutex<String> = Mutex::new(String::new());
-static BEFORE: AtomicPtr<Side> = AtomicPtr::new(null_mut());
-static CALL: AtomicPtr<Call> = AtomicPtr::new(null_mut());
+static PRINT: AtomicPtr<()> = AtomicPtr::new(null_mut());
+static BEFORE: AtomicPtr<()> = AtomicPtr::new(null_mut());
+static CALL: AtomicPtr<()> = AtomicPtr::new(null_mut());
 
 /// Remembers which part of which seed runs.
 pub fn set_place(place: &str) {
@@ -30,14 +33,19 @@ pub fn set_place(place: &str) {
     }
 }
 
-/// Remembers the call that the library is about to run. Both must live until `unwatch`.
-pub fn watch(before: &Side, call: &Call) {
-    BEFORE.store(before as *const Side as *mut Side, SeqCst);
-    CALL.store(call as *const Call as *mut Call, SeqCst);
-}
-
-pub fn unwatch() {
+/// Runs a call of the library, and remembers meanwhile how it is printed.
+pub fn watched<Before, Call, T>(
+    print: Print<Before, Call>,
+    before: &Before,
+    call: &Call,
+    run: impl FnOnce() -> T,
+) -> T {
+    PRINT.store(print as *mut (), SeqCst);
+    BEFORE.store(before as *const Before as *mut (), SeqCst);
+    CALL.store(call as *const Call as *mut (), SeqCst);
+    let result = run();
     CALL.store(null_mut(), SeqCst);
+    result
 }
 
 pub fn install() {
@@ -58,7 +66,11 @@ extern "C" fn stopped(number: i32) {
         };
         let place = PLACE.try_lock().map(|place| place.clone()).unwrap_or_default();
         println!("{NAME}: difference in {place}: the library {reason} (signal {number})");
-        unsafe { report::print_before(&*BEFORE.load(SeqCst), &*call) };
+        // Both stand as long as the call is watched, and are of the types that the function takes.
+        unsafe {
+            let print: fn(*const (), *const ()) = transmute(PRINT.load(SeqCst));
+            print(BEFORE.load(SeqCst), call);
+        }
     }
     unsafe { _exit(1) }
 }

@@ -1,0 +1,23 @@
+//! Rounds on new seeds, and the words of the command line.
+
+use crate::random::Random;
+use std::time::{Duration, Instant, SystemTime, UNIX_EPOCH};
+
+/// Whole rounds, each on a new seed, until the time is over.
+pub fn soak(seconds: u64, mut round: impl FnMut(u64)) {
+    let end = Instant::now() + Duration::from_secs(seconds);
+    let now = SystemTime::now().duration_since(UNIX_EPOCH).unwrap_or_default();
+    let mut seeds = Random::new(now.as_nanos() as u64);
+    while Instant::now() < end {
+        let seed = seeds.number() >> 16;
+        println!("seed {seed}");
+        round(seed);
+    }
+}
+
+/// Runs the program by the words of its command line.
+pub fn by_words(run: impl FnOnce(&[&str])) {
+    let arguments: Vec<String> = std::env::args().skip(1).collect();
+    let words: Vec<&str> = arguments.iter().map(String::as_str).collect();
+    run(&words);
+}
