@@ -8,7 +8,7 @@
 //! Refusal 1 stands alone: it is the only one of fresh.
 
 use crate::events;
-use crate::groups::{owned, Groups};
+use crate::shared::groups::{owned, Groups};
 use crate::model::{self, Refusals, BANDS, CONDITIONS};
 use crate::side::{Call, Side};
 

@@ -1,6 +1,6 @@
 //! Names the things that happen at a call, from the state before it and the state after it.
 
-use crate::area::PAGE;
+use crate::shared::area::PAGE;
 use crate::model::{self, Arriving, Rule, State};
 use crate::side::{Call, Side};
 

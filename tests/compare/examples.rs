@@ -1,7 +1,7 @@
 //! The figures of the document, run on both sides. The figures themselves are checked as well, so
 //! a misreading that model and library share would show here.
 
-use crate::pair::{Pair, Failure};
+use crate::shared::pair::{Pair, Failure};
 use crate::model::{Arriving, State, WHOLE};
 use crate::side::{Call, Lender, Lent, Side};
 

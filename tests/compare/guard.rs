@@ -1,7 +1,7 @@
 //! Lends memory beside pages that nobody may touch. Tables are read-only during a departure, and
 //! the state while it is asked whether it is well formed.
 
-use crate::area::{Area, READ, READ_WRITE};
+use crate::shared::area::{Area, READ, READ_WRITE};
 use crate::library::{self, Packet, Record};
 use crate::side::{handed_back, state_of, words, Call, Lender, Lent, Side, UNWRITTEN};
 use std::mem::size_of;

@@ -1,17 +1,11 @@
 //! The library under test, through its C interface.
 
+pub use crate::shared::answers::Packet;
+
 /// The state record: its 21 words, in the order of the C header.
 #[repr(C)]
 #[derive(Clone, Copy, PartialEq, Eq, Debug)]
 pub struct Record(pub [u64; 21]);
-
-/// What a departure hands back.
-#[repr(C)]
-#[derive(Clone, Copy, PartialEq, Eq, Debug)]
-pub struct Packet {
-    pub handle: u32,
-    pub size: u32,
-}
 
 extern "C" {
     fn obikuteru_fresh(state: *mut Record, target: u64, buffer: u64, slots: u64, clock: u64)

@@ -9,43 +9,24 @@
 //! It ends with 1 at the first difference, with 2 if the calls did not reach everything, and
 //! with 3 if it was not understood.
 
-#[path = "../shared/area.rs"]
-mod area;
 mod coverage;
 mod events;
 mod examples;
-#[path = "../shared/groups.rs"]
-mod groups;
 mod guard;
 mod library;
-#[path = "../shared/lines.rs"]
-mod lines;
 mod model;
-#[path = "../shared/numbers.rs"]
-mod numbers;
-#[path = "../shared/pair.rs"]
-mod pair;
 mod plans;
-#[path = "../shared/program.rs"]
-mod program;
-#[path = "../shared/random.rs"]
-mod random;
 mod report;
-#[path = "../shared/rounds.rs"]
-mod rounds;
 mod runs;
 mod shadow;
+#[path = "../shared/mod.rs"]
+mod shared;
 mod side;
 mod single;
 mod states;
-#[path = "../shared/stop.rs"]
-mod stop;
-#[allow(dead_code)]
-#[path = "../shared/traffic.rs"]
-mod traffic;
 
-use pair::Failure;
-use program::Round;
+use shared::pair::Failure;
+use shared::program::Round;
 use side::Lender;
 
 /// What this program calls itself.

@@ -1,9 +1,9 @@
 //! Settings and traffic of the long runs.
 
 use crate::model::CLOCK_MAX;
-use crate::random::Random;
-pub use crate::traffic::Phase;
-use crate::traffic::Traffic;
+use crate::shared::random::Random;
+pub use crate::shared::traffic::Phase;
+use crate::shared::traffic::Traffic;
 
 /// What a run is made of.
 pub struct Plan {

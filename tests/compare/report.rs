@@ -1,7 +1,7 @@
 //! Prints a call and what model and library made of it, field by field.
 
-use crate::lines::{answer_name, head, line, lines, print_places, print_words, table};
-use crate::pair::Difference;
+use crate::shared::lines::{answer_name, head, line, lines, print_places, print_words, table};
+use crate::shared::pair::Difference;
 use crate::side::{words, Call, Side, FIELDS};
 
 /// The call and all its arguments on one line.

@@ -1,11 +1,11 @@
 //! Long runs from fresh: state and tables go back to each call as the last one left them.
 
-use crate::pair::{Pair, Failure};
+use crate::shared::pair::{Pair, Failure};
 use crate::coverage::Coverage;
 use crate::model::{Arriving, CLOCK_MAX};
-use crate::numbers::{split, Lent};
+use crate::shared::numbers::{split, Lent};
 use crate::plans::{self, Phase, Plan};
-use crate::random::Random;
+use crate::shared::random::Random;
 use crate::report::call_text;
 use crate::shadow::Shadow;
 use crate::side::{Call, Lender, Side};

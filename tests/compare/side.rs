@@ -1,10 +1,10 @@
 //! One side of the comparison: a state, two tables, and what the last call gave.
 
 use crate::library::{self, Packet, Record};
-use crate::lines::STOPPED;
+pub use crate::shared::answers::UNWRITTEN;
+use crate::shared::answers::{model_answer, STOPPED};
 use crate::model::{self, Arriving, State};
-pub use crate::numbers::Lent;
-use std::panic::{catch_unwind, AssertUnwindSafe};
+pub use crate::shared::numbers::Lent;
 
 #[derive(Clone, Copy, Debug)]
 pub enum Call {
@@ -13,9 +13,6 @@ pub enum Call {
     Departure { lent: Lent, clock: u64 },
     Tick { clock: u64 },
 }
-
-/// A packet that no call gives back by chance: it shows that nothing was written.
-pub const UNWRITTEN: Packet = Packet { handle: 0xA5A5_5A5A, size: 0xA5A5_5A5A };
 
 #[derive(Clone, PartialEq, Eq)]
 pub struct Side {
@@ -48,15 +45,10 @@ impl Side {
         self.packet = (0, 0);
         self.answer = STOPPED;
         let side = &mut *self;
-        let answer = catch_unwind(AssertUnwindSafe(|| {
+        self.answer = model_answer(|| {
             side.well_formed = model::well_formed(&side.state);
             side.model_answer(call)
-        }));
-        self.answer = match answer {
-            Ok(Ok(answer)) => answer,
-            Ok(Err(refusal)) => 100 + refusal,
-            Err(_) => STOPPED,
-        };
+        });
     }
 
     fn model_answer(&mut self, call: &Call) -> Result<u32, u32> {

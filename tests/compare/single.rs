@@ -1,10 +1,10 @@
 //! Single calls on random states: accepted ones, and ones to which chosen refusals apply.
 
-use crate::pair::{Pair, Failure};
+use crate::shared::pair::{Pair, Failure};
 use crate::coverage::Coverage;
 use crate::model::{Arriving, Refusals, State, CLOCK_MAX};
-use crate::numbers::{self, Lent};
-use crate::random::Random;
+use crate::shared::numbers::{self, Lent};
+use crate::shared::random::Random;
 use crate::side::{Call, Lender, Side};
 use crate::states;
 

@@ -1,8 +1,8 @@
 //! Random states: well formed, near the ends of every range, or with one condition broken.
 
 use crate::model::{self, State, BANDS, CLOCK_MAX, FORCED, TENTH, TIME_MAX, WHOLE};
-use crate::numbers::{above, outside, split, too_many, wild};
-use crate::random::Random;
+use crate::shared::numbers::{above, outside, split, too_many, wild};
+use crate::shared::random::Random;
 use crate::side::{state_of, words};
 
 /// A well-formed state.

@@ -25,21 +25,15 @@ mod model;
 #[allow(dead_code)]
 #[path = "../compare/plans.rs"]
 mod plans;
-#[path = "../shared/random.rs"]
-mod random;
 mod replay;
-#[path = "../shared/rounds.rs"]
-mod rounds;
-#[path = "../shared/stop.rs"]
-mod stop;
-#[allow(dead_code)]
-#[path = "../shared/traffic.rs"]
-mod traffic;
+#[path = "../shared/basics.rs"]
+mod shared;
 mod watch;
 
 use coverage::Coverage;
 use failure::Failure;
-use random::Random;
+use shared::random::Random;
+use shared::{rounds, stop};
 use std::panic::{catch_unwind, AssertUnwindSafe};
 use std::process::exit;
 

@@ -1,6 +1,6 @@
 //! A call of the library, remembered by its name and two of its numbers.
 
-use crate::stop;
+use crate::shared::stop;
 
 fn print(call: &&str, numbers: &[u64; 2]) {
     println!("call: {call}, numbers {} and {}", numbers[0], numbers[1]);

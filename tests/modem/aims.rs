@@ -2,7 +2,7 @@
 
 use crate::model::numbers::*;
 use crate::model::{self, State};
-use crate::random::Random;
+use crate::shared::random::Random;
 use crate::states;
 
 /// Room for any small packet, and nothing that arrival rules 1 to 3 would decide.

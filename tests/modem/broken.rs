@@ -2,8 +2,8 @@
 
 use crate::model::numbers::*;
 use crate::model::State;
-use crate::numbers::{above, outside, wild};
-use crate::random::Random;
+use crate::shared::numbers::{above, outside, wild};
+use crate::shared::random::Random;
 use crate::states;
 use crate::words::{state_of, words};
 

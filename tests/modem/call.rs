@@ -1,7 +1,7 @@
 //! A call with all its arguments.
 
 use crate::model::{Arriving, Settings};
-pub use crate::numbers::Lent;
+pub use crate::shared::numbers::Lent;
 
 #[derive(Clone, Copy, Debug)]
 pub enum Kind {

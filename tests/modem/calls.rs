@@ -4,8 +4,8 @@ use crate::aims;
 use crate::call::{Call, Lent};
 use crate::model::numbers::*;
 use crate::model::{self, Arriving, Refusals, State};
-use crate::numbers;
-use crate::random::Random;
+use crate::shared::numbers;
+use crate::shared::random::Random;
 use crate::side::Side;
 
 #[derive(Clone, Copy, PartialEq)]

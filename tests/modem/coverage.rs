@@ -9,10 +9,10 @@
 
 use crate::call::{Call, Kind, KINDS};
 use crate::edges::{arrival, departure, ends, tick, Found};
-use crate::groups::{owned, Groups};
+use crate::shared::groups::{owned, Groups};
 use crate::model::numbers::BANDS;
 use crate::model::{self, Refusals, CONDITIONS};
-use crate::lines::VERDICTS;
+use crate::shared::lines::VERDICTS;
 use crate::sample;
 use crate::side::Side;
 

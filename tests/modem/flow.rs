@@ -5,7 +5,7 @@ use crate::call::{Call, Kind, Lent};
 use crate::model::numbers::{CLOCK_MAX, TICK_PERIOD};
 use crate::model::Arriving;
 use crate::plans::{self, Phase, Plan};
-use crate::random::Random;
+use crate::shared::random::Random;
 use crate::shadow::Shadow;
 use crate::side::Side;
 

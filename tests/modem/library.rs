@@ -1,19 +1,12 @@
 //! The modem's calls of the library under test, through its C interface.
 
 use crate::model::Counts;
+pub use crate::shared::answers::Packet;
 
 /// The state record: its 16 words, in the order of the C header.
 #[repr(C)]
 #[derive(Clone, Copy, PartialEq, Eq, Debug)]
 pub struct Record(pub [u64; 16]);
-
-/// What a departure hands back.
-#[repr(C)]
-#[derive(Clone, Copy, PartialEq, Eq, Debug)]
-pub struct Packet {
-    pub handle: u32,
-    pub size: u32,
-}
 
 extern "C" {
     fn obikuteru_modem_fresh(

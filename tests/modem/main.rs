@@ -11,48 +11,29 @@
 
 mod aims;
 mod alone;
-#[path = "../shared/area.rs"]
-mod area;
 mod broken;
 mod call;
 mod calls;
 mod coverage;
 mod edges;
 mod flow;
-#[path = "../shared/groups.rs"]
-mod groups;
 mod guard;
 mod library;
-#[path = "../shared/lines.rs"]
-mod lines;
 mod model;
-#[path = "../shared/numbers.rs"]
-mod numbers;
-#[path = "../shared/pair.rs"]
-mod pair;
 mod plans;
-#[path = "../shared/program.rs"]
-mod program;
-#[path = "../shared/random.rs"]
-mod random;
 mod report;
-#[path = "../shared/rounds.rs"]
-mod rounds;
 mod runs;
 mod sample;
 mod shadow;
+#[path = "../shared/mod.rs"]
+mod shared;
 mod side;
 mod single;
 mod states;
-#[path = "../shared/stop.rs"]
-mod stop;
-#[allow(dead_code)]
-#[path = "../shared/traffic.rs"]
-mod traffic;
 mod words;
 mod worked;
 
-use program::Round;
+use shared::program::Round;
 
 /// What this program calls itself.
 const NAME: &str = "modem";

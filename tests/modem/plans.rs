@@ -2,9 +2,9 @@
 
 use crate::model::numbers::{CLOCK_MAX, RATE};
 use crate::model::Settings;
-use crate::random::Random;
-pub use crate::traffic::Phase;
-use crate::traffic::Traffic;
+use crate::shared::random::Random;
+pub use crate::shared::traffic::Phase;
+use crate::shared::traffic::Traffic;
 
 /// What a flow is made of.
 pub struct Plan {

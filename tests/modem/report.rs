@@ -1,8 +1,8 @@
 //! Prints a call and what model and library made of it, field by field.
 
 use crate::call::{Call, Kind};
-use crate::lines::{answer_name, head, line, lines, print_places, print_words, table};
-use crate::pair::Difference;
+use crate::shared::lines::{answer_name, head, line, lines, print_places, print_words, table};
+use crate::shared::pair::Difference;
 use crate::side::Side;
 use crate::words::{settings_words, words, FIELDS};
 

@@ -4,13 +4,10 @@
 pub use crate::call::Call;
 use crate::call::Kind;
 use crate::library::{Memory, Packet, Record};
-use crate::lines::STOPPED;
+pub use crate::shared::answers::UNWRITTEN;
+use crate::shared::answers::{model_answer, STOPPED};
 use crate::model::{self, Counts, State};
 use crate::words::{settings_words, state_of, words};
-use std::panic::{catch_unwind, AssertUnwindSafe};
-
-/// A packet that no call gives back by chance: it shows that nothing was written.
-pub const UNWRITTEN: Packet = Packet { handle: 0xA5A5_5A5A, size: 0xA5A5_5A5A };
 
 #[derive(Clone, PartialEq, Eq)]
 pub struct Side {
@@ -45,15 +42,10 @@ impl Side {
         self.packet = (0, 0);
         self.answer = STOPPED;
         let side = &mut *self;
-        let answer = catch_unwind(AssertUnwindSafe(|| {
+        self.answer = model_answer(|| {
             side.well_formed = model::well_formed(&side.state, &side.counts, call.flow);
             side.model_answer(call)
-        }));
-        self.answer = match answer {
-            Ok(Ok(answer)) => answer,
-            Ok(Err(refusal)) => 100 + refusal,
-            Err(_) => STOPPED,
-        };
+        });
     }
 
     fn model_answer(&mut self, call: &Call) -> Result<u32, u32> {

@@ -7,9 +7,9 @@ use crate::calls::{self, What};
 use crate::coverage::Coverage;
 use crate::model::numbers::*;
 use crate::model::{Refusals, Row, Settings, State};
-use crate::numbers;
-use crate::pair::{Failure, Pair};
-use crate::random::Random;
+use crate::shared::numbers;
+use crate::shared::pair::{Failure, Pair};
+use crate::shared::random::Random;
 use crate::side::{Lender, Side};
 use crate::states;
 

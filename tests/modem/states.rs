@@ -2,8 +2,8 @@
 
 use crate::model::numbers::*;
 use crate::model::{Counts, Row, State};
-use crate::numbers::split;
-use crate::random::Random;
+use crate::shared::numbers::split;
+use crate::shared::random::Random;
 
 /// A well-formed record. The row that goes with it is any sound one.
 pub fn well_formed(r: &mut Random) -> State {

@@ -1,9 +1,7 @@
 //! The lines in which a report shows a call's answer, record and tables on both sides.
 
+use super::answers::STOPPED;
 use std::fmt::Display;
-
-/// The answer that stands for a panic of the model.
-pub const STOPPED: u32 = u32::MAX;
 
 pub const VERDICTS: [&str; 5] =
     ["enqueued", "marked", "dropped, bytes", "dropped, slots", "dropped, early"];

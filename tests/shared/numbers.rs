@@ -1,7 +1,7 @@
 //! Random numbers at, beside and far outside the ends of ranges, and the arguments that every kind of
 //! queue's calls have.
 
-use crate::random::Random;
+use super::random::Random;
 
 const CLOCK_MAX: u64 = 1 << 48;
 const SIZE_MAX: u64 = 65_535;

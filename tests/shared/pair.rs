@@ -2,7 +2,7 @@
 
 use crate::report;
 use crate::side::{Call, Direct, Lender, Side};
-use crate::stop;
+use super::stop;
 use crate::NAME;
 
 /// A call on which model and library differ, with all its inputs.

@@ -3,11 +3,12 @@
 
 use crate::coverage::Coverage;
 use crate::guard::Guarded;
-use crate::pair::Failure;
-use crate::random::Random;
-use crate::rounds;
+use super::pair::Failure;
+use super::random::Random;
+use super::rounds;
 use crate::side::{Direct, Lender};
-use crate::{runs, single, stop, NAME};
+use super::stop;
+use crate::{runs, single, NAME};
 use std::process::exit;
 
 /// Random states of a batch of single calls.

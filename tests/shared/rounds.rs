@@ -1,6 +1,6 @@
 //! Rounds on new seeds, and the words of the command line.
 
-use crate::random::Random;
+use super::random::Random;
 use std::time::{Duration, Instant, SystemTime, UNIX_EPOCH};
 
 /// Whole rounds, each on a new seed, until the time is over.

@@ -1,6 +1,6 @@
 //! The traffic of a long run: its phases, and when packets come and go.
 
-use crate::random::Random;
+use super::random::Random;
 
 #[derive(Clone, Copy, PartialEq)]
 pub enum Phase {

@@ -2,6 +2,7 @@
 use crate::letters::*;
 use docsis::Returned;
 use docsis_flow::Outcome;
+use docsis_flow::Replied;
 use docsis_flow::Settings;
 use docsis_flow::State;
 use docsis_pie::Activity;
@@ -23,7 +24,7 @@ fn count(packets: u64, bytes: u64) -> u64 {
     bytes / 65_535 + (bytes % 65_535 + 65_534) / 65_535
 }
 
-fn state(v: [u64; 64]) -> State {
+pub(crate) fn state(v: [u64; 32]) -> State {
     let settings = Settings {
         target: Micros(v[TARGET]),
         buffer: Bytes(v[BUFFER]),
@@ -56,37 +57,44 @@ fn state(v: [u64; 64]) -> State {
     }
 }
 
-// The call; the tables that it is lent have the slots that the numbers say, at most all.
+// The call on this state; the tables that it is lent have as many slots as the numbers say, at most all.
 pub(crate) fn call(
-    v: [u64; 64],
+    s: State,
+    v: [u64; 32],
     counts: [[u64; 5]; 16],
     handles: &mut [u32],
     sizes: &mut [u32],
 ) -> Returned
     requires { ⌜ (64 ≤ length (now handles)) × (64 ≤ length (now sizes)) ⌝ }
 {
-    let s = state(v);
     let flow = v[FLOW];
-    let clock = Micros(v[CLOCK] % 281_474_976_710_657 + v[LATER] % 281_474_976_710_657);
-    let lent = (v[SLOTS] % 65) as usize;
+    let clock = Micros(s.clock.0 % 281_474_976_710_657 + v[LATER] % 281_474_976_710_657);
     let size = Bytes(v[SIZE]);
     let kind = v[CALL];
-    match kind {
-        0 => docsis::tick(s, counts, flow, clock, size),
-        1 => docsis::arrival(
-            s,
-            counts,
-            flow,
-            &mut handles[..lent],
-            &mut sizes[..lent],
-            clock,
-            (v[HANDLE] % 4_294_967_296) as u32,
-            size,
-            (v[RANDOM] % 4_294_967_296) as u32,
-        ),
-        2 => docsis::departure(s, counts, flow, &handles[..lent], &sizes[..lent], clock),
-        _ => docsis::fresh(counts, flow, s.settings, clock),
+    if kind == 0 {
+        return docsis::tick(s, counts, flow, clock, size);
     }
+    if kind == 3 {
+        let asked = state(v);
+        return docsis::fresh(counts, flow, asked.settings, clock);
+    }
+    let lent = (v[SLOTS] % 65) as usize;
+    if kind == 2 {
+        return docsis::departure(s, counts, flow, &handles[..lent], &sizes[..lent], clock);
+    }
+    let handle = (v[HANDLE] % 4_294_967_296) as u32;
+    let u = (v[RANDOM] % 4_294_967_296) as u32;
+    docsis::arrival(
+        s,
+        counts,
+        flow,
+        &mut handles[..lent],
+        &mut sizes[..lent],
+        clock,
+        handle,
+        size,
+        u,
+    )
 }
 
 // The place of the verdict's count, 6 where the call gave none, or 100 and a refusal's number.
@@ -101,36 +109,42 @@ fn code(outcome: Outcome) -> u64 {
     }
 }
 
-// What the call was given stands under the capital letters, what it left under the small ones.
-pub(crate) fn told(v: [u64; 64], r: Returned) -> [u64; 64] {
-    let replied = r.replied;
+// What came, by capital letter: the state, the answer, and the counts of the call's flow.
+pub(crate) fn came(replied: Replied, row: [u64; 5]) -> [u64; 32] {
     let s = replied.state;
     let outcome = replied.outcome;
-    let mut w = given(v);
-    w[VERDICT] = code(outcome);
-    w[REFUSAL] = outcome.refusal() as u64;
-    w[DEPARTED] = replied.handle as u64;
-    w[RANDOM] = replied.size as u64;
-    w[CLOCK] = s.clock.0;
-    w[LAST] = s.last.0;
-    w[PROB] = s.pie.prob.0;
-    w[ACCUMULATED] = s.pie.accumulated.0;
-    w[OLD] = s.pie.old.0;
-    w[ALLOWANCE] = s.pie.allowance.0;
-    w[ACTIVITY] = s.pie.phase.activity.0;
-    w[RESET] = s.pie.phase.reset.0;
-    w[COUNT] = s.backlog.count;
-    w[BYTES] = s.backlog.bytes.0;
-    w[FIRST] = s.first;
-    w
-}
-
-fn given(v: [u64; 64]) -> [u64; 64] {
-    let mut w = v;
-    let mut i: usize = 0;
-    while i < 32 {
-        w[i] = v[i + 32];
-        i += 1;
-    }
-    w
+    [
+        0,
+        s.pie.accumulated.0,
+        row[2],
+        0,
+        row[4],
+        row[0],
+        outcome.refusal() as u64,
+        0,
+        replied.handle as u64,
+        0,
+        0,
+        0,
+        s.pie.allowance.0,
+        row[1],
+        0,
+        s.pie.old.0,
+        s.pie.prob.0,
+        s.backlog.bytes.0,
+        s.pie.phase.reset.0,
+        row[3],
+        0,
+        0,
+        code(outcome),
+        0,
+        0,
+        s.pie.phase.activity.0,
+        replied.size as u64,
+        0,
+        0,
+        0,
+        0,
+        0,
+    ]
 }

@@ -1,50 +1,48 @@
-// The letters of the notation: the place of each among the 64 numbers, its code modulo 64. A capital letter's place is 32 below.
-pub(crate) const ACCUMULATED: usize = 33;
+// The letters of the notation: the place of each among the numbers, its code modulo 32.
+pub(crate) const ACCUMULATED: usize = 1;
 
-pub(crate) const BUFFER: usize = 34;
+pub(crate) const BUFFER: usize = 2;
 
-pub(crate) const CLOCK: usize = 35;
+pub(crate) const CLOCK: usize = 3;
 
-pub(crate) const LATER: usize = 36;
+pub(crate) const LATER: usize = 4;
 
-pub(crate) const LAST: usize = 37;
+pub(crate) const LAST: usize = 5;
 
-pub(crate) const FLOW: usize = 38;
+pub(crate) const FLOW: usize = 6;
 
-pub(crate) const REFUSAL: usize = 39;
+pub(crate) const ROW: usize = 7;
 
-pub(crate) const HANDLE: usize = 40;
+pub(crate) const HANDLE: usize = 8;
 
-pub(crate) const FIRST: usize = 41;
+pub(crate) const FIRST: usize = 9;
 
-pub(crate) const CALL: usize = 42;
+pub(crate) const CALL: usize = 10;
 
-pub(crate) const PEAK: usize = 43;
+pub(crate) const PEAK: usize = 11;
 
-pub(crate) const ALLOWANCE: usize = 44;
+pub(crate) const ALLOWANCE: usize = 12;
 
-pub(crate) const COUNT: usize = 45;
+pub(crate) const COUNT: usize = 13;
 
-pub(crate) const SLOTS: usize = 46;
+pub(crate) const SLOTS: usize = 14;
 
-pub(crate) const OLD: usize = 47;
+pub(crate) const OLD: usize = 15;
 
-pub(crate) const PROB: usize = 48;
+pub(crate) const PROB: usize = 16;
 
-pub(crate) const BYTES: usize = 49;
+pub(crate) const BYTES: usize = 17;
 
-pub(crate) const RESET: usize = 50;
+pub(crate) const RESET: usize = 18;
 
-pub(crate) const SUSTAINED: usize = 51;
+pub(crate) const SUSTAINED: usize = 19;
 
-pub(crate) const TARGET: usize = 52;
+pub(crate) const TARGET: usize = 20;
 
-pub(crate) const RANDOM: usize = 53;
+pub(crate) const RANDOM: usize = 21;
 
-pub(crate) const VERDICT: usize = 54;
+pub(crate) const OTHERS: usize = 24;
 
-pub(crate) const DEPARTED: usize = 56;
+pub(crate) const ACTIVITY: usize = 25;
 
-pub(crate) const ACTIVITY: usize = 57;
-
-pub(crate) const SIZE: usize = 58;
+pub(crate) const SIZE: usize = 26;

@@ -3,11 +3,12 @@ use crate::example;
 use crate::letters::*;
 use crate::print;
 use docsis::counts_of;
+use docsis_flow::State;
 
 pub(crate) struct Sheet {
     // The numbers by letter, and those that each example starts from.
-    pub v: [u64; 64],
-    pub base: [u64; 64],
+    pub v: [u64; 32],
+    pub base: [u64; 32],
     pub letter: u8,
     // Where the template begins, and what is expected.
     pub text: usize,
@@ -18,8 +19,8 @@ pub(crate) struct Sheet {
 
 fn blank() -> Sheet {
     Sheet {
-        v: [0; 64],
-        base: [0; 64],
+        v: [0; 32],
+        base: [0; 32],
         letter: 0,
         text: 0,
         expected: 0,
@@ -28,15 +29,15 @@ fn blank() -> Sheet {
 }
 
 // A letter begins a number, a digit goes on with it.
-fn number(v: [u64; 64], letter: u8, byte: u8) -> [u64; 64] {
+fn number(v: [u64; 32], letter: u8, byte: u8) -> [u64; 32] {
     let mut w = v;
     match byte {
         b'0'..=b'9' => {
-            let place = (letter % 64) as usize;
+            let place = (letter % 32) as usize;
             w[place] = w[place] % 1_000_000_000_000_000_000 * 10 + (byte - b'0') as u64;
         }
         b'A'..=b'z' => {
-            let place = (byte % 64) as usize;
+            let place = (byte % 32) as usize;
             w[place] = 0;
         }
         _ => {}
@@ -72,36 +73,20 @@ fn read(s: Sheet, byte: u8, next: usize) -> Sheet {
     }
 }
 
-// A table of counts: the flow's row begins with G, all else is X.
-fn filled(v: [u64; 64]) -> [[u64; 5]; 16] {
-    let others = v[24];
-    let row = [v[7], 0, 0, 0, 0];
+// A table of counts: the flow's row begins with g, all else is x.
+fn filled(v: [u64; 32]) -> [[u64; 5]; 16] {
+    let others = v[OTHERS];
+    let row = [v[ROW], 0, 0, 0, 0];
     let mut counts = [[others; 5]; 16];
     let flow = (v[FLOW] % 16) as usize;
     counts[flow] = row;
     counts
 }
 
-// The flow's counts under the letters of the settings.
-fn counted(v: [u64; 64], counts: [[u64; 5]; 16]) -> [u64; 64] {
-    let flow = (v[FLOW] % 16) as usize;
-    let row = counts[flow];
-    let mut w = v;
-    w[TARGET] = row[0];
-    w[BUFFER] = row[1];
-    w[SLOTS] = row[2];
-    w[PEAK] = row[3];
-    w[SUSTAINED] = row[4];
-    w
-}
-
-// After a call that left these numbers: the next example starts anew, or goes on from there.
-fn after(s: Sheet, left: [u64; 64], byte: u8) -> Sheet {
-    let base = s.base;
-    if byte == b'.' {
-        return Sheet { v: base, ..s };
-    }
-    Sheet { v: left, ..s }
+// The next example starts from the base.
+fn anew(s: Sheet) -> Sheet {
+    let v = s.base;
+    Sheet { v, ..s }
 }
 
 pub(crate) fn run(input: &[u8]) {
@@ -109,6 +94,8 @@ pub(crate) fn run(input: &[u8]) {
     let mut sizes = [0u32; 64];
     let mut counts = [[0u64; 5]; 16];
     let mut s = blank();
+    let mut state = State::zero();
+    let mut came = [0u64; 32];
     let mut i: usize = 0;
     while i < input.len() {
         let byte = input[i];
@@ -120,17 +107,19 @@ pub(crate) fn run(input: &[u8]) {
                 let table = filled(v);
                 counts = table;
             }
-            b'?' => print::show(input, s.text, s.expected, counted(v, counts)),
-            b'!' | b',' | b'.' => {
-                let r = example::call(v, counts, &mut handles, &mut sizes);
+            b'*' => state = example::state(v),
+            b'?' => print::show(input, s.text, s.expected, v, came),
+            b'!' => {
+                let r = example::call(state, v, counts, &mut handles, &mut sizes);
                 let table = counts_of(r);
-                let left = example::told(v, r);
+                let replied = r.replied;
+                let row = table[(v[FLOW] % 16) as usize];
+                let now = example::came(replied, row);
                 counts = table;
-                if byte != b',' {
-                    print::show(input, s.text, s.expected, left);
-                }
-                s = after(s, left, byte);
+                came = now;
+                state = replied.state;
             }
+            b'.' => s = anew(s),
             _ => s = read(s, byte, i),
         }
     }

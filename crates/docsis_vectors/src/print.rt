@@ -5,27 +5,6 @@ fn say(text: &[u8]) {
     io::write_all(STDOUT_FILENO, text);
 }
 
-// The name of a verdict, by the place of its count.
-fn say_verdict(code: u64) {
-    match code {
-        0 => say(b"enqueued"),
-        1 => say(b"marked"),
-        2 => say(b"dropped-bytes"),
-        3 => say(b"dropped-slots"),
-        4 => say(b"dropped-early"),
-        _ => say(b"no verdict"),
-    }
-}
-
-fn say_activity(activity: u64) {
-    match activity {
-        0 => say(b"inactive"),
-        1 => say(b"quiescent"),
-        2 => say(b"active"),
-        _ => say(b"no activity"),
-    }
-}
-
 fn say_byte(byte: u8) {
     let one = [byte];
     say(&one);
@@ -44,33 +23,53 @@ fn say_up_to(input: &[u8], from: usize, end: u8) {
     }
 }
 
-// A letter's number after this mark.
-fn put(mark: u8, n: u64) {
-    match mark {
-        b'$' => {
-            io::print_decimal(STDOUT_FILENO, n);
+// The word of this number, of words that end in commas.
+fn say_word(words: &[u8], number: u64) {
+    let mut i: usize = 0;
+    let mut left = number;
+    while i < words.len() {
+        let byte = words[i];
+        i += 1;
+        if byte == b',' {
+            if left == 0 {
+                return;
+            }
+            left -= 1;
+        } else if left == 0 {
+            say_byte(byte);
         }
-        b'~' => say_activity(n),
-        _ => say_verdict(n),
     }
 }
 
-// The line of the template from here on.
-pub(crate) fn show(input: &[u8], from: usize, expected: usize, v: [u64; 64]) {
+// A letter's number after this mark: as it is, as an activity, or as a verdict by the place of its count.
+fn put(mark: u8, n: u64) {
+    if mark == b'$' {
+        io::print_decimal(STDOUT_FILENO, n);
+    } else if mark == b'~' {
+        say_word(b"inactive,quiescent,active,", n);
+    } else {
+        say_word(
+            b"enqueued,marked,dropped-bytes,dropped-slots,dropped-early,",
+            n,
+        );
+    }
+}
+
+// The line of the template from here on: small letters are what was given, capital letters what came.
+pub(crate) fn show(input: &[u8], from: usize, expected: usize, v: [u64; 32], came: [u64; 32]) {
     let mut mark = 0u8;
     let mut i = from;
     while i < input.len() {
         let byte = input[i];
         i += 1;
         if mark != 0 {
-            let place = (byte % 64) as usize;
-            put(mark, v[place]);
+            let place = (byte % 32) as usize;
+            let n = if byte < b'a' { came[place] } else { v[place] };
+            put(mark, n);
             mark = 0;
         } else {
             match byte {
-                b'$' => mark = byte,
-                b'~' => mark = byte,
-                b'&' => mark = byte,
+                b'$' | b'~' | b'&' => mark = byte,
                 b'@' => say_up_to(input, expected, b'}'),
                 _ => say_byte(byte),
             }

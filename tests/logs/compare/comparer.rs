@@ -10,7 +10,7 @@ use crate::log::edges::{record_edges, set_record, set_settings, settings_edges};
 use crate::log::reader::text;
 use crate::log::types::{Part, Record, Settings};
 use crate::log::{damage, makers};
-use crate::random::Random;
+use crate::shared::random::Random;
 
 struct Comparer<'a> {
     lender: Lender,

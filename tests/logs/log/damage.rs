@@ -3,7 +3,7 @@
 use super::makers;
 use super::model::{self, RECORD, TRAILER};
 use super::types::{Record, Settings, State};
-use crate::random::Random;
+use crate::shared::random::Random;
 
 /// Where the fields of settings, record and trailer begin, and their widths.
 pub const SETTINGS_FIELDS: [(usize, usize); 5] = [(0, 8), (8, 4), (12, 4), (16, 8), (24, 8)];

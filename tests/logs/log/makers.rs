@@ -3,7 +3,7 @@
 use super::edges::{record_edges, set_record, set_settings, settings_edges, KINDS};
 use super::model::{self, RECORD};
 use super::types::{Record, Settings, State, ARRIVAL, DEPARTURE};
-use crate::random::Random;
+use crate::shared::random::Random;
 
 /// Settings in range, each field at an end of its range or anywhere in it.
 pub fn settings(r: &mut Random) -> Settings {

@@ -8,7 +8,7 @@ use super::types::{Record, State};
 use super::{damage, makers};
 use crate::coverage::Coverage;
 use crate::failure::{same, Failure};
-use crate::random::Random;
+use crate::shared::random::Random;
 
 struct Reader<'a> {
     lender: Lender,

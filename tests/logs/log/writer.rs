@@ -8,7 +8,7 @@ use super::types::{Record, Settings, State};
 use super::writer_labels as labels;
 use crate::coverage::Coverage;
 use crate::failure::{same, same_content, Failure};
-use crate::random::Random;
+use crate::shared::random::Random;
 
 struct Writer<'a> {
     lender: Lender,

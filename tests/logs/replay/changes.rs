@@ -1,7 +1,7 @@
 //! Wrong lines in the log of a run: the record itself stays without fault.
 
 use crate::log::types::{Record, ARRIVAL, DEPARTURE, TICK};
-use crate::random::Random;
+use crate::shared::random::Random;
 
 /// How many kinds of change there are.
 pub const KINDS: u64 = 16;

@@ -8,7 +8,7 @@ use crate::failure::{expect, Failure};
 use crate::library::{self, Packet};
 use crate::log::lender::Lender as Writer;
 use crate::log::types::{Record, Settings, ARRIVAL, DEPARTURE};
-use crate::random::Random;
+use crate::shared::random::Random;
 
 struct Queue {
     state: library::Record,

@@ -10,7 +10,7 @@ use crate::failure::{expect, same, same_content, Failure};
 use crate::log::lender::Lender as Writer;
 use crate::log::reader::text;
 use crate::log::{damage, makers, whole};
-use crate::random::Random;
+use crate::shared::random::Random;
 
 pub struct Player<'a> {
     lender: Lender,

@@ -4,7 +4,7 @@ use super::model::Queue;
 use crate::log::types::{Record, Settings, ARRIVAL, DEPARTURE, TICK};
 use crate::model::CLOCK_MAX;
 use crate::plans::{self, Phase, Plan};
-use crate::random::Random;
+use crate::shared::random::Random;
 
 pub struct Run {
     pub settings: Settings,

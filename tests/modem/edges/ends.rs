@@ -44,7 +44,7 @@ pub fn ends(before: &Side, call: &Call) -> Found {
 /// right beside both of their ends.
 pub fn whole_pages(before: &State, call: &Call, after: &State) -> Found {
     let slots = before.settings.slots;
-    let whole = slots * 4 % crate::area::PAGE as u64 == 0;
+    let whole = slots * 4 % crate::shared::area::PAGE as u64 == 0;
     let wrote = whole && after.count > before.count;
     let read = whole && matches!(call.kind, Kind::Departure { .. });
     let tail = (before.first + before.count) % slots;

@@ -4,7 +4,7 @@ use super::{with_delay, Worked, FLOW};
 use crate::call::Call;
 use crate::model::numbers::{ACTIVE, INACTIVE, QUIESCENT};
 use crate::model::State;
-use crate::pair::Failure;
+use crate::shared::pair::Failure;
 
 /// Allowance before and after a tick.
 const ALLOWANCES: [(u64, u64); 4] = [(142_000, 126_000), (16_001, 1), (16_000, 0), (14_000, 0)];

@@ -4,7 +4,7 @@ use super::{with_delay, Worked, FLOW};
 use crate::call::{Call, Lent};
 use crate::model::numbers::{ACTIVE, INACTIVE, QUIESCENT, WHOLE};
 use crate::model::{self, Arriving, State};
-use crate::pair::Failure;
+use crate::shared::pair::Failure;
 
 /// An arrival: what is said of the state before it, and of the packet.
 #[derive(Clone, Copy)]

@@ -3,7 +3,7 @@
 use super::{with_delay, Worked, FLOW};
 use crate::call::Call;
 use crate::model::State;
-use crate::pair::Failure;
+use crate::shared::pair::Failure;
 
 /// Name, bytes, peak, sustained, credits, delay.
 const DELAYS: [(&str, u64, u64, u64, u32, u64); 9] = [

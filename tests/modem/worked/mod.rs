@@ -11,7 +11,7 @@ mod whole_case;
 
 use crate::call::Call;
 use crate::model::{Counts, Settings, State};
-use crate::pair::{Failure, Pair};
+use crate::shared::pair::{Failure, Pair};
 use crate::side::{Lender, Side};
 
 /// The slots of the records here, but where a number asks for others.

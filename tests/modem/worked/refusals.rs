@@ -3,7 +3,7 @@
 use super::{other_rows, with_delay, Worked, FLOW};
 use crate::call::{Call, Lent};
 use crate::model::{Arriving, Settings, State};
-use crate::pair::Failure;
+use crate::shared::pair::Failure;
 
 const LIMIT: u64 = 1 << 48;
 

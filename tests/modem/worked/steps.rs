@@ -3,7 +3,7 @@
 use super::{with_delay, Worked, FLOW};
 use crate::call::Call;
 use crate::model::{self, State};
-use crate::pair::Failure;
+use crate::shared::pair::Failure;
 
 /// Name, target, probability, delay, old delay; the step before its cap, the probability after.
 #[rustfmt::skip]

@@ -3,7 +3,7 @@
 use super::Worked;
 use crate::call::{Call, Lent};
 use crate::model::{Arriving, Settings, State};
-use crate::pair::{Failure, Pair};
+use crate::shared::pair::{Failure, Pair};
 use crate::side::Side;
 
 /// Probability, accumulated, old delay, activity, allowance and bytes after a call.

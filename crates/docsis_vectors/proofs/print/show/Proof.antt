@@ -6,10 +6,10 @@ use Rattle.docsis_vectors.proofs.print.show.Statement.{statement}
 use Rattle.docsis_vectors.proofs.print.show.Tie as tie
 
 abbrev Inv-loop : tie.InvT-loop
-Inv-loop input from expected v mark₀ i₀ mark i = Unit {0}
+Inv-loop input from expected v came mark₀ i₀ mark i = Unit {0}
 
 abbrev μ-loop : tie.MeasureT-loop
-μ-loop input from expected v mark₀ i₀ mark i = length input - i
+μ-loop input from expected v came mark₀ i₀ mark i = length input - i
 
 loop-holds : tie.Need-loop-holds Inv-loop μ-loop
 loop-holds c = search needs
@@ -23,11 +23,17 @@ add-i c = search needs
 cast-place : tie.Need-cast-place Inv-loop μ-loop
 cast-place c = search needs
 
-mul-put : tie.Need-mul-put Inv-loop μ-loop
-mul-put c = search needs
+mul-n : tie.Need-mul-n Inv-loop μ-loop
+mul-n c = search needs
 
-array-read-put : tie.Need-array-read-put Inv-loop μ-loop
-array-read-put c = search needs
+array-read-n : tie.Need-array-read-n Inv-loop μ-loop
+array-read-n c = search needs
+
+mul-n-2 : tie.Need-mul-n-2 Inv-loop μ-loop
+mul-n-2 c = search needs
+
+array-read-n-2 : tie.Need-array-read-n-2 Inv-loop μ-loop
+array-read-n-2 c = search needs
 
 put-requires : tie.Need-put-requires Inv-loop μ-loop
 put-requires c κs = search needs
@@ -66,8 +72,10 @@ show-spec =
     shared-slice-read-byte
     add-i
     cast-place
-    mul-put
-    array-read-put
+    mul-n
+    array-read-n
+    mul-n-2
+    array-read-n-2
     put-requires
     loop-less
     loop-again

@@ -1,0 +1,8 @@
+//! What the comparison of logs shares with those of the kinds of queue.
+
+pub mod answers;
+pub mod random;
+pub mod rounds;
+pub mod stop;
+#[allow(dead_code)]
+pub mod traffic;
