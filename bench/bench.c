@@ -4,47 +4,18 @@
  *   bench time STREAM        checks that all answer alike, then times them; prints ratios to plain C
  *   bench count STREAM SIDE  runs the stream once on one side, for callgrind to count
  *
- * Method. All sides run the same 1,000,000 events of one stream (events.c). First every answer, every packet and every
- * state after it is compared. Then come the timed rounds, each in many short parts; the sides take
- * turns part by part, so that whatever else the machine does falls on all alike.
- *   mix: each side runs all events on a queue of its own, 2,000 events to a part.
- *   arrival, departure, tick: calls of one kind, sampled from the mixed run together with the
- *     state that they met there. 64 such states, a part, are copied to the side's own records, and
- *     only the 64 calls are timed.
- * How ratios are made of the times: ratios.h. Nothing is allocated or first touched inside a timed
- * part.
+ * The streams: events.c. The method: rounds.h.
  */
 #include <stdio.h>
-#include <stdlib.h>
 #include <string.h>
 
 #include "sides.h"
-#include "timer.h"
 
-#define EVENTS 1000000u
-#define CHUNK 2000u
-#define PARTS 512u /* the most parts of a round */
-#define SITUATIONS (PARTS * BLOCK)
-#define ROUNDS 21u
-
-#include "ratios.h"
-
-struct situations {
-    size_t n;
-    struct event event[SITUATIONS];
-    struct plain_state before[SITUATIONS];
-    struct plain_packet head[SITUATIONS];
-};
-
-static struct event events[EVENTS];
-static struct situations situations[KINDS];
-static volatile uint64_t sink;
-
-static void fail(const char *sentence)
-{
-    fprintf(stderr, "bench: %s\n", sentence);
-    exit(1);
-}
+#define PROGRAM "bench"
+#define STREAMS "varied, full"
+#define SIDE_NAMES "plain, library, rust, clang (if it was built in)"
+#define find find_stream
+#define make make_events
 
 static bool same(struct plain_state a, struct plain_state b)
 {
@@ -57,170 +28,32 @@ static bool same(struct plain_state a, struct plain_state b)
         && memcmp(a.verdicts, b.verdicts, sizeof a.verdicts) == 0;
 }
 
-static void differ(const char *name, const char *what, size_t number)
+static void met(const struct event *e)
 {
-    fprintf(stderr, "bench: %s and plain C differ at %s %zu.\n", name, what, number);
-    exit(1);
+    (void)e;
 }
 
-/* Runs all sides step by step and compares answer, packet and state with plain C's. */
-static void check_mix(void)
+/* The counts are in the record. */
+static bool agrees(size_t s, const struct event *e)
 {
-    for (size_t s = 0; s < SIDES; s++)
-        sides[s].fresh();
-    for (size_t i = 0; i < EVENTS; i++) {
-        uint64_t sum = sides[0].mix(&events[i], 1);
-        struct plain_state state = sides[0].record();
-        for (size_t s = 1; s < SIDES; s++)
-            if (sides[s].mix(&events[i], 1) != sum || !same(sides[s].record(), state))
-                differ(sides[s].name, "event", i + 1);
-    }
+    (void)s;
+    (void)e;
+    return true;
 }
 
-/* Samples each kind evenly over the mixed run. Heads in one block stand at different places. */
-static void collect(void)
+static bool agree(size_t s)
 {
-    static size_t taken[MOST_SLOTS]; /* by which block of departures, from 1 */
-    size_t total[KINDS] = {0}, seen[KINDS] = {0};
-    for (size_t i = 0; i < EVENTS; i++)
-        total[events[i].kind]++;
-    on_plain_fresh();
-    for (size_t i = 0; i < EVENTS; i++) {
-        uint8_t kind = events[i].kind;
-        struct situations *s = &situations[kind];
-        uint32_t first = on_plain_state.first;
-        size_t block = s->n / BLOCK + 1;
-        bool due = s->n < SITUATIONS && s->n * total[kind] <= seen[kind]++ * SITUATIONS;
-        bool clash = kind == DEPARTURE && taken[first] == block;
-        if (due && !clash) {
-            s->event[s->n] = events[i];
-            s->before[s->n] = on_plain_state;
-            s->head[s->n].handle = on_plain_handles[first];
-            s->head[s->n].size = on_plain_sizes[first];
-            s->n++;
-            if (kind == DEPARTURE)
-                taken[first] = block;
-        }
-        on_plain_mix(&events[i], 1);
-    }
+    (void)s;
+    return true;
 }
 
-/* Prepares the tables of a block of situations. */
-static void lend(const struct situations *s, size_t at)
+/* How the arrivals were answered. */
+static void print_answers(void)
 {
-    for (size_t i = at; i < at + BLOCK; i++) {
-        block_handles[s->before[i].first] = s->head[i].handle;
-        block_sizes[s->before[i].first] = s->head[i].size;
-    }
-}
-
-/* All sides must leave every state of every block as plain C does. */
-static void check_blocks(enum kind kind)
-{
-    const struct situations *s = &situations[kind];
-    for (size_t at = 0; at + BLOCK <= s->n; at += BLOCK) {
-        lend(s, at);
-        sides[0].load(&s->before[at]);
-        uint64_t sum = sides[0].block[kind](&s->event[at]);
-        for (size_t k = 1; k < SIDES; k++) {
-            sides[k].load(&s->before[at]);
-            if (sides[k].block[kind](&s->event[at]) != sum)
-                differ(sides[k].name, "a situation from", at);
-            for (size_t i = 0; i < BLOCK; i++)
-                if (!same(sides[k].loaded(i), sides[0].loaded(i)))
-                    differ(sides[k].name, "situation", at + i);
-        }
-    }
-}
-
-/* Both answer the number of parts. */
-static size_t time_mix(size_t round)
-{
-    for (size_t s = 0; s < SIDES; s++)
-        sides[s].fresh();
-    for (size_t part = 0; part < EVENTS / CHUNK; part++)
-        for (size_t turn = 0; turn < SIDES; turn++) {
-            size_t s = (turn + part + round) % SIDES;
-            uint64_t begin = timer();
-            sink += sides[s].mix(&events[part * CHUNK], CHUNK);
-            times[s][part][round] = timer() - begin;
-        }
-    return EVENTS / CHUNK;
-}
-
-static size_t time_blocks(enum kind kind, size_t round)
-{
-    const struct situations *c = &situations[kind];
-    for (size_t part = 0; part < c->n / BLOCK; part++) {
-        size_t at = part * BLOCK;
-        lend(c, at);
-        for (size_t turn = 0; turn < SIDES; turn++) {
-            size_t s = (turn + part + round) % SIDES;
-            sides[s].load(&c->before[at]);
-            uint64_t begin = timer();
-            sink += sides[s].block[kind](&c->event[at]);
-            times[s][part][round] = timer() - begin;
-        }
-    }
-    return c->n / BLOCK;
-}
-
-/* Prints how many events of each kind there are, and how the arrivals were answered. */
-static void print_events(void)
-{
-    size_t total[KINDS] = {0};
-    for (size_t i = 0; i < EVENTS; i++)
-        total[events[i].kind]++;
-    printf("events %s %u %zu %zu %zu %u\n", stream->name, EVENTS, total[ARRIVAL],
-           total[DEPARTURE], total[TICK], stream->slots);
-    const uint64_t *v = on_plain_state.verdicts;
+    const uint64_t *v = on_plain_queues[0].verdicts;
     printf("verdicts %s %llu %llu %llu %llu %llu\n", stream->name, (unsigned long long)v[0],
            (unsigned long long)v[1], (unsigned long long)v[2], (unsigned long long)v[3],
            (unsigned long long)v[4]);
-    printf("rounds %s %u\n", stream->name, ROUNDS);
 }
 
-static void run_times(void)
-{
-    static const char *const names[KINDS] = {"arrival", "departure", "tick"};
-    size_t parts = 0;
-    check_mix();
-    print_events();
-    collect();
-    for (int kind = 0; kind < KINDS; kind++)
-        check_blocks((enum kind)kind);
-    for (size_t round = 0; round < ROUNDS; round++)
-        parts = time_mix(round);
-    print_ratios(stream->name, "mix", parts);
-    for (int kind = 0; kind < KINDS; kind++) {
-        for (size_t round = 0; round < ROUNDS; round++)
-            parts = time_blocks((enum kind)kind, round);
-        print_ratios(stream->name, names[kind], parts);
-    }
-}
-
-static void run_count(const char *name)
-{
-    for (size_t s = 0; s < SIDES; s++)
-        if (strcmp(sides[s].name, name) == 0) {
-            sides[s].fresh();
-            sink += sides[s].mix(events, EVENTS);
-            return;
-        }
-    fail("count takes one of: plain, library, rust, clang (if it was built in).");
-}
-
-int main(int argc, char **argv)
-{
-    stream = 3 <= argc ? find_stream(argv[2]) : NULL;
-    if (stream == NULL)
-        fail("usage: bench time STREAM | bench count STREAM SIDE; the streams: varied, full");
-    make_events(stream, events, EVENTS);
-    if (argc == 3 && strcmp(argv[1], "time") == 0)
-        run_times();
-    else if (argc == 4 && strcmp(argv[1], "count") == 0)
-        run_count(argv[3]);
-    else
-        fail("time takes a stream, count a stream and a side.");
-    return 0;
-}
+#include "rounds.h"

@@ -10,6 +10,7 @@
 #include "events.h"
 
 #include "plain.h"
+#include "random.h"
 
 #include <string.h>
 
@@ -63,40 +64,17 @@ struct generator {
     uint32_t sizes[MOST_SLOTS];
 };
 
-/* splitmix64 */
-static uint64_t next_random(struct generator *g)
-{
-    uint64_t z = g->seed += UINT64_C(0x9e3779b97f4a7c15);
-    z = (z ^ (z >> 30)) * UINT64_C(0xbf58476d1ce4e5b9);
-    z = (z ^ (z >> 27)) * UINT64_C(0x94d049bb133111eb);
-    return z ^ (z >> 31);
-}
-
-/* A number from 0 to n - 1. */
-static uint32_t below(struct generator *g, uint32_t n)
-{
-    return (uint32_t)((next_random(g) >> 32) * n >> 32);
-}
-
-/* Of 100 departures that would find the queue empty, 70 become arrivals. */
-static bool arrives(struct generator *g, const struct phase *phase)
-{
-    if (below(g, 100) < phase->arrivals)
-        return true;
-    return g->state.count == 0 && below(g, 100) < 70;
-}
-
 static struct event next_event(struct generator *g, const struct phase *phase)
 {
     struct event e = {.clock = g->clock, .kind = DEPARTURE};
     if (PERIOD <= g->clock - g->state.last) {
         e.kind = TICK;
-    } else if (arrives(g, phase)) {
+    } else if (arrives(&g->seed, phase->arrivals, g->state.count)) {
         e.kind = ARRIVAL;
-        e.handle = (uint32_t)next_random(g);
-        e.u = (uint32_t)next_random(g);
-        e.size = (uint16_t)(phase->least + below(g, phase->largest - phase->least + 1));
-        e.ecn = below(g, 100) < phase->ecn;
+        e.handle = (uint32_t)next_random(&g->seed);
+        e.u = (uint32_t)next_random(&g->seed);
+        e.size = (uint16_t)(phase->least + below(&g->seed, phase->largest - phase->least + 1));
+        e.ecn = below(&g->seed, 100) < phase->ecn;
     }
     return e;
 }
@@ -133,7 +111,7 @@ void make_events(const struct stream *stream, struct event *events, size_t n)
     while (at < n) {
         const struct phase *phase = &stream->phases[place++ % stream->phase_count];
         for (size_t end = at + phase->length; at < end && at < n; at++) {
-            g.clock += below(&g, phase->gap + 1);
+            g.clock += below(&g.seed, phase->gap + 1);
             events[at] = next_event(&g, phase);
             follow(&g, &events[at]);
         }

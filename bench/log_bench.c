@@ -25,6 +25,10 @@
 #include <string.h>
 #include <time.h>
 
+#define PROGRAM "log_bench"
+#define STREAMS "varied, full"
+#define SIDE_NAMES "plain, library"
+#define find find_stream
 #define RECORDS 100000u
 #define EVENTS 120000u /* enough of them are accepted */
 #define LONGEST (32u + 40u * RECORDS + 16u)
@@ -69,11 +73,7 @@ static const struct side sides[] = {ENTRIES(plain), ENTRIES(library)};
 
 #include "ratios.h"
 
-static void fail(const char *sentence)
-{
-    fprintf(stderr, "log_bench: %s\n", sentence);
-    exit(1);
-}
+static void fail(const char *sentence);
 
 /* Makes the call of an event: whether it is accepted; then the record has its verdict. */
 static bool accepted(struct plain_state *state, uint32_t *handles, uint32_t *sizes,
@@ -101,7 +101,7 @@ static bool accepted(struct plain_state *state, uint32_t *handles, uint32_t *siz
 }
 
 /* The log of the stream's first accepted events, and its copy. */
-static void make_logs(void)
+static void prepare(void)
 {
     static uint32_t handles[MOST_SLOTS], sizes[MOST_SLOTS];
     struct plain_settings settings = {stream->target, stream->buffer, stream->slots, 0, 0};
@@ -195,28 +195,10 @@ static void run_times(void)
     }
 }
 
-static void run_count(const char *name)
+static void run_side(size_t s)
 {
-    for (size_t s = 0; s < SIDES; s++)
-        if (strcmp(sides[s].name, name) == 0) {
-            sink += sides[s].begin() + sides[s].add(0, RECORDS);
-            sink += sides[s].replay() + sides[s].compare();
-            return;
-        }
-    fail("count takes one of: plain, library.");
+    sink += sides[s].begin() + sides[s].add(0, RECORDS);
+    sink += sides[s].replay() + sides[s].compare();
 }
 
-int main(int argc, char **argv)
-{
-    stream = 3 <= argc ? find_stream(argv[2]) : NULL;
-    if (stream == NULL)
-        fail("usage: log_bench time STREAM | log_bench count STREAM SIDE; the streams: varied, full");
-    make_logs();
-    if (argc == 3 && strcmp(argv[1], "time") == 0)
-        run_times();
-    else if (argc == 4 && strcmp(argv[1], "count") == 0)
-        run_count(argv[3]);
-    else
-        fail("time takes a stream, count a stream and a side.");
-    return 0;
-}
+#include "program.h"

@@ -10,6 +10,8 @@
  */
 #include "modem_events.h"
 
+#include "random.h"
+
 #include <string.h>
 
 #define PERIOD 16000u
@@ -63,29 +65,6 @@ struct generator {
     struct flow flows[PLAIN_FLOWS];
 };
 
-/* splitmix64 */
-static uint64_t next_random(struct generator *g)
-{
-    uint64_t z = g->seed += UINT64_C(0x9e3779b97f4a7c15);
-    z = (z ^ (z >> 30)) * UINT64_C(0xbf58476d1ce4e5b9);
-    z = (z ^ (z >> 27)) * UINT64_C(0x94d049bb133111eb);
-    return z ^ (z >> 31);
-}
-
-/* A number from 0 to n - 1. */
-static uint32_t below(struct generator *g, uint32_t n)
-{
-    return (uint32_t)((next_random(g) >> 32) * n >> 32);
-}
-
-/* Of 100 departures that would find the queue empty, 70 become arrivals. */
-static bool arrives(struct generator *g, const struct flow *flow, const struct modem_phase *phase)
-{
-    if (below(g, 100) < phase->arrivals)
-        return true;
-    return flow->state.count == 0 && below(g, 100) < 70;
-}
-
 static const struct modem_phase *next_phase(struct generator *g, struct flow *flow)
 {
     const struct modem_stream *stream = g->stream;
@@ -97,19 +76,19 @@ static const struct modem_phase *next_phase(struct generator *g, struct flow *fl
 
 static struct modem_event next_event(struct generator *g)
 {
-    uint32_t number = below(g, PLAIN_FLOWS);
+    uint32_t number = below(&g->seed, PLAIN_FLOWS);
     struct flow *flow = &g->flows[number];
     const struct modem_phase *phase = next_phase(g, flow);
-    g->clock += below(g, phase->gap + 1);
+    g->clock += below(&g->seed, phase->gap + 1);
     struct modem_event e = {.clock = g->clock, .kind = DEPARTURE, .flow = (uint8_t)number};
     if (PERIOD <= g->clock - flow->state.last) {
         e.kind = TICK;
-        e.credits = below(g, phase->credits + 1);
-    } else if (arrives(g, flow, phase)) {
+        e.credits = below(&g->seed, phase->credits + 1);
+    } else if (arrives(&g->seed, phase->arrivals, flow->state.count)) {
         e.kind = ARRIVAL;
-        e.handle = (uint32_t)next_random(g);
-        e.u = (uint32_t)next_random(g);
-        e.size = (uint16_t)(phase->least + below(g, phase->largest - phase->least + 1));
+        e.handle = (uint32_t)next_random(&g->seed);
+        e.u = (uint32_t)next_random(&g->seed);
+        e.size = (uint16_t)(phase->least + below(&g->seed, phase->largest - phase->least + 1));
     }
     return e;
 }

@@ -6,27 +6,23 @@
 #include "modem_events.h"
 #include "obikuteru.h"
 
-/* Situations are timed in blocks of this many, so that their states stay in the nearest cache. */
-#define BLOCK 64
-
-/* The tables that every call of a block is lent: an arrival only writes to them, and a departure
- * only reads its head. */
-static uint32_t block_handles[MOST_SLOTS];
-static uint32_t block_sizes[MOST_SLOTS];
-
 /* The stream whose events run. */
 static const struct modem_stream *stream;
 
-struct side {
-    const char *name;
-    void (*fresh)(void);
-    uint64_t (*mix)(const struct modem_event *, size_t);
-    struct plain_modem (*record)(uint32_t);
-    const uint64_t *(*row)(uint32_t);
-    void (*load)(const struct plain_modem *);
-    struct plain_modem (*loaded)(size_t);
-    uint64_t (*block[KINDS])(const struct modem_event *);
-};
+#define EVENT struct modem_event
+#define RECORD struct plain_modem
+#define COUNTED
+#define QUEUES PLAIN_FLOWS
+#define QUEUE(e) ((e)->flow)
+#define START(s, c, q)                                                                            \
+    CALL(fresh)(s, c, q, stream->target, stream->buffer, stream->slots, stream->peak,             \
+                stream->sustained, 0)
+#define ARRIVE(s, c, e, h, z)                                                                     \
+    CALL(arrival)(s, c, (e)->flow, h, slots, z, slots, (e)->clock, (e)->handle, (e)->size, (e)->u)
+#define DEPART(s, c, e, h, z, p) CALL(departure)(s, c, (e)->flow, h, slots, z, slots, (e)->clock, p)
+#define UPDATE(s, c, e) CALL(tick)(s, c, (e)->flow, (e)->clock, (e)->credits)
+
+#include "kind.h"
 
 /* The Rust twin, and plain C by clang: records and calls of the same form as plain C's. */
 #define DECLARE(prefix)                                                                           \
@@ -63,11 +59,7 @@ static struct plain_modem library_record(struct obikuteru_modem_state s)
 
 #define SIDE(name) on_plain_##name
 #define CALL(name) plain_modem_##name
-#define STATE struct plain_modem
-#define PACKET struct plain_packet
-#define READ(state) (state)
-#define WRITE(record) (record)
-#include "modem_side.h"
+#include "side.h"
 
 #define SIDE(name) on_library_##name
 #define CALL(name) obikuteru_modem_##name
@@ -75,30 +67,17 @@ static struct plain_modem library_record(struct obikuteru_modem_state s)
 #define PACKET struct obikuteru_packet
 #define READ(state) library_record(state)
 #define WRITE(record) library_state(record)
-#include "modem_side.h"
+#include "side.h"
 
 #define SIDE(name) on_rust_##name
 #define CALL(name) twin_modem_##name
-#define STATE struct plain_modem
-#define PACKET struct plain_packet
-#define READ(state) (state)
-#define WRITE(record) (record)
-#include "modem_side.h"
+#include "side.h"
 
 #ifdef WITH_CLANG
 #define SIDE(name) on_clang_##name
 #define CALL(name) clang_modem_##name
-#define STATE struct plain_modem
-#define PACKET struct plain_packet
-#define READ(state) (state)
-#define WRITE(record) (record)
-#include "modem_side.h"
+#include "side.h"
 #endif
-
-#define ENTRIES(side)                                                                             \
-    {#side, on_##side##_fresh, on_##side##_mix, on_##side##_record, on_##side##_row,              \
-     on_##side##_load, on_##side##_loaded,                                                        \
-     {on_##side##_arrivals, on_##side##_departures, on_##side##_ticks}}
 
 static const struct side sides[] = {
     ENTRIES(plain),
@@ -108,7 +87,5 @@ static const struct side sides[] = {
     ENTRIES(clang),
 #endif
 };
-
-#define SIDES (sizeof sides / sizeof *sides)
 
 #endif

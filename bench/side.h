@@ -1,90 +1,109 @@
 /*
  * One implementation on the bench: the loops that are timed, the same text for each. Included
- * once for each implementation, with these defined:
+ * once for each implementation of a kind (kind.h), with these defined:
  *
  *   SIDE(name)   a name in this file        CALL(name)   the measured call of that name
+ *
+ * and, where its records are not plain C's:
+ *
  *   STATE        its state record           PACKET       its packet record
  *   READ(state)  state to plain record      WRITE(record)  plain record to state
  *
  * The calls are direct, into an object file of their own: none is inlined into a loop. Each loop
  * returns a sum of the answers, so that none can be left out.
  */
-static STATE SIDE(state);
+#ifndef STATE
+#define STATE RECORD
+#define PACKET struct plain_packet
+#define READ(state) (state)
+#define WRITE(record) (record)
+#endif
+
+static STATE SIDE(queues)[QUEUES];
+static uint32_t SIDE(handles)[QUEUES][MOST_SLOTS];
+static uint32_t SIDE(sizes)[QUEUES][MOST_SLOTS];
 static STATE SIDE(states)[BLOCK];
-static uint32_t SIDE(handles)[MOST_SLOTS];
-static uint32_t SIDE(sizes)[MOST_SLOTS];
+#ifdef COUNTED
+static uint64_t SIDE(counts)[QUEUES][5];
+static uint64_t SIDE(block_counts)[QUEUES][5];
+
+static const uint64_t *SIDE(row)(size_t queue)
+{
+    return SIDE(counts)[queue];
+}
+#endif
 
 static void SIDE(fresh)(void)
 {
-    CALL(fresh)(&SIDE(state), stream->target, stream->buffer, stream->slots, 0);
+    for (uint32_t q = 0; q < QUEUES; q++)
+        START(&SIDE(queues)[q], SIDE(counts), q);
 }
 
-static struct plain_state SIDE(record)(void)
+static RECORD SIDE(record)(size_t queue)
 {
-    return READ(SIDE(state));
+    return READ(SIDE(queues)[queue]);
 }
 
-/* The next n events on the one queue. */
-static uint64_t SIDE(mix)(const struct event *e, size_t n)
+/* The next n events on the queues. */
+static uint64_t SIDE(mix)(const EVENT *e, size_t n)
 {
     PACKET packet = {0, 0};
     size_t slots = stream->slots;
     uint64_t sum = 0;
-    for (const struct event *end = e + n; e < end; e++) {
+    for (const EVENT *end = e + n; e < end; e++) {
+        uint32_t q = QUEUE(e);
         if (e->kind == ARRIVAL) {
-            sum += CALL(arrival)(&SIDE(state), SIDE(handles), slots, SIDE(sizes), slots, e->clock,
-                                 e->handle, e->size, e->ecn, e->u);
+            sum += ARRIVE(&SIDE(queues)[q], SIDE(counts), e, SIDE(handles)[q], SIDE(sizes)[q]);
         } else if (e->kind == DEPARTURE) {
-            sum += CALL(departure)(&SIDE(state), SIDE(handles), slots, SIDE(sizes), slots,
-                                   e->clock, &packet);
+            sum += DEPART(&SIDE(queues)[q], SIDE(counts), e, SIDE(handles)[q], SIDE(sizes)[q],
+                          &packet);
             sum += packet.handle + (uint64_t)packet.size;
         } else {
-            sum += CALL(tick)(&SIDE(state), e->clock);
+            sum += UPDATE(&SIDE(queues)[q], SIDE(counts), e);
         }
     }
     return sum;
 }
 
 /* The states of a block of situations, and one of them afterwards. */
-static void SIDE(load)(const struct plain_state *before)
+static void SIDE(load)(const RECORD *before)
 {
     for (size_t i = 0; i < BLOCK; i++)
         SIDE(states)[i] = WRITE(before[i]);
 }
 
-static struct plain_state SIDE(loaded)(size_t i)
+static RECORD SIDE(loaded)(size_t i)
 {
     return READ(SIDE(states)[i]);
 }
 
-static uint64_t SIDE(arrivals)(const struct event *e)
+static uint64_t SIDE(arrivals)(const EVENT *e)
 {
     size_t slots = stream->slots;
     uint64_t sum = 0;
     for (size_t i = 0; i < BLOCK; i++)
-        sum += CALL(arrival)(&SIDE(states)[i], block_handles, slots, block_sizes, slots,
-                             e[i].clock, e[i].handle, e[i].size, e[i].ecn, e[i].u);
+        sum += ARRIVE(&SIDE(states)[i], SIDE(block_counts), &e[i], block_handles, block_sizes);
     return sum;
 }
 
-static uint64_t SIDE(departures)(const struct event *e)
+static uint64_t SIDE(departures)(const EVENT *e)
 {
     PACKET packet = {0, 0};
     size_t slots = stream->slots;
     uint64_t sum = 0;
     for (size_t i = 0; i < BLOCK; i++) {
-        sum += CALL(departure)(&SIDE(states)[i], block_handles, slots, block_sizes, slots,
-                               e[i].clock, &packet);
+        sum += DEPART(&SIDE(states)[i], SIDE(block_counts), &e[i], block_handles, block_sizes,
+                      &packet);
         sum += packet.handle + (uint64_t)packet.size;
     }
     return sum;
 }
 
-static uint64_t SIDE(ticks)(const struct event *e)
+static uint64_t SIDE(ticks)(const EVENT *e)
 {
     uint64_t sum = 0;
     for (size_t i = 0; i < BLOCK; i++)
-        sum += CALL(tick)(&SIDE(states)[i], e[i].clock);
+        sum += UPDATE(&SIDE(states)[i], SIDE(block_counts), &e[i]);
     return sum;
 }
 

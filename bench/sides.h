@@ -1,4 +1,5 @@
-/* The implementations on the bench: plain C first, since the others are measured against it. */
+/* The implementations of the queue on the bench: plain C first, since the others are measured
+ * against it. */
 #ifndef SIDES_H
 #define SIDES_H
 
@@ -6,26 +7,20 @@
 #include "obikuteru.h"
 #include "plain.h"
 
-/* Situations are timed in blocks of this many, so that their states stay in the nearest cache. */
-#define BLOCK 64
-
-/* The tables that every call of a block is lent: an arrival only writes to them, and a departure
- * only reads its head. */
-static uint32_t block_handles[MOST_SLOTS];
-static uint32_t block_sizes[MOST_SLOTS];
-
 /* The stream whose events run. */
 static const struct stream *stream;
 
-struct side {
-    const char *name;
-    void (*fresh)(void);
-    uint64_t (*mix)(const struct event *, size_t);
-    struct plain_state (*record)(void);
-    void (*load)(const struct plain_state *);
-    struct plain_state (*loaded)(size_t);
-    uint64_t (*block[KINDS])(const struct event *);
-};
+#define EVENT struct event
+#define RECORD struct plain_state
+#define QUEUES 1
+#define QUEUE(e) ((void)(e), 0)
+#define START(s, c, q) CALL(fresh)(s, stream->target, stream->buffer, stream->slots, 0)
+#define ARRIVE(s, c, e, h, z)                                                                     \
+    CALL(arrival)(s, h, slots, z, slots, (e)->clock, (e)->handle, (e)->size, (e)->ecn, (e)->u)
+#define DEPART(s, c, e, h, z, p) CALL(departure)(s, h, slots, z, slots, (e)->clock, p)
+#define UPDATE(s, c, e) CALL(tick)(s, (e)->clock)
+
+#include "kind.h"
 
 /* The Rust twin, and plain C by clang: records and calls of the same form as plain C's. */
 #define DECLARE(prefix)                                                                           \
@@ -74,10 +69,6 @@ static struct plain_state library_record(struct obikuteru_state s)
 
 #define SIDE(name) on_plain_##name
 #define CALL(name) plain_##name
-#define STATE struct plain_state
-#define PACKET struct plain_packet
-#define READ(state) (state)
-#define WRITE(record) (record)
 #include "side.h"
 
 #define SIDE(name) on_library_##name
@@ -90,19 +81,11 @@ static struct plain_state library_record(struct obikuteru_state s)
 
 #define SIDE(name) on_rust_##name
 #define CALL(name) twin_##name
-#define STATE struct plain_state
-#define PACKET struct plain_packet
-#define READ(state) (state)
-#define WRITE(record) (record)
 #include "side.h"
 
 #ifdef WITH_CLANG
 #define SIDE(name) on_clang_##name
 #define CALL(name) clang_##name
-#define STATE struct plain_state
-#define PACKET struct plain_packet
-#define READ(state) (state)
-#define WRITE(record) (record)
 #include "side.h"
 #endif
 
@@ -117,16 +100,8 @@ static struct plain_state library_record(struct obikuteru_state s)
 
 #define SIDE(name) on_remainder_##name
 #define CALL(name) remainder_##name
-#define STATE struct plain_state
-#define PACKET struct plain_packet
-#define READ(state) (state)
-#define WRITE(record) (record)
 #include "side.h"
 #endif
-
-#define ENTRIES(side)                                                                             \
-    {#side, on_##side##_fresh, on_##side##_mix, on_##side##_record, on_##side##_load,             \
-     on_##side##_loaded, {on_##side##_arrivals, on_##side##_departures, on_##side##_ticks}}
 
 static const struct side sides[] = {
     ENTRIES(plain),
@@ -140,7 +115,5 @@ static const struct side sides[] = {
     ENTRIES(remainder),
 #endif
 };
-
-#define SIDES (sizeof sides / sizeof *sides)
 
 #endif

@@ -5,4 +5,5 @@ pub mod Fine
 pub mod Written
 pub mod ExactlyIf
 pub mod AnyTables
+pub mod WhichRefusals
 pub mod AlwaysAccepted

@@ -1,0 +1,202 @@
+/*
+ * The bench of a kind of queue: all sides run the same 1,000,000 events of one stream. First every
+ * answer, every packet and every state after it is compared. Then come the timed rounds, each in
+ * many short parts; the sides take turns part by part, so that whatever else the machine does falls
+ * on all alike.
+ *   mix: each side runs all events on queues of its own, 2,000 events to a part.
+ *   arrival, departure, tick: calls of one kind, sampled from the mixed run together with the
+ *     state that they met there. 64 such states, a part, are copied to the side's own records, and
+ *     only the 64 calls are timed.
+ * How ratios are made of the times: ratios.h. Nothing is allocated or first touched inside a timed
+ * part.
+ *
+ * Included once by a program that has the sides of a kind (kind.h, side.h), what program.h asks for
+ * but its three functions, make(STREAM, EVENTS, N), and
+ *   same(a, b)     whether two plain records are equal
+ *   met(e)         looks at an event before plain C runs it
+ *   agrees(s, e)   whether what a side counted after an event is what plain C did
+ *   agree(s)       the same at the end of the run
+ *   print_answers  prints how plain C answered
+ */
+#include <stdio.h>
+#include <stdlib.h>
+#include <string.h>
+
+#include "timer.h"
+
+#define EVENTS 1000000u
+#define CHUNK 2000u
+#define PARTS 512u /* the most parts of a round */
+#define SITUATIONS (PARTS * BLOCK)
+#define ROUNDS 21u
+#define SIDES (sizeof sides / sizeof *sides)
+
+#include "ratios.h"
+
+struct situations {
+    size_t n;
+    EVENT event[SITUATIONS];
+    RECORD before[SITUATIONS];
+    struct plain_packet head[SITUATIONS];
+};
+
+static EVENT events[EVENTS];
+static struct situations situations[KINDS];
+static volatile uint64_t sink;
+
+static void differ(const char *name, const char *what, size_t number)
+{
+    fprintf(stderr, PROGRAM ": %s and plain C differ at %s %zu.\n", name, what, number);
+    exit(1);
+}
+
+/* Runs all sides step by step and compares answer, packet, state and counts with plain C's. */
+static void check_mix(void)
+{
+    for (size_t s = 0; s < SIDES; s++)
+        sides[s].fresh();
+    for (size_t i = 0; i < EVENTS; i++) {
+        const EVENT *e = &events[i];
+        met(e);
+        uint64_t sum = sides[0].mix(e, 1);
+        RECORD state = sides[0].record(QUEUE(e));
+        for (size_t s = 1; s < SIDES; s++)
+            if (sides[s].mix(e, 1) != sum || !same(sides[s].record(QUEUE(e)), state) || !agrees(s, e))
+                differ(sides[s].name, "event", i + 1);
+    }
+    for (size_t s = 1; s < SIDES; s++)
+        if (!agree(s))
+            differ(sides[s].name, "the rows after event", EVENTS);
+}
+
+/* Samples each kind evenly over the mixed run. Heads in one block stand at different places. */
+static void collect(void)
+{
+    static size_t taken[MOST_SLOTS]; /* by which block of departures, from 1 */
+    size_t total[KINDS] = {0}, seen[KINDS] = {0};
+    for (size_t i = 0; i < EVENTS; i++)
+        total[events[i].kind]++;
+    on_plain_fresh();
+    for (size_t i = 0; i < EVENTS; i++) {
+        uint8_t kind = events[i].kind;
+        uint32_t q = QUEUE(&events[i]), first = on_plain_queues[q].first;
+        struct situations *s = &situations[kind];
+        size_t block = s->n / BLOCK + 1;
+        bool due = s->n < SITUATIONS && s->n * total[kind] <= seen[kind]++ * SITUATIONS;
+        bool clash = kind == DEPARTURE && taken[first] == block;
+        if (due && !clash) {
+            s->event[s->n] = events[i];
+            s->before[s->n] = on_plain_queues[q];
+            s->head[s->n].handle = on_plain_handles[q][first];
+            s->head[s->n].size = on_plain_sizes[q][first];
+            s->n++;
+            if (kind == DEPARTURE)
+                taken[first] = block;
+        }
+        on_plain_mix(&events[i], 1);
+    }
+}
+
+/* Prepares the tables of a block of situations. */
+static void lend(const struct situations *s, size_t at)
+{
+    for (size_t i = at; i < at + BLOCK; i++) {
+        block_handles[s->before[i].first] = s->head[i].handle;
+        block_sizes[s->before[i].first] = s->head[i].size;
+    }
+}
+
+/* All sides must leave every state of every block as plain C does. */
+static void check_blocks(enum kind kind)
+{
+    const struct situations *s = &situations[kind];
+    for (size_t at = 0; at + BLOCK <= s->n; at += BLOCK) {
+        lend(s, at);
+        sides[0].load(&s->before[at]);
+        uint64_t sum = sides[0].block[kind](&s->event[at]);
+        for (size_t k = 1; k < SIDES; k++) {
+            sides[k].load(&s->before[at]);
+            if (sides[k].block[kind](&s->event[at]) != sum)
+                differ(sides[k].name, "a situation from", at);
+            for (size_t i = 0; i < BLOCK; i++)
+                if (!same(sides[k].loaded(i), sides[0].loaded(i)))
+                    differ(sides[k].name, "situation", at + i);
+        }
+    }
+}
+
+/* Both answer the number of parts. */
+static size_t time_mix(size_t round)
+{
+    for (size_t s = 0; s < SIDES; s++)
+        sides[s].fresh();
+    for (size_t part = 0; part < EVENTS / CHUNK; part++)
+        for (size_t turn = 0; turn < SIDES; turn++) {
+            size_t s = (turn + part + round) % SIDES;
+            uint64_t begin = timer();
+            sink += sides[s].mix(&events[part * CHUNK], CHUNK);
+            times[s][part][round] = timer() - begin;
+        }
+    return EVENTS / CHUNK;
+}
+
+static size_t time_blocks(enum kind kind, size_t round)
+{
+    const struct situations *c = &situations[kind];
+    for (size_t part = 0; part < c->n / BLOCK; part++) {
+        size_t at = part * BLOCK;
+        lend(c, at);
+        for (size_t turn = 0; turn < SIDES; turn++) {
+            size_t s = (turn + part + round) % SIDES;
+            sides[s].load(&c->before[at]);
+            uint64_t begin = timer();
+            sink += sides[s].block[kind](&c->event[at]);
+            times[s][part][round] = timer() - begin;
+        }
+    }
+    return c->n / BLOCK;
+}
+
+/* Prints how many events of each kind there are, and how plain C answered. */
+static void print_events(void)
+{
+    size_t total[KINDS] = {0};
+    for (size_t i = 0; i < EVENTS; i++)
+        total[events[i].kind]++;
+    printf("events %s %u %zu %zu %zu %u\n", stream->name, EVENTS, total[ARRIVAL],
+           total[DEPARTURE], total[TICK], stream->slots);
+    print_answers();
+    printf("rounds %s %u\n", stream->name, ROUNDS);
+}
+
+static void prepare(void)
+{
+    make(stream, events, EVENTS);
+}
+
+static void run_times(void)
+{
+    static const char *const names[KINDS] = {"arrival", "departure", "tick"};
+    size_t parts = 0;
+    check_mix();
+    print_events();
+    collect();
+    for (int kind = 0; kind < KINDS; kind++)
+        check_blocks((enum kind)kind);
+    for (size_t round = 0; round < ROUNDS; round++)
+        parts = time_mix(round);
+    print_ratios(stream->name, "mix", parts);
+    for (int kind = 0; kind < KINDS; kind++) {
+        for (size_t round = 0; round < ROUNDS; round++)
+            parts = time_blocks((enum kind)kind, round);
+        print_ratios(stream->name, names[kind], parts);
+    }
+}
+
+static void run_side(size_t s)
+{
+    sides[s].fresh();
+    sink += sides[s].mix(events, EVENTS);
+}
+
+#include "program.h"
