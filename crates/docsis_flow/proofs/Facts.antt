@@ -1,11 +1,13 @@
 -- What the numbers of a record that is formed are, as facts that `omega` reads.
 use mathlib.Core.Path.{_≡_, refl}
-use mathlib.Core.Bool.{Bool, true, false, _&&_, _||_}
+use mathlib.Core.Bool.{Bool, true, false, not, _&&_, _||_, and-false}
+use mathlib.Core.Logic.{_≢_}
 use mathlib.Core.List.{List, _++_}
-use Prim.Native.Nat.{ℕ, _*_, _≤_, _<_}
+use Prim.Native.Nat.{ℕ, _+_, _-_, _*_, _≤_, _<_}
+use native.Mathlib.Omega.{arith}
 use lib.Dec.{eqb, leb}
 use lib.ListN.{getD}
-use borrow.Author.Tests.{le-leb, leb-true, lt-ltb, ltb-true}
+use borrow.Author.Tests.{eq-eqb, eqb-false, eqb-true, le-leb, leb-true, lt-leb, lt-ltb, ltb-true, ne-eqb, not-false, not-true}
 use Rattle.units.specs.Kinds.{fastest, none, slowest}
 use Rattle.laws.proofs.Tests.{and-left, and-right}
 use Rattle.pie.specs.Constants.{largest, latest, longest, mostVerdicts}
@@ -121,13 +123,33 @@ pub well-formed : (s : State) (row : List ℕ) → formed s ≡ true → total r
 unfolding wellFormed
 well-formed s row e h = rw (e, le-leb (total row) mostVerdicts h)
 
--- tested the other way round
-pub by-parts : (s : State) (row : List ℕ) (a b : Bool) → a ≡ leb (total row) mostVerdicts → b ≡ formed s → (a && b) ≡ wellFormed s row
-unfolding wellFormed
-by-parts s row a b e f = rw (← e, ← f) (turned a b)
-  where
-    turned : (x y : Bool) → (x && y) ≡ (y && x)
-    turned true true = refl
-    turned true false = refl
-    turned false true = refl
-    turned false false = refl
+-- ── the two parts, tested one after the other ──
+
+module _ (s : State) (row : List ℕ) where
+  pub row-fails : (a : Bool) → a ≡ leb (total row) mostVerdicts → not a ≡ true → wellFormed s row ≡ false
+  unfolding wellFormed
+  row-fails a e h = rw (← e, not-true a h, and-false)
+
+  pub record-fails : (b : Bool) → b ≡ formed s → not b ≡ true → wellFormed s row ≡ false
+  unfolding wellFormed
+  record-fails b e h = rw (← e, not-true b h)
+
+  pub both-pass : (a b : Bool) → a ≡ leb (total row) mostVerdicts → b ≡ formed s → not a ≡ false → not b ≡ false → wellFormed s row ≡ true
+  unfolding wellFormed
+  both-pass a b e f h k = rw (← e, ← f, not-false a h, not-false b k)
+
+-- what the row leaves of 2^48 + 1
+module _ (row : List ℕ) (n : ℕ) (left : n ≡ mostVerdicts + 1 - total row) where
+  pub counts-over : (s : State) → eqb n 0 ≡ true → wellFormed s row ≡ false
+  unfolding wellFormed
+  counts-over s h = rw (lt-leb (total row) mostVerdicts (omega (arith, eqb-true n 0 h)), and-false)
+
+  pub counts-fit : eqb n 0 ≡ false → total row ≤ mostVerdicts
+  counts-fit h = let some : n ≢ 0 = eqb-false n 0 h in omega arith
+
+  pub counts-full : total row ≤ mostVerdicts → eqb n 1 ≡ eqb (total row) mostVerdicts
+  counts-full fit = go (eqb (total row) mostVerdicts) refl
+    where
+      go : (b : Bool) → eqb (total row) mostVerdicts ≡ b → eqb n 1 ≡ b
+      go true e = eq-eqb n 1 (omega (arith, eqb-true (total row) mostVerdicts e))
+      go false e = let less : total row ≢ mostVerdicts = eqb-false (total row) mostVerdicts e in ne-eqb n 1 (omega arith)

@@ -2,6 +2,7 @@
 use crate::Outcome;
 use crate::Replied;
 use crate::State;
+use crate::well_formed::counts_left;
 use docsis_pie::Decided;
 use docsis_pie::DocsisPie;
 use pie::LARGEST;
@@ -9,8 +10,6 @@ use pie::LATEST;
 use pie::Verdict;
 use refusals::Accepted;
 use refusals::Refusal;
-use refusals::counts_fit;
-use refusals::counts_full;
 use ring::store;
 use units::Bytes;
 use units::Micros;
@@ -38,7 +37,12 @@ impl State {
     ) -> Accepted
         ensures { λ r. ⌜ refusalIn r ≡ arrivalRefusal self row handles sizes (clock .0) (size .0) ⌝ }
     {
-        let formed = counts_fit(row) & self.formed();
+        let left = counts_left(row);
+        let over = left == 0;
+        if over {
+            return Accepted::No(Refusal::Malformed);
+        }
+        let formed = self.formed();
         if !formed {
             return Accepted::No(Refusal::Malformed);
         }
@@ -55,7 +59,7 @@ impl State {
         if wrong_size {
             return Accepted::No(Refusal::Size);
         }
-        let full = counts_full(row);
+        let full = left == 1;
         if full {
             return Accepted::No(Refusal::Counts);
         }

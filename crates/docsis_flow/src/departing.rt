@@ -25,7 +25,11 @@ impl State {
         ensures { λ r. ⌜ refusalIn r
             ≡ departureRefusal self row handles (length (now (sizes .entry))) (clock .0) (headOf self (now (sizes .entry))) ⌝ }
     {
-        let formed = counts_fit(row) & self.formed();
+        let counted = counts_fit(row);
+        if !counted {
+            return Accepted::No(Refusal::Malformed);
+        }
+        let formed = self.formed();
         if !formed {
             return Accepted::No(Refusal::Malformed);
         }

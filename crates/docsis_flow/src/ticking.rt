@@ -21,7 +21,11 @@ impl State {
     fn check_tick(self, row: [u64; 5], clock: Micros) -> Accepted
         ensures { λ r. ⌜ refusalIn r ≡ tickRefusal self row (clock .0) ⌝ }
     {
-        let formed = counts_fit(row) & self.formed();
+        let counted = counts_fit(row);
+        if !counted {
+            return Accepted::No(Refusal::Malformed);
+        }
+        let formed = self.formed();
         if !formed {
             return Accepted::No(Refusal::Malformed);
         }

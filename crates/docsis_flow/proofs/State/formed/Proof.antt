@@ -2,15 +2,15 @@
 use borrow.Author.Needs.{needs}
 use borrow.Author.Tests.{le-leb, leb-true, lt-ltb, not-false, not-true}
 use mathlib.Core.Path.{_≡_, ap, sym, _∙_}
-use mathlib.Core.Bool.{Bool, true, false, not, _&&_, _||_, and-true, false≢true}
-use mathlib.Core.List.{List, [], _∷_, foldl}
+use mathlib.Core.Bool.{Bool, true, false, not, _&&_, _||_, false≢true}
+use mathlib.Core.List.{List, [], _∷_}
 use Prim.Native.Nat.{_*_, _≤_}
 use native.Mathlib.Omega.{arith}
 use lib.Dec.{eqb, leb, ltb}
 use Rattle.units.specs.Kinds.{none}
 use Rattle.pie.specs.Constants.{largest, latest, longest}
 use Rattle.laws.specs.Tests.{all}
-use Rattle.laws.proofs.TestLists.{all-at, at-from, false-of, first-of}
+use Rattle.laws.proofs.TestLists.{all-at, false-of}
 use Rattle.docsis_pie.specs.Constants.{active, fullAllowance, high, mostProb, quiescent, resetTimeout}
 use Rattle.docsis_flow.specs.State.{formed, settingsConditions}
 use Rattle.docsis_flow.specs.declared.State.{State}
@@ -18,9 +18,9 @@ use Rattle.docsis_flow.proofs.Facts.{Facts, facts}
 use Rattle.docsis_flow.proofs.State.formed.Statement.{statement}
 use Rattle.docsis_flow.proofs.State.formed.Tie as tie
 
--- the tests that stand beside the settings'
-abbrev tests : State → List Bool
-tests s =
+-- the tests, with what `in_range` answered
+abbrev tests : State → (inRange : Bool) → List Bool
+tests s inRange =
     leb (s .last .0) (s .clock .0)
     ∷ leb (s .clock .0) latest
     ∷ leb (s .pie .prob .0) mostProb
@@ -33,6 +33,7 @@ tests s =
     ∷ leb (s .backlog .count) (s .settings .slots)
     ∷ leb (s .backlog .count) (s .backlog .bytes .0)
     ∷ leb (s .backlog .bytes .0) (s .settings .buffer .0)
+    ∷ inRange
     ∷ []
 
 -- what `phase_fits` tests
@@ -57,7 +58,7 @@ module _ (s : State) where
         le-leb _ _ (f .sustained-high),
       )
 
-  tests-pass : Facts s → foldl _&&_ (all (settingsConditions (s .settings))) (tests s) ≡ true
+  tests-pass : Facts s → all (tests s (all (settingsConditions (s .settings)))) ≡ true
   tests-pass f =
       rw (
         settings-pass f,
@@ -79,19 +80,19 @@ module _ (s : State) where
 part : (s : State) (b p : Bool) → (Facts s → p ≡ true) → b ≡ p → not b ≡ true → false ≡ formed s
 part s b p h e f = false-of (formed s) (λ w. false≢true (sym (not-true b f) ∙ e ∙ h (facts s w)))
 
--- where one of the tests fails, with what `in_range` answered
-tests-fail : (s : State) (r : Bool) → r ≡ all (settingsConditions (s .settings)) → not (foldl _&&_ r (tests s)) ≡ true → false ≡ formed s
-tests-fail s r e = part s _ _ (tests-pass s) (ap (λ q. foldl _&&_ q (tests s)) e)
+-- where one of the tests fails
+tests-fail : (s : State) (r : Bool) → r ≡ all (settingsConditions (s .settings)) → not (all (tests s r)) ≡ true → false ≡ formed s
+tests-fail s r e = part s _ _ (tests-pass s) (ap (λ q. all (tests s q)) e)
 
 -- where all of them pass, the phase decides
-tests-hold : (s : State) (r m : Bool) → r ≡ all (settingsConditions (s .settings)) → foldl _&&_ r (tests s) ≡ true →
+tests-hold : (s : State) (r m : Bool) → r ≡ all (settingsConditions (s .settings)) → all (tests s r) ≡ true →
     s .backlog .bytes .0 ≤ largest * s .backlog .count → m ≡ phased s → m ≡ formed s
 unfolding formed
 tests-hold s r m e passed h k =
-    let b = at-from r (tests s) passed in
+    let b = all-at (tests s r) passed in
     simp (
       ← e,
-      first-of r (tests s) passed,
+      b 12,
       b 0,
       b 1,
       b 2,
@@ -105,28 +106,28 @@ tests-hold s r m e passed h k =
       b 10,
       b 11,
       le-leb (s .backlog .bytes .0) (largest * s .backlog .count) h,
-      and-true,
     ) k
 
 in-range-requires : tie.Need-in-range-requires
 in-range-requires c κs = search needs
 
+abbrev at-start : tie.After-in-range → tie.Start
+at-start r = r .before .before .before .before .before .before .before .before .before .before .before .before .before .before .before .before .before .before .before .before
+
 returns : tie.Need-returns
 returns c =
-    let r = c .before .before .before .before .before .before .before .before .before .before .before .before .before .before .before .before .before in
-    tests-fail (r .before .before .before .before .args .self) (r .in-range .result) (r .in-range .ensures) (c .if1 .taken)
+    let r = c .before in tests-fail (at-start r .args .self) (r .in-range .result) (r .in-range .ensures) (c .if1 .taken)
 
 mul-if2 : tie.Need-mul-if2
 mul-if2 c =
     let e1 = c .before in
-    let r = e1 .before .before .before .before .before .before .before .before .before .before .before .before .before .before .before .before .before in
-    let s = r .before .before .before .before .args .self in
-    let passed = not-false (foldl _&&_ (r .in-range .result) (tests s)) (e1 .if1 .left) in
-    let settings = sym (r .in-range .ensures) ∙ first-of (r .in-range .result) (tests s) passed in
+    let r = e1 .before in
+    let s = at-start r .args .self in
+    let b = all-at (tests s (r .in-range .result)) (not-false _ (e1 .if1 .left)) in
     omega (
       arith,
-      leb-true (s .backlog .count) (s .settings .slots) (at-from (r .in-range .result) (tests s) passed 9),
-      leb-true (s .settings .slots) 65536 (all-at (settingsConditions (s .settings)) settings 5),
+      leb-true (s .backlog .count) (s .settings .slots) (b 9),
+      leb-true (s .settings .slots) 65536 (all-at (settingsConditions (s .settings)) (sym (r .in-range .ensures) ∙ b 12) 5),
     )
 
 returns-2 : tie.Need-returns-2
@@ -139,9 +140,9 @@ returns-3 : tie.Need-returns-3
 returns-3 c =
     let e2 = c .before in
     let e1 = e2 .before .before .before in
-    let r = e1 .before .before .before .before .before .before .before .before .before .before .before .before .before .before .before .before .before in
+    let r = e1 .before in
     tests-hold
-    (r .before .before .before .before .args .self)
+    (at-start r .args .self)
     (r .in-range .result)
     (c .phase-fits .result)
     (r .in-range .ensures)
