@@ -2,40 +2,21 @@
  * comments are the rules' and refusals' own. */
 #include "plain.h"
 
+#include "plain_rules.h"
+
 #include <string.h>
 
-#define LIMIT (UINT64_C(1) << 48)    /* latest clock, and most arrivals counted */
-#define WHOLE (UINT64_C(1) << 32)    /* probability one */
-#define TENTH 429496730u             /* the first probability not below one tenth */
 #define FORCED UINT64_C(36507222016) /* 8.5: the sum of probabilities that is early by itself */
-#define LONGEST 10000000u            /* longest delay and rate sample */
 #define PERIOD 15000u
 #define ALLOWANCE 150000u
 #define THRESHOLD 16384u /* bytes of one rate measurement */
 #define SMALL 3000u      /* bytes of a small queue */
-#define LARGEST 65535u   /* largest packet */
-
-/* The place `at` of a ring, for `at` below 2 * slots; by a remainder where REMAINDER is defined. */
-static inline uint32_t place(uint32_t at, uint32_t slots)
-{
-#ifdef REMAINDER
-    return at % slots;
-#else
-    return at < slots ? at : at - slots;
-#endif
-}
 
 static bool settings_in_range(uint32_t target, uint32_t buffer, uint32_t slots)
 {
     return 1000 <= target && target <= 100000
         && 1 <= buffer && buffer <= 16777216
         && 1 <= slots && slots <= 65536;
-}
-
-static uint64_t arrivals_counted(const struct plain_state *s)
-{
-    const uint64_t *v = s->verdicts;
-    return v[0] + v[1] + v[2] + v[3] + v[4];
 }
 
 /* Each count is tested before their sum, so that it does not wrap; here and not in a function of
@@ -58,7 +39,7 @@ static bool well_formed(const struct plain_state *s)
         && (s->measuring ? 0 < s->count : s->start == 0 && s->counted == 0)
         && s->verdicts[0] <= LIMIT && s->verdicts[1] <= LIMIT && s->verdicts[2] <= LIMIT
         && s->verdicts[3] <= LIMIT && s->verdicts[4] <= LIMIT
-        && arrivals_counted(s) <= LIMIT;
+        && arrivals_counted(s->verdicts) <= LIMIT;
 }
 
 uint32_t plain_fresh(struct plain_state *s, uint32_t target, uint32_t buffer, uint32_t slots,
@@ -110,7 +91,7 @@ uint32_t plain_arrival(struct plain_state *s, uint32_t *handles, size_t handles_
         return PLAIN_REFUSED_CLOCK; /* 4 */
     if (size == 0 || LARGEST < size)
         return PLAIN_REFUSED_SIZE; /* 7 */
-    if (arrivals_counted(s) == LIMIT)
+    if (arrivals_counted(s->verdicts) == LIMIT)
         return PLAIN_REFUSED_COUNTS; /* 8 */
 
     uint32_t verdict = decide(s, size, ecn, u);
@@ -157,12 +138,10 @@ uint32_t plain_departure(struct plain_state *s, const uint32_t *handles, size_t 
     if (s->count == 0)
         return PLAIN_REFUSED_EMPTY; /* 6 */
     uint32_t size = sizes[s->first];
-    if (size == 0 || LARGEST < size || s->bytes < size)
+    if (head_refused(size, s->count, s->bytes))
         return PLAIN_REFUSED_HEAD; /* 9 */
     uint32_t count = s->count - 1;
     uint32_t bytes = s->bytes - size;
-    if (bytes < count || LARGEST * count < bytes)
-        return PLAIN_REFUSED_HEAD; /* 9 */
 
     packet->handle = handles[s->first];
     packet->size = size;

@@ -2,30 +2,21 @@
  * refusals' own. */
 #include "plain_modem.h"
 
+#include "plain_rules.h"
+
 #include <string.h>
 
-#define LIMIT (UINT64_C(1) << 48)     /* latest clock, and most arrivals counted */
-#define WHOLE (UINT64_C(1) << 32)     /* probability one */
 #define MOST UINT64_C(58411555225)    /* 13.6: the greatest probability */
-#define TENTH 429496730u              /* the first probability not below one tenth */
 #define CAP 85899345                  /* 0.02 */
 #define LOW UINT64_C(3650722201)      /* 0.85 */
 #define HIGH UINT64_C(36507222016)    /* 8.5 */
 #define FASTEST 1250000000u           /* greatest rate */
-#define LONGEST 10000000u             /* longest delay */
 #define LOW_DELAY 5000u
 #define HIGH_DELAY 200000u
 #define PERIOD 16000u
 #define ALLOWANCE 142000u
 #define TIMEOUT 1000000u              /* longest reset time */
 #define MEAN 1024u                    /* bytes of a mean packet */
-#define LARGEST 65535u                /* largest packet */
-
-/* The place `at` of a ring, for `at` below 2 * slots. */
-static inline uint32_t place(uint32_t at, uint32_t slots)
-{
-    return at < slots ? at : at - slots;
-}
 
 static bool settings_in_range(uint32_t target, uint32_t buffer, uint32_t slots, uint32_t peak,
                               uint32_t sustained)
@@ -35,11 +26,6 @@ static bool settings_in_range(uint32_t target, uint32_t buffer, uint32_t slots, 
         && 1 <= slots && slots <= 65536
         && 1 <= peak && peak <= FASTEST
         && 1 <= sustained && sustained <= FASTEST;
-}
-
-static uint64_t arrivals_counted(const uint64_t *row)
-{
-    return row[0] + row[1] + row[2] + row[3] + row[4];
 }
 
 /* Each count is tested before their sum, so that it does not wrap. */
@@ -177,12 +163,10 @@ uint32_t plain_modem_departure(struct plain_modem *s, uint64_t (*counts)[5], uin
     if (s->count == 0)
         return PLAIN_REFUSED_EMPTY; /* 6 */
     uint32_t size = sizes[s->first];
-    if (size == 0 || LARGEST < size || s->bytes < size)
+    if (head_refused(size, s->count, s->bytes))
         return PLAIN_REFUSED_HEAD; /* 9 */
     uint32_t count = s->count - 1;
     uint32_t bytes = s->bytes - size;
-    if (bytes < count || LARGEST * count < bytes)
-        return PLAIN_REFUSED_HEAD; /* 9 */
 
     packet->handle = handles[s->first];
     packet->size = size;

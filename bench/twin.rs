@@ -1,18 +1,17 @@
 //! The rules of document 01, as changed by the requests that have landed, in idiomatic Rust, for
 //! comparison with the library and plain C. Numbers in comments are the rules' and refusals' own.
 
-use std::slice;
+#[path = "twin_rules.rs"]
+mod rules;
 
-const LIMIT: u64 = 1 << 48; // latest clock, and most arrivals counted
-const WHOLE: u64 = 1 << 32; // probability one
-const TENTH: u64 = 429_496_730; // the first probability not below one tenth
+use rules::*;
+
 const FORCED: u64 = 36_507_222_016; // 8.5: the sum of probabilities that is early by itself
 const LONGEST: u32 = 10_000_000; // longest delay and rate sample
 const PERIOD: u32 = 15_000;
 const ALLOWANCE: u32 = 150_000;
 const THRESHOLD: u32 = 16_384; // bytes of one rate measurement
 const SMALL: u32 = 3_000; // bytes of a small queue
-const LARGEST: u32 = 65_535; // largest packet
 
 /// The fields of `struct plain_state`, in its layout, so that one record serves both.
 #[repr(C)]
@@ -37,13 +36,6 @@ pub struct State {
     verdicts: [u64; 5],
 }
 
-#[repr(C)]
-#[derive(Default)]
-pub struct Packet {
-    handle: u32,
-    size: u32,
-}
-
 #[derive(Clone, Copy)]
 pub enum Verdict {
     Enqueued,
@@ -51,25 +43,6 @@ pub enum Verdict {
     DroppedBytes,
     DroppedSlots,
     DroppedEarly,
-}
-
-#[derive(Clone, Copy)]
-pub enum Refusal {
-    Settings = 1,
-    State = 2,
-    Tables = 3,
-    Clock = 4,
-    Early = 5,
-    Empty = 6,
-    Size = 7,
-    Counts = 8,
-    Head = 9,
-}
-
-fn settings_in_range(target: u32, buffer: u32, slots: u32) -> bool {
-    (1_000..=100_000).contains(&target)
-        && (1..=16_777_216).contains(&buffer)
-        && (1..=65_536).contains(&slots)
 }
 
 /// Rule 3 of a tick: k by the probability before it.
@@ -112,15 +85,6 @@ impl State {
         })
     }
 
-    fn arrivals_counted(&self) -> u64 {
-        self.verdicts.iter().sum()
-    }
-
-    /// Each count is tested first, so that the sum does not wrap.
-    fn counts_fit(&self) -> bool {
-        self.verdicts.iter().all(|&n| n <= LIMIT) && self.arrivals_counted() <= LIMIT
-    }
-
     fn well_formed(&self) -> bool {
         settings_in_range(self.target, self.buffer, self.slots)
             && self.last <= self.clock
@@ -141,33 +105,16 @@ impl State {
                 true => self.count > 0,
                 false => self.start == 0 && self.counted == 0,
             }
-            && self.counts_fit()
+            && counts_fit(&self.verdicts)
     }
 
-    /// Refusals 2 and 4.
-    fn check(&self, clock: u64) -> Result<(), Refusal> {
-        if !self.well_formed() {
-            return Err(Refusal::State);
+    /// Refusal 2.
+    #[inline(always)]
+    fn check(&self) -> Result<(), Refusal> {
+        match self.well_formed() {
+            true => Ok(()),
+            false => Err(Refusal::State),
         }
-        if clock < self.clock || clock > LIMIT {
-            return Err(Refusal::Clock);
-        }
-        Ok(())
-    }
-
-    /// Refusals 2, 3 and 4.
-    fn check_tables(&self, handles: &[u32], sizes: &[u32], clock: u64) -> Result<(), Refusal> {
-        if !self.well_formed() {
-            return Err(Refusal::State);
-        }
-        let slots = self.slots as usize;
-        if handles.len() != slots || sizes.len() != slots {
-            return Err(Refusal::Tables);
-        }
-        if clock < self.clock || clock > LIMIT {
-            return Err(Refusal::Clock);
-        }
-        Ok(())
     }
 
     /// Rules 1 to 5 of an arrival, and then what the probability decides.
@@ -212,13 +159,10 @@ impl State {
         ecn: bool,
         u: u32,
     ) -> Result<Verdict, Refusal> {
-        self.check_tables(handles, sizes, clock)?;
-        if size == 0 || size > LARGEST {
-            return Err(Refusal::Size);
-        }
-        if self.arrivals_counted() == LIMIT {
-            return Err(Refusal::Counts);
-        }
+        self.check()?;
+        check_tables(self.slots, handles, sizes)?;
+        check_clock(self.clock, clock)?;
+        check_arrival(size, &self.verdicts)?;
         let verdict = self.decide(size, ecn, u);
         if matches!(verdict, Verdict::Enqueued | Verdict::Marked) {
             let tail = ((self.first + self.count) % self.slots) as usize;
@@ -232,31 +176,17 @@ impl State {
         Ok(verdict)
     }
 
-    /// Whether the head may have this size: refusal 9 otherwise.
-    fn head_fits(&self, size: u32) -> bool {
-        if size == 0 || size > LARGEST || size > self.bytes {
-            return false;
-        }
-        let (count, bytes) = (self.count - 1, self.bytes - size);
-        count <= bytes && bytes <= LARGEST * count
-    }
-
     fn departure(&mut self, handles: &[u32], sizes: &[u32], clock: u64) -> Result<Packet, Refusal> {
-        self.check_tables(handles, sizes, clock)?;
-        if self.count == 0 {
-            return Err(Refusal::Empty);
-        }
-        let head = self.first as usize;
-        let (handle, size) = (handles[head], sizes[head]);
-        if !self.head_fits(size) {
-            return Err(Refusal::Head);
-        }
+        self.check()?;
+        check_tables(self.slots, handles, sizes)?;
+        check_clock(self.clock, clock)?;
+        let packet = head((self.first, self.count, self.bytes), handles, sizes)?;
         self.first = (self.first + 1) % self.slots;
         self.count -= 1;
-        self.bytes -= size;
+        self.bytes -= packet.size;
         self.clock = clock;
-        self.measure(size);
-        Ok(Packet { handle, size })
+        self.measure(packet.size);
+        Ok(packet)
     }
 
     /// The departure rate after a packet of this size has left.
@@ -287,7 +217,8 @@ impl State {
     }
 
     fn tick(&mut self, clock: u64) -> Result<(), Refusal> {
-        self.check(clock)?;
+        self.check()?;
+        check_clock(self.clock, clock)?;
         if clock < self.last + u64::from(PERIOD) {
             return Err(Refusal::Early);
         }
@@ -306,11 +237,7 @@ impl State {
     }
 }
 
-// The four calls for C: pointers and lengths become slices, and answers the header's numbers.
-
-fn refused(refusal: Refusal) -> u32 {
-    100 + refusal as u32
-}
+// The four calls for C.
 
 #[no_mangle]
 pub extern "C" fn twin_fresh(
@@ -320,16 +247,7 @@ pub extern "C" fn twin_fresh(
     slots: u32,
     clock: u64,
 ) -> u32 {
-    match State::fresh(target, buffer, slots, clock) {
-        Ok(fresh) => {
-            *state = fresh;
-            0
-        }
-        Err(refusal) => {
-            *state = State::default();
-            refused(refusal)
-        }
-    }
+    handed(State::fresh(target, buffer, slots, clock), state)
 }
 
 /// # Safety
@@ -347,12 +265,9 @@ pub unsafe extern "C" fn twin_arrival(
     ecn: bool,
     u: u32,
 ) -> u32 {
-    let handles = slice::from_raw_parts_mut(handles, handles_len);
-    let sizes = slice::from_raw_parts_mut(sizes, sizes_len);
-    match state.arrival(handles, sizes, clock, handle, size, ecn, u) {
-        Ok(verdict) => verdict as u32,
-        Err(refusal) => refused(refusal),
-    }
+    let (handles, sizes) = tables_mut((handles, handles_len), (sizes, sizes_len));
+    let verdict = state.arrival(handles, sizes, clock, handle, size, ecn, u);
+    answer(verdict.map(|verdict| verdict as u32))
 }
 
 /// # Safety
@@ -367,24 +282,11 @@ pub unsafe extern "C" fn twin_departure(
     clock: u64,
     packet: &mut Packet,
 ) -> u32 {
-    let handles = slice::from_raw_parts(handles, handles_len);
-    let sizes = slice::from_raw_parts(sizes, sizes_len);
-    match state.departure(handles, sizes, clock) {
-        Ok(head) => {
-            *packet = head;
-            0
-        }
-        Err(refusal) => {
-            *packet = Packet::default();
-            refused(refusal)
-        }
-    }
+    let (handles, sizes) = tables((handles, handles_len), (sizes, sizes_len));
+    handed(state.departure(handles, sizes, clock), packet)
 }
 
 #[no_mangle]
 pub extern "C" fn twin_tick(state: &mut State, clock: u64) -> u32 {
-    match state.tick(clock) {
-        Ok(()) => 0,
-        Err(refusal) => refused(refusal),
-    }
+    answer(state.tick(clock).map(|()| 0))
 }

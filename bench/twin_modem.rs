@@ -1,12 +1,12 @@
 //! The cable modem's rules (docs/DOCSIS-PIE.md) in idiomatic Rust, for comparison with the library
 //! and plain C. Numbers in comments are the rules' and refusals' own.
 
-use std::slice;
+#[path = "twin_rules.rs"]
+mod rules;
 
-const LIMIT: u64 = 1 << 48; // latest clock, and most arrivals counted
-const WHOLE: u64 = 1 << 32; // probability one
+use rules::*;
+
 const MOST: u64 = 58_411_555_225; // 13.6: the greatest probability
-const TENTH: u64 = 429_496_730; // the first probability not below one tenth
 const CAP: i64 = 85_899_345; // 0.02
 const LOW: u64 = 3_650_722_201; // 0.85
 const HIGH: u64 = 36_507_222_016; // 8.5
@@ -17,15 +17,14 @@ const PERIOD: u32 = 16_000;
 const ALLOWANCE: u32 = 142_000;
 const TIMEOUT: u32 = 1_000_000; // longest reset time
 const MEAN: u32 = 1_024; // bytes of a mean packet
-const LARGEST: u32 = 65_535; // largest packet
 const FLOWS: usize = 16;
 
 const INACTIVE: u32 = 0;
 const QUIESCENT: u32 = 1;
 const ACTIVE: u32 = 2;
 
-type Row = [u64; 5];
-type Counts = [Row; FLOWS];
+type Row = Counts;
+type Table = [Row; FLOWS];
 
 /// The fields of `struct plain_modem`, in its layout, so that one record serves both.
 #[repr(C)]
@@ -49,33 +48,12 @@ pub struct Modem {
     bytes: u32,
 }
 
-#[repr(C)]
-#[derive(Default)]
-pub struct Packet {
-    handle: u32,
-    size: u32,
-}
-
 #[derive(Clone, Copy)]
 pub enum Verdict {
     Enqueued = 0,
     DroppedBytes = 2,
     DroppedSlots = 3,
     DroppedEarly = 4,
-}
-
-#[derive(Clone, Copy)]
-pub enum Refusal {
-    Settings = 1,
-    State = 2,
-    Tables = 3,
-    Clock = 4,
-    Early = 5,
-    Empty = 6,
-    Size = 7,
-    Counts = 8,
-    Head = 9,
-    Flow = 10,
 }
 
 /// Rule 4 of a tick: k by the probability before it.
@@ -110,20 +88,9 @@ fn next_probability(before: u64, delay: u32, old: u32, target: u32) -> u64 {
     p.clamp(0, MOST as i64) as u64 // 8
 }
 
-fn arrivals_counted(row: &Row) -> u64 {
-    row.iter().sum()
-}
-
-/// Each count is tested first, so that the sum does not wrap.
-fn counts_fit(row: &Row) -> bool {
-    row.iter().all(|&n| n <= LIMIT) && arrivals_counted(row) <= LIMIT
-}
-
 impl Modem {
     fn settings_in_range(&self) -> bool {
-        (1_000..=100_000).contains(&self.target)
-            && (1..=16_777_216).contains(&self.buffer)
-            && (1..=65_536).contains(&self.slots)
+        settings_in_range(self.target, self.buffer, self.slots)
             && (1..=1_250_000_000).contains(&self.peak)
             && (1..=1_250_000_000).contains(&self.sustained)
     }
@@ -148,24 +115,13 @@ impl Modem {
             && counts_fit(row)
     }
 
-    /// Refusal 4.
-    fn check_clock(&self, clock: u64) -> Result<(), Refusal> {
-        match clock < self.clock || clock > LIMIT {
-            true => Err(Refusal::Clock),
-            false => Ok(()),
+    /// Refusal 2.
+    #[inline(always)]
+    fn check(&self, row: &Row) -> Result<(), Refusal> {
+        match self.well_formed(row) {
+            true => Ok(()),
+            false => Err(Refusal::State),
         }
-    }
-
-    /// Refusals 2, 3 and 4.
-    fn check(&self, row: &Row, handles: &[u32], sizes: &[u32], clock: u64) -> Result<(), Refusal> {
-        if !self.well_formed(row) {
-            return Err(Refusal::State);
-        }
-        let slots = self.slots as usize;
-        if handles.len() != slots || sizes.len() != slots {
-            return Err(Refusal::Tables);
-        }
-        self.check_clock(clock)
     }
 
     /// Rules 1 to 3 of an arrival.
@@ -222,13 +178,10 @@ impl Modem {
         size: u32,
         u: u32,
     ) -> Result<Verdict, Refusal> {
-        self.check(row, handles, sizes, clock)?;
-        if size == 0 || size > LARGEST {
-            return Err(Refusal::Size);
-        }
-        if arrivals_counted(row) == LIMIT {
-            return Err(Refusal::Counts);
-        }
+        self.check(row)?;
+        check_tables(self.slots, handles, sizes)?;
+        check_clock(self.clock, clock)?;
+        check_arrival(size, row)?;
         let verdict = self.decide(size, u);
         if let Verdict::Enqueued = verdict {
             let tail = ((self.first + self.count) % self.slots) as usize;
@@ -242,15 +195,6 @@ impl Modem {
         Ok(verdict)
     }
 
-    /// Whether the head may have this size: refusal 9 otherwise.
-    fn head_fits(&self, size: u32) -> bool {
-        if size == 0 || size > LARGEST || size > self.bytes {
-            return false;
-        }
-        let (count, bytes) = (self.count - 1, self.bytes - size);
-        count <= bytes && bytes <= LARGEST * count
-    }
-
     fn departure(
         &mut self,
         row: &Row,
@@ -258,20 +202,15 @@ impl Modem {
         sizes: &[u32],
         clock: u64,
     ) -> Result<Packet, Refusal> {
-        self.check(row, handles, sizes, clock)?;
-        if self.count == 0 {
-            return Err(Refusal::Empty);
-        }
-        let head = self.first as usize;
-        let (handle, size) = (handles[head], sizes[head]);
-        if !self.head_fits(size) {
-            return Err(Refusal::Head);
-        }
+        self.check(row)?;
+        check_tables(self.slots, handles, sizes)?;
+        check_clock(self.clock, clock)?;
+        let packet = head((self.first, self.count, self.bytes), handles, sizes)?;
         self.first = (self.first + 1) % self.slots;
         self.count -= 1;
-        self.bytes -= size;
+        self.bytes -= packet.size;
         self.clock = clock;
-        Ok(Packet { handle, size })
+        Ok(packet)
     }
 
     /// Rule 1 of a tick.
@@ -301,10 +240,8 @@ impl Modem {
     }
 
     fn tick(&mut self, row: &Row, clock: u64, credits: u32) -> Result<(), Refusal> {
-        if !self.well_formed(row) {
-            return Err(Refusal::State);
-        }
-        self.check_clock(clock)?;
+        self.check(row)?;
+        check_clock(self.clock, clock)?;
         if clock < self.last + u64::from(PERIOD) {
             return Err(Refusal::Early);
         }
@@ -324,13 +261,9 @@ impl Modem {
     }
 }
 
-// The calls for C: pointers and lengths become slices, and answers the header's numbers.
+// The calls for C.
 
-fn refused(refusal: Refusal) -> u32 {
-    100 + refusal as u32
-}
-
-fn row_of(counts: &mut Counts, flow: u32) -> Result<&mut Row, Refusal> {
+fn row_of(counts: &mut Table, flow: u32) -> Result<&mut Row, Refusal> {
     counts.get_mut(flow as usize).ok_or(Refusal::Flow)
 }
 
@@ -345,7 +278,7 @@ fn fresh(row: &mut Row, modem: Modem, clock: u64) -> Result<Modem, Refusal> {
 #[no_mangle]
 pub extern "C" fn twin_modem_fresh(
     state: &mut Modem,
-    counts: &mut Counts,
+    counts: &mut Table,
     flow: u32,
     target: u32,
     buffer: u32,
@@ -356,16 +289,7 @@ pub extern "C" fn twin_modem_fresh(
 ) -> u32 {
     let settings = Modem { target, buffer, slots, peak, sustained, ..Modem::default() };
     let modem = Modem { clock, last: clock, ..settings };
-    match row_of(counts, flow).and_then(|row| fresh(row, modem, clock)) {
-        Ok(fresh) => {
-            *state = fresh;
-            0
-        }
-        Err(refusal) => {
-            *state = Modem::default();
-            refused(refusal)
-        }
-    }
+    handed(row_of(counts, flow).and_then(|row| fresh(row, modem, clock)), state)
 }
 
 /// # Safety
@@ -373,7 +297,7 @@ pub extern "C" fn twin_modem_fresh(
 #[no_mangle]
 pub unsafe extern "C" fn twin_modem_arrival(
     state: &mut Modem,
-    counts: &mut Counts,
+    counts: &mut Table,
     flow: u32,
     handles: *mut u32,
     handles_len: usize,
@@ -384,14 +308,10 @@ pub unsafe extern "C" fn twin_modem_arrival(
     size: u32,
     u: u32,
 ) -> u32 {
-    let handles = slice::from_raw_parts_mut(handles, handles_len);
-    let sizes = slice::from_raw_parts_mut(sizes, sizes_len);
-    let answer = row_of(counts, flow)
+    let (handles, sizes) = tables_mut((handles, handles_len), (sizes, sizes_len));
+    let verdict = row_of(counts, flow)
         .and_then(|row| state.arrival(row, handles, sizes, clock, handle, size, u));
-    match answer {
-        Ok(verdict) => verdict as u32,
-        Err(refusal) => refused(refusal),
-    }
+    answer(verdict.map(|verdict| verdict as u32))
 }
 
 /// # Safety
@@ -399,7 +319,7 @@ pub unsafe extern "C" fn twin_modem_arrival(
 #[no_mangle]
 pub unsafe extern "C" fn twin_modem_departure(
     state: &mut Modem,
-    counts: &mut Counts,
+    counts: &mut Table,
     flow: u32,
     handles: *const u32,
     handles_len: usize,
@@ -408,30 +328,17 @@ pub unsafe extern "C" fn twin_modem_departure(
     clock: u64,
     packet: &mut Packet,
 ) -> u32 {
-    let handles = slice::from_raw_parts(handles, handles_len);
-    let sizes = slice::from_raw_parts(sizes, sizes_len);
-    match row_of(counts, flow).and_then(|row| state.departure(row, handles, sizes, clock)) {
-        Ok(head) => {
-            *packet = head;
-            0
-        }
-        Err(refusal) => {
-            *packet = Packet::default();
-            refused(refusal)
-        }
-    }
+    let (handles, sizes) = tables((handles, handles_len), (sizes, sizes_len));
+    handed(row_of(counts, flow).and_then(|row| state.departure(row, handles, sizes, clock)), packet)
 }
 
 #[no_mangle]
 pub extern "C" fn twin_modem_tick(
     state: &mut Modem,
-    counts: &mut Counts,
+    counts: &mut Table,
     flow: u32,
     clock: u64,
     credits: u32,
 ) -> u32 {
-    match row_of(counts, flow).and_then(|row| state.tick(row, clock, credits)) {
-        Ok(()) => 0,
-        Err(refusal) => refused(refusal),
-    }
+    answer(row_of(counts, flow).and_then(|row| state.tick(row, clock, credits)).map(|()| 0))
 }
