@@ -2,13 +2,11 @@
 //! follows the library's answers.
 
 use crate::model::State;
+use crate::shared::packets::Packets;
 use crate::side::{Call, Side};
-use std::collections::VecDeque;
 
 pub struct Shadow {
-    queue: VecDeque<(u32, u32)>,
-    admitted: u64,
-    departed: u64,
+    packets: Packets,
     verdicts: [u64; 5],
     clock: u64,
     /// The probabilities added up after the last early verdict.
@@ -22,9 +20,7 @@ pub struct Shadow {
 impl Shadow {
     pub fn new(start: &State) -> Shadow {
         Shadow {
-            queue: VecDeque::new(),
-            admitted: 0,
-            departed: 0,
+            packets: Packets::default(),
             verdicts: start.verdicts,
             clock: start.clock,
             accumulated: 0,
@@ -55,7 +51,7 @@ impl Shadow {
             }
             Call::Departure { clock, .. } => {
                 self.clock = clock;
-                self.left(after.packet)?;
+                self.packets.leave(after.packet)?;
             }
             Call::Tick { clock } => {
                 self.clock = clock;
@@ -75,8 +71,7 @@ impl Shadow {
     ) -> Result<(), String> {
         self.verdicts[verdict] += 1;
         if verdict < 2 {
-            self.queue.push_back((handle, size));
-            self.admitted += u64::from(size);
+            self.packets.enter((handle, size));
         }
         self.spaced(before, verdict)?;
         let quiet = match (before.bytes + u64::from(size) > before.buffer, before.count) {
@@ -109,17 +104,8 @@ impl Shadow {
         Ok(())
     }
 
-    fn left(&mut self, packet: (u32, u32)) -> Result<(), String> {
-        let head = self.queue.pop_front();
-        self.departed += u64::from(packet.1);
-        match head {
-            Some(head) if head == packet => Ok(()),
-            _ => Err(format!("departure gave {packet:?} where {head:?} was first in the queue")),
-        }
-    }
-
     fn ticked(&mut self, after: &Side) -> Result<(), String> {
-        self.empty_ticks = if self.queue.is_empty() { self.empty_ticks + 1 } else { 0 };
+        self.empty_ticks = if self.packets.count() == 0 { self.empty_ticks + 1 } else { 0 };
         if self.empty_ticks >= 1_000 {
             self.quiet_until = self.clock + 150_000;
             if after.state.probability != 0 {
@@ -130,8 +116,8 @@ impl Shadow {
     }
 
     fn agrees(&self, state: &State) -> Result<(), String> {
-        let bytes = self.admitted - self.departed;
-        let same = state.count == self.queue.len() as u64
+        let bytes = self.packets.bytes();
+        let same = state.count == self.packets.count()
             && state.bytes == bytes
             && state.clock == self.clock
             && state.accumulated == self.accumulated
@@ -147,7 +133,7 @@ impl Shadow {
             state.clock,
             state.accumulated,
             state.verdicts,
-            self.queue.len(),
+            self.packets.count(),
             self.clock,
             self.accumulated,
             self.verdicts

@@ -1,7 +1,7 @@
 //! Prints a call and what model and library made of it, field by field.
 
 use crate::call::{Call, Kind};
-use crate::shared::lines::{answer_name, head, line, lines, print_places, print_words, table};
+use crate::shared::lines::{answer_name, both, line, print_places, print_words, table};
 use crate::shared::pair::Difference;
 use crate::side::Side;
 use crate::words::{settings_words, words, FIELDS};
@@ -45,12 +45,8 @@ pub fn print(difference: &Difference) {
     let name =
         |side: &Side| answer_name(matches!(call.kind, Kind::Arrival { .. }), side.answer, 10);
     print_before(before, call);
-    head();
-    line("answer", name(model), name(library));
-    line("well formed", model.well_formed, library.well_formed);
-    line("packet handle", model.packet.0, library.packet.0);
-    line("packet size", model.packet.1, library.packet.1);
-    lines(&FIELDS, &words(&model.state), &words(&library.state));
+    let after = |side: &Side| (side.well_formed, side.packet, words(&side.state));
+    both(&FIELDS, [name(model), name(library)], after(model), after(library));
     counts(difference);
     table("handles", &before.handles, &model.handles, &library.handles);
     table("sizes", &before.sizes, &model.sizes, &library.sizes);

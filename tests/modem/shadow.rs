@@ -3,16 +3,14 @@
 
 use crate::call::{Call, Kind};
 use crate::model::{Row, State};
+use crate::shared::packets::Packets;
 use crate::side::Side;
-use std::collections::VecDeque;
 
 /// The time after the drop that made a flow active in which nothing is dropped early.
 const GRACE: u64 = 128_000;
 
 pub struct Shadow {
-    queue: VecDeque<(u32, u32)>,
-    admitted: u64,
-    departed: u64,
+    packets: Packets,
     row: Row,
     clock: u64,
     /// The end of the time in which nothing is dropped early.
@@ -21,8 +19,7 @@ pub struct Shadow {
 
 impl Shadow {
     pub fn new(clock: u64, row: Row) -> Shadow {
-        let queue = VecDeque::new();
-        Shadow { queue, admitted: 0, departed: 0, row, clock, grace_until: 0 }
+        Shadow { packets: Packets::default(), row, clock, grace_until: 0 }
     }
 
     /// Whether the rules of a run hold after this call; the sentence says which does not.
@@ -46,7 +43,7 @@ impl Shadow {
             Kind::Arrival { packet, .. } => {
                 self.arrived((packet.handle, packet.size), &before.state, after)?;
             }
-            Kind::Departure { .. } => self.left(after.packet)?,
+            Kind::Departure { .. } => self.packets.leave(after.packet)?,
             Kind::Fresh { .. } => *self = Shadow::new(call.clock, [0; 5]),
             Kind::Tick { .. } => {}
         }
@@ -60,8 +57,7 @@ impl Shadow {
             return Err("a packet was marked".into());
         }
         if verdict == 0 {
-            self.queue.push_back(packet);
-            self.admitted += u64::from(packet.1);
+            self.packets.enter(packet);
         }
         let room = before.settings.buffer - before.bytes;
         let plain = match (u64::from(packet.1) > room, before.count == before.settings.slots) {
@@ -82,26 +78,17 @@ impl Shadow {
         Ok(())
     }
 
-    fn left(&mut self, packet: (u32, u32)) -> Result<(), String> {
-        let head = self.queue.pop_front();
-        self.departed += u64::from(packet.1);
-        match head {
-            Some(head) if head == packet => Ok(()),
-            _ => Err(format!("departure gave {packet:?} where {head:?} was first in the queue")),
-        }
-    }
-
     /// Counts, bytes and clock are those of the answers so far.
     fn agrees(&self, state: &State, row: &Row, other_row: bool) -> Result<(), String> {
-        let bytes = self.admitted - self.departed;
-        let same = state.count == self.queue.len() as u64
+        let bytes = self.packets.bytes();
+        let same = state.count == self.packets.count()
             && state.bytes == bytes
             && state.clock == self.clock
             && (other_row || *row == self.row);
         if same {
             return Ok(());
         }
-        let (count, clock, ours) = (self.queue.len(), self.clock, self.row);
+        let (count, clock, ours) = (self.packets.count(), self.clock, self.row);
         Err(format!(
             "the record has count {}, bytes {}, clock {} and the row {row:?}; the answers so far \
              make it {count}, {bytes}, {clock} and {ours:?}",

@@ -36,18 +36,29 @@ pub fn print_places((first, count, slots): (u64, u64, u64), handles: &[u32], siz
     }
 }
 
-pub fn head() {
-    println!("{:<16} {:>22} {:>22}", "after", "model", "library");
-}
-
 pub fn line(name: &str, model: impl Display, library: impl Display) {
     let (model, library) = (model.to_string(), library.to_string());
     let note = if model == library { "" } else { "  <- differs" };
     println!("  {name:<14} {model:>22} {library:>22}{note}");
 }
 
+/// Answer, well-formedness and packet of both sides, and their words, by their names.
+pub fn both<const N: usize>(
+    names: &[&str; N],
+    [answer, library_answer]: [String; 2],
+    model: (bool, (u32, u32), [u64; N]),
+    library: (bool, (u32, u32), [u64; N]),
+) {
+    println!("{:<16} {:>22} {:>22}", "after", "model", "library");
+    line("answer", answer, library_answer);
+    line("well formed", model.0, library.0);
+    line("packet handle", model.1 .0, library.1 .0);
+    line("packet size", model.1 .1, library.1 .1);
+    lines(names, &model.2, &library.2);
+}
+
 /// Both sides' words, by their names.
-pub fn lines(names: &[&str], model: &[u64], library: &[u64]) {
+fn lines(names: &[&str], model: &[u64], library: &[u64]) {
     for (name, (model, library)) in names.iter().zip(model.iter().zip(library)) {
         line(name, model, library);
     }

@@ -6,6 +6,7 @@ pub mod area;
 pub mod groups;
 pub mod lines;
 pub mod numbers;
+pub mod packets;
 pub mod pair;
 pub mod program;
 pub mod random;
