@@ -24,5 +24,8 @@ pub const THRESHOLD: u64 = 16_384;
 // The accumulated probability stays below this: 8.5.
 pub const MOST_ACCUMULATED: u64 = 36_507_222_016;
 
+// The most that a step of the calm profile adds where p is at least one tenth: 0.02.
+pub const MOST_CALM_STEP: i64 = 85_899_345;
+
 // A small queue: two mean packets of 1,500 bytes.
 pub const SMALL_QUEUE: u64 = 3_000;

@@ -1,15 +1,16 @@
 -- What a well-formed state's numbers are, as facts that `omega` reads.
-use mathlib.Core.Path.{_≡_}
-use mathlib.Core.Bool.{true, not, _&&_, _||_}
+use mathlib.Core.Path.{_≡_, sym, _∙_}
+use mathlib.Core.Bool.{Bool, true, false, not, _&&_, _||_, false≢true}
 use mathlib.Core.List.{_++_}
 use Prim.Native.Nat.{ℕ, _*_, _≤_, _<_}
-use lib.Dec.{eqb}
+use lib.Dec.{eqb, leb}
 use lib.ListN.{getD}
-use borrow.Author.Tests.{le-leb, leb-true, lt-ltb, ltb-true}
-use Rattle.laws.proofs.TestLists.{all-at}
+use borrow.Author.Tests.{le-leb, leb-true, lt-ltb, ltb-true, not-false, not-true}
+use Rattle.laws.proofs.TestLists.{all-at, false-of}
 use Rattle.units.specs.Kinds.{whole}
 use Rattle.pie.specs.Constants.{fullAllowance, largest, latest, longest, mostAccumulated, mostVerdicts, threshold}
 use Rattle.pie.specs.Verdicts.{total}
+use Rattle.queue.specs.Activity.{isCalm}
 use Rattle.queue.specs.State.{settingsConditions, stateConditions, wellFormed}
 use Rattle.queue.specs.declared.State.{State}
 
@@ -20,6 +21,7 @@ pub record Facts (s : State) : Type 0 where
   pub buffer-high : s .settings .buffer .0 ≤ 16777216
   pub slots-low : 1 ≤ s .settings .slots
   pub slots-high : s .settings .slots ≤ 65536
+  pub profile-high : s .settings .profile ≤ 1
   pub last-high : s .last .0 ≤ s .clock .0
   pub clock-high : s .clock .0 ≤ latest
   pub prob-high : s .pie .prob .0 ≤ whole
@@ -40,6 +42,8 @@ pub record Facts (s : State) : Type 0 where
   -- none runs on an empty queue
   pub busy : not (s .pie .rate .measuring && eqb (s .backlog .count) 0) ≡ true
   pub total-high : total (s .verdicts) ≤ mostVerdicts
+  -- an inactive queue is calm and its probability is 0
+  pub inactive-calm : s .active || (isCalm (s .settings) && eqb (s .pie .prob .0) 0) ≡ true
 
 pub facts : (s : State) → wellFormed s ≡ true → Facts s
 unfolding wellFormed
@@ -53,24 +57,26 @@ facts s w =
       buffer-high = leb-true _ _ (at 3);
       slots-low = leb-true _ _ (at 4);
       slots-high = leb-true _ _ (at 5);
-      last-high = leb-true _ _ (at 6);
-      clock-high = leb-true _ _ (at 7);
-      prob-high = leb-true _ _ (at 8);
-      old-high = leb-true _ _ (at 9);
-      allowance-high = leb-true _ _ (at 10);
-      accumulated-high = ltb-true _ _ (at 11);
-      average-high = leb-true _ _ (at 12);
-      first-high = ltb-true _ _ (at 13);
-      count-high = leb-true _ _ (at 14);
-      bytes-low = leb-true _ _ (at 15);
-      bytes-high = leb-true _ _ (at 16);
-      bytes-fit = leb-true _ _ (at 17);
-      start-high = leb-true _ _ (at 18);
-      counted-high = ltb-true _ _ (at 19);
-      idle-start = at 20;
-      idle-counted = at 21;
-      busy = at 22;
-      total-high = leb-true _ _ (at 23);
+      profile-high = leb-true _ _ (at 6);
+      last-high = leb-true _ _ (at 7);
+      clock-high = leb-true _ _ (at 8);
+      prob-high = leb-true _ _ (at 9);
+      old-high = leb-true _ _ (at 10);
+      allowance-high = leb-true _ _ (at 11);
+      accumulated-high = ltb-true _ _ (at 12);
+      average-high = leb-true _ _ (at 13);
+      first-high = ltb-true _ _ (at 14);
+      count-high = leb-true _ _ (at 15);
+      bytes-low = leb-true _ _ (at 16);
+      bytes-high = leb-true _ _ (at 17);
+      bytes-fit = leb-true _ _ (at 18);
+      start-high = leb-true _ _ (at 19);
+      counted-high = ltb-true _ _ (at 20);
+      idle-start = at 21;
+      idle-counted = at 22;
+      busy = at 23;
+      total-high = leb-true _ _ (at 24);
+      inactive-calm = at 25;
     }
 
 pub well-formed : (s : State) → Facts s → wellFormed s ≡ true
@@ -83,6 +89,7 @@ well-formed s f =
       le-leb _ _ (f .buffer-high),
       le-leb _ _ (f .slots-low),
       le-leb _ _ (f .slots-high),
+      le-leb _ _ (f .profile-high),
       le-leb _ _ (f .last-high),
       le-leb _ _ (f .clock-high),
       le-leb _ _ (f .prob-high),
@@ -101,4 +108,12 @@ well-formed s f =
       f .idle-counted,
       f .busy,
       le-leb _ _ (f .total-high),
+      f .inactive-calm,
     )
+
+-- the counts, which are tested first
+pub counted : (sum : ℕ) (b : Bool) → b ≡ leb sum mostVerdicts → not b ≡ false → sum ≤ mostVerdicts
+counted sum b e f = leb-true _ _ (sym e ∙ not-false b f)
+
+pub uncounted : (s : State) (b : Bool) → b ≡ leb (total (s .verdicts)) mostVerdicts → not b ≡ true → wellFormed s ≡ false
+uncounted s b e f = sym (false-of (wellFormed s) (λ w. false≢true (sym (not-true b f) ∙ e ∙ le-leb _ _ (facts s w .total-high))))

@@ -3,4 +3,5 @@ pub mod Facts
 pub mod WhenAccepted
 pub mod Replies
 pub mod Admitted
+pub mod Activation
 pub mod Kept

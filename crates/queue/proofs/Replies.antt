@@ -7,6 +7,7 @@ use native.Mathlib.Omega.{arith}
 use lib.ListN.{length, set}
 use Rattle.pie.specs.Verdicts.{admitted}
 use Rattle.pie.specs.declared.Verdict.{Verdict}
+use Rattle.queue.specs.Activity.{begun}
 use Rattle.queue.specs.Answer.{Reply, departed, handleIn, refused, sizeIn, unlessRefused, verdict}
 use Rattle.queue.specs.Arrival.{arrival, arrivalRefusal, arrivedState, stored, tailPlace, verdictOf}
 use Rattle.queue.specs.Departure.{departedState, departure, departureRefusal, headOf}
@@ -43,8 +44,8 @@ arrival-refused s handles sizes clock handle size ecn u checked r found e = rw (
 pub arrival-decided : (s : State) (handles sizes : List ℕ) (clock handle size : ℕ) (ecn : Bool) (u : ℕ) (checked : Accepted) (v : Verdict) (after : State) (handles' sizes' : List ℕ) →
     checked ≡ Yes →
     refusalIn checked ≡ arrivalRefusal s (length handles) (length sizes) clock size →
-    v ≡ verdictOf s size ecn u →
-    after ≡ arrivedState s clock size v →
+    v ≡ verdictOf (begun s) size ecn u →
+    after ≡ arrivedState (begun s) clock size v →
     (handles' ≡ cond (admitted v) (set handles (tailPlace s) handle) handles) × (sizes' ≡ cond (admitted v) (set sizes (tailPlace s) size) sizes) →
     let reply = arrival s handles sizes clock size ecn u in
     (record { answer = verdict v; state = after } ≡ reply)
@@ -75,15 +76,18 @@ departure-taken s handles sizes clock checked after found e ea = rw (← e, foun
 -- an arrival that is answered with a verdict was not refused, and returns the state of that verdict
 pub decided : (s : State) (handles sizes : List ℕ) (clock size : ℕ) (ecn : Bool) (u : ℕ) (v : Verdict) →
     (arrival s handles sizes clock size ecn u) .answer ≡ verdict v →
-    (arrivalRefusal s (length handles) (length sizes) clock size ≡ 0) × ((arrival s handles sizes clock size ecn u) .state ≡ arrivedState s clock size v)
+    (arrivalRefusal s (length handles) (length sizes) clock size ≡ 0)
+    × ((arrival s handles sizes clock size ecn u) .state ≡ arrivedState (begun s) clock size v)
 unfolding arrival
 decided s handles sizes clock size ecn u v = go (arrivalRefusal s (length handles) (length sizes) clock size) refl
   where
     r : Reply
-    r = record { answer = verdict (verdictOf s size ecn u); state = arrivedState s clock size (verdictOf s size ecn u) }
+    r =
+        let v = verdictOf (begun s) size ecn u in
+        record { answer = verdict v; state = arrivedState (begun s) clock size v }
 
     go : (n : ℕ) → arrivalRefusal s (length handles) (length sizes) clock size ≡ n → (unlessRefused n s r) .answer ≡ verdict v →
-        (n ≡ 0) × ((unlessRefused n s r) .state ≡ arrivedState s clock size v)
+        (n ≡ 0) × ((unlessRefused n s r) .state ≡ arrivedState (begun s) clock size v)
     go zero e f = (refl, cc)
     go (suc n) e f = let z : _≡_ {A = ℕ} 0 1 = cc in absurd (omega arith)
 

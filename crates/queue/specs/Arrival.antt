@@ -10,9 +10,10 @@ use Rattle.pie.specs.DropDecision.{accumulatedAfter, dropDecision}
 use Rattle.pie.specs.Verdicts.{admitted, raised}
 use Rattle.pie.specs.declared.Pie.{Pie}
 use Rattle.pie.specs.declared.Verdict.{Verdict}
-use Rattle.pie.specs.declared.Verdict.the-variants.{DroppedBytes, DroppedSlots}
+use Rattle.pie.specs.declared.Verdict.the-variants.{DroppedBytes, DroppedSlots, Enqueued}
 use Rattle.refusals.specs.Rows.{firstRefusal}
 use Rattle.refusals.specs.Tests.{sizeRefused}
+use Rattle.queue.specs.Activity.{begun}
 use Rattle.queue.specs.Answer.{Answer, Reply, admits, unlessRefused, verdict}
 use Rattle.queue.specs.Refusals.{clockRefused, countsRefused, stateRefused, tablesRefused}
 use Rattle.queue.specs.declared.State.{State}
@@ -37,14 +38,15 @@ bytesFull s size = ltb (s .settings .buffer .0) (s .backlog .bytes .0 + size)
 abbrev pub slotsFull : State → Bool
 slotsFull s = eqb (s .backlog .count) (s .settings .slots)
 
--- rules 1 to 7: the first that holds decides
+-- rules 1 to 7: the first that holds decides; in an inactive queue rules 1 and 2 alone (Q-12)
 unfoldable pub verdictOf : State → (size : ℕ) (ecn : Bool) (u : ℕ) → Verdict
 verdictOf s size ecn u =
     cond (bytesFull s size) DroppedBytes
     (cond (slotsFull s) DroppedSlots
-    (dropDecision (s .pie) (s .settings .target .0) (s .backlog .bytes .0) ecn u))
+    (cond (s .active) (dropDecision (s .pie) (s .settings .target .0) (s .backlog .bytes .0) ecn u)
+    Enqueued))
 
--- the accumulated probability moves on (Q-3); probability, delays and allowance don't change
+-- the accumulated probability moves on (Q-3), in an active queue; probability, delays and allowance don't change
 abbrev pub arrivedPie : State → Verdict → Pie
 arrivedPie s v =
     let pie = s .pie in
@@ -52,7 +54,7 @@ arrivedPie s v =
       prob = pie .prob;
       old = pie .old;
       allowance = pie .allowance;
-      accumulated = prob (accumulatedAfter pie (s .settings .target .0) (s .backlog .bytes .0) v);
+      accumulated = cond (s .active) (prob (accumulatedAfter pie (s .settings .target .0) (s .backlog .bytes .0) v)) (pie .accumulated);
       rate = pie .rate;
     }
 
@@ -67,13 +69,15 @@ arrivedState s clock size v =
       backlog = cond (admitted v) (entered (s .backlog) size) (s .backlog);
       first = s .first;
       verdicts = raised (s .verdicts) v;
+      active = s .active;
     }
 
+-- the rules are those of the state in which they begin
 unfoldable pub arrival : State → (handles sizes : List ℕ) (clock size : ℕ) (ecn : Bool) (u : ℕ) → Reply
 arrival s handles sizes clock size ecn u =
-    let v = verdictOf s size ecn u in
+    let v = verdictOf (begun s) size ecn u in
     unlessRefused (arrivalRefusal s (length handles) (length sizes) clock size) s
-    (record { answer = verdict v; state = arrivedState s clock size v })
+    (record { answer = verdict v; state = arrivedState (begun s) clock size v })
 
 -- the place of the tail: the packet at place i stands at (first + i) modulo slots
 abbrev pub tailPlace : State → ℕ

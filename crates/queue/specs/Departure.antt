@@ -51,6 +51,7 @@ departedState s clock size =
       backlog = left (s .backlog) size;
       first = (s .first + 1) % s .settings .slots;
       verdicts = s .verdicts;
+      active = s .active;
     }
 
 unfoldable pub departure : State → (handles sizes : List ℕ) (clock : ℕ) → Reply

@@ -1,40 +1,41 @@
 -- A fresh state (document 01, 'The state record').
-use mathlib.Core.Bool.{false, cond}
+use mathlib.Core.Bool.{Bool, false, cond, not}
 use mathlib.Core.List.{List, [], _∷_}
 use Prim.Native.Nat.{ℕ}
-use Rattle.units.specs.Kinds.{bytes, micros, none, prob}
-use Rattle.pie.specs.Constants.{fullAllowance}
-use Rattle.pie.specs.DepartureRate.{resting}
+use Rattle.units.specs.Kinds.{bytes, micros}
+use Rattle.pie.specs.Start.{restarted, unstarted}
 use Rattle.pie.specs.declared.Backlog.{Backlog}
 use Rattle.pie.specs.declared.Pie.{Pie}
+use Rattle.queue.specs.Activity.{isCalm}
 use Rattle.queue.specs.Answer.{Reply, made, refused}
 use Rattle.queue.specs.Refusals.{settingsRefused}
 use Rattle.queue.specs.declared.Settings.{Settings}
 use Rattle.queue.specs.declared.State.{State}
 
-abbrev pub settingsOf : (target buffer slots : ℕ) → Settings
-settingsOf target buffer slots = record { target = micros target; buffer = bytes buffer; slots = slots }
+abbrev pub settingsOf : (target buffer slots profile : ℕ) → Settings
+settingsOf target buffer slots profile = record { target = micros target; buffer = bytes buffer; slots = slots; profile = profile }
 
--- nothing queued, nothing counted and nothing measured
-abbrev pub emptyState : Settings → (clock allowance : ℕ) → State
-emptyState settings clock allowance =
+-- nothing queued and nothing counted
+abbrev pub emptyState : Settings → (clock : ℕ) → Pie → (active : Bool) → State
+emptyState settings clock pie active =
     record {
       settings = settings;
       clock = micros clock;
       last = micros clock;
-      pie = record { prob = prob none; old = micros 0; allowance = micros allowance; accumulated = prob none; rate = resting 0 };
+      pie = pie;
       backlog = record { count = 0; bytes = bytes 0 };
       first = 0;
       verdicts = 0 ∷ 0 ∷ 0 ∷ 0 ∷ 0 ∷ [];
+      active = active;
     }
 
--- last tick equals the clock, allowance is full, everything else is 0
+-- last tick equals the clock, allowance is full, everything else is 0; a plain queue is active, a calm one is not (Q-12)
 abbrev pub freshState : Settings → (clock : ℕ) → State
-freshState settings clock = emptyState settings clock fullAllowance
+freshState settings clock = emptyState settings clock restarted (not (isCalm settings))
 
 -- the all-zero record
 abbrev pub zeroState : State
-zeroState = emptyState (settingsOf 0 0 0) 0 0
+zeroState = emptyState (settingsOf 0 0 0 0) 0 (unstarted 0) false
 
 unfoldable pub fresh : Settings → (clock : ℕ) → Reply
 fresh settings clock =

@@ -1,4 +1,5 @@
 -- The ring queue of document 01: its state, its refusals and its four calls.
+pub mod Activity
 pub mod State
 pub mod Answer
 pub mod Refusals

@@ -9,7 +9,7 @@ use Rattle.queue.specs.State.{settingsConditions, wellFormed}
 use Rattle.queue.specs.declared.Settings.{Settings}
 use Rattle.queue.specs.declared.State.{State}
 
--- 1: target, buffer or slots out of range, or start clock above 2^48
+-- 1: target, buffer, slots or profile out of range, or start clock above 2^48
 abbrev pub settingsRefused : Settings → (clock : ℕ) → Bool
 settingsRefused s clock = not (all (settingsConditions s) && leb clock latest)
 

@@ -7,10 +7,11 @@ use Rattle.laws.specs.Tests.{all}
 use Rattle.units.specs.Kinds.{whole}
 use Rattle.pie.specs.Constants.{fullAllowance, largest, latest, longest, mostAccumulated, mostVerdicts, threshold}
 use Rattle.pie.specs.Verdicts.{total}
+use Rattle.queue.specs.Activity.{isCalm}
 use Rattle.queue.specs.declared.Settings.{Settings}
 use Rattle.queue.specs.declared.State.{State}
 
--- target, buffer and slots in range
+-- target, buffer, slots and profile in range
 abbrev pub settingsConditions : Settings → List Bool
 settingsConditions s =
     leb 1000 (s .target .0)
@@ -19,6 +20,8 @@ settingsConditions s =
     ∷ leb (s .buffer .0) 16777216
     ∷ leb 1 (s .slots)
     ∷ leb (s .slots) 65536
+    -- (Q-12)
+    ∷ leb (s .profile) 1
     ∷ []
 
 -- all else that is asked of a state
@@ -44,6 +47,8 @@ stateConditions s =
     -- no measurement runs on an empty queue (Q-6)
     ∷ not (s .pie .rate .measuring && eqb (s .backlog .count) 0)
     ∷ leb (total (s .verdicts)) mostVerdicts
+    -- an inactive queue is calm and its probability is 0 (Q-12)
+    ∷ (s .active || (isCalm (s .settings) && eqb (s .pie .prob .0) 0))
     ∷ []
 
 unfoldable pub wellFormed : State → Bool

@@ -2,6 +2,7 @@
 use crate::ArrivalAnswer;
 use crate::Arrived;
 use crate::State;
+use pie::Backlog;
 use pie::Decided;
 use pie::LARGEST;
 use pie::LATEST;
@@ -10,6 +11,7 @@ use pie::Verdict;
 use pie::raise;
 use refusals::Accepted;
 use refusals::Refusal;
+use refusals::counts_fit;
 use refusals::counts_full;
 use ring::store;
 use units::Bytes;
@@ -19,8 +21,10 @@ ghost use mathlib.Core.Path.{_≡_};
 ghost use mathlib.Core.Bool.{cond, true};
 ghost use Prim.Native.Nat.{_≤_, _<_};
 ghost use lib.ListN.{length, set};
+ghost use Rattle.pie.specs.Backlog.{entered};
 ghost use Rattle.pie.specs.Constants.{largest, mostVerdicts};
 ghost use Rattle.pie.specs.Verdicts.{admitted, total};
+ghost use Rattle.queue.specs.Activity.{begun};
 ghost use Rattle.queue.specs.State.{wellFormed};
 ghost use Rattle.refusals.specs.Numbers.{refusalIn};
 ghost use Rattle.queue.specs.Answer.{arrivalReply};
@@ -31,7 +35,12 @@ impl State {
     fn check_arrival(self, handles: u64, sizes: u64, clock: Micros, size: Bytes) -> Accepted
         ensures { λ r. ⌜ refusalIn r ≡ arrivalRefusal self handles sizes (clock .0) (size .0) ⌝ }
     {
-        let formed = self.well_formed();
+        let counts = self.verdicts;
+        let counted = counts_fit(counts);
+        if !counted {
+            return Accepted::No(Refusal::Malformed);
+        }
+        let formed = self.formed();
         if !formed {
             return Accepted::No(Refusal::Malformed);
         }
@@ -48,7 +57,6 @@ impl State {
         if wrong_size {
             return Accepted::No(Refusal::Size);
         }
-        let counts = self.verdicts;
         let full = counts_full(counts);
         if full {
             return Accepted::No(Refusal::Counts);
@@ -56,11 +64,11 @@ impl State {
         Accepted::Yes
     }
 
-    // Rules 1 to 7.
+    // Rules 1 to 7. An inactive queue has probability 0, and one that turns active its full allowance: rules 3 to 7 enqueue in both.
     fn decide(self, size: Bytes, ecn: bool, u: u32) -> Decided
         requires { ⌜ wellFormed self ≡ true ⌝ }
         requires { ⌜ size .0 ≤ largest ⌝ }
-        ensures { λ r. ⌜ r .verdict ≡ verdictOf self (size .0) ecn u ⌝ }
+        ensures { λ r. ⌜ r .verdict ≡ verdictOf (begun self) (size .0) ecn u ⌝ }
         ensures { λ r. ⌜ r .accumulated ≡ arrivedPie self (r .verdict) .accumulated ⌝ }
     {
         let settings = self.settings;
@@ -83,35 +91,50 @@ impl State {
         pie.decide(settings.target, self.backlog.bytes, ecn, u)
     }
 
-    // The state after an arrival with this verdict.
+    // The packets and bytes after an arrival with this verdict.
+    fn entered(self, size: Bytes, v: Verdict) -> Backlog
+        requires { ⌜ wellFormed self ≡ true ⌝ }
+        requires { ⌜ size .0 ≤ largest ⌝ }
+        ensures { λ r. ⌜ r ≡ cond (admitted v) (entered (self .backlog) (size .0)) (self .backlog) ⌝ }
+    {
+        let queued = self.backlog;
+        let admits = v.admits();
+        if admits {
+            return queued.enter(size);
+        }
+        queued
+    }
+
+    // The state after an arrival with this verdict. A queue that turns active begins the algorithm anew.
     fn arrived(self, clock: Micros, size: Bytes, v: Verdict, accumulated: Prob) -> State
         requires { ⌜ wellFormed self ≡ true ⌝ }
         requires { ⌜ (total (self .verdicts) < mostVerdicts) × (size .0 ≤ largest) ⌝ }
         requires { ⌜ accumulated ≡ arrivedPie self v .accumulated ⌝ }
-        ensures { λ r. ⌜ r ≡ arrivedState self (clock .0) (size .0) v ⌝ }
+        ensures { λ r. ⌜ r ≡ arrivedState (begun self) (clock .0) (size .0) v ⌝ }
     {
         let counts = self.verdicts;
         let verdicts = raise(counts, v);
+        let backlog = self.entered(size, v);
+        let turns = self.turns_active();
+        if turns {
+            return State {
+                clock,
+                pie: Pie::restarted(),
+                backlog,
+                verdicts,
+                active: true,
+                ..self
+            };
+        }
         let before = self.pie;
         let pie = Pie {
             accumulated,
             ..before
         };
-        let admits = v.admits();
-        if admits {
-            let queued = self.backlog;
-            let backlog = queued.enter(size);
-            return State {
-                clock,
-                pie,
-                backlog,
-                verdicts,
-                ..self
-            };
-        }
         State {
             clock,
             pie,
+            backlog,
             verdicts,
             ..self
         }

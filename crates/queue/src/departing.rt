@@ -5,6 +5,7 @@ use pie::LATEST;
 use pie::Pie;
 use refusals::Accepted;
 use refusals::Refusal;
+use refusals::counts_fit;
 use refusals::wrong_head;
 use ring::place;
 use units::Bytes;
@@ -25,7 +26,12 @@ impl State {
         ensures { λ r. ⌜ refusalIn r
             ≡ departureRefusal self handles (length (now (sizes .entry))) (clock .0) (headOf self (now (sizes .entry))) ⌝ }
     {
-        let formed = self.well_formed();
+        let counts = self.verdicts;
+        let counted = counts_fit(counts);
+        if !counted {
+            return Accepted::No(Refusal::Malformed);
+        }
+        let formed = self.formed();
         if !formed {
             return Accepted::No(Refusal::Malformed);
         }

@@ -7,6 +7,7 @@ use refusals::Refusal;
 use units::Bytes;
 use units::Micros;
 
+mod activity;
 mod arriving;
 mod departing;
 mod fresh;
@@ -17,6 +18,8 @@ pub struct Settings {
     pub target: Micros,
     pub buffer: Bytes,
     pub slots: u64,
+    // 0: plain, 1: calm.
+    pub profile: u64,
 }
 
 pub struct State {
@@ -30,6 +33,7 @@ pub struct State {
     pub first: u64,
     // One count for each kind of verdict, in the order of `Verdict`.
     pub verdicts: [u64; 5],
+    pub active: bool,
 }
 
 pub enum ArrivalAnswer {

@@ -5,6 +5,7 @@ use pie::LATEST;
 use pie::PERIOD;
 use refusals::Accepted;
 use refusals::Refusal;
+use refusals::counts_fit;
 use units::Micros;
 ghost use mathlib.Core.Path.{_≡_};
 ghost use mathlib.Core.Bool.{true};
@@ -18,7 +19,12 @@ impl State {
     fn check_tick(self, clock: Micros) -> Accepted
         ensures { λ r. ⌜ refusalIn r ≡ tickRefusal self (clock .0) ⌝ }
     {
-        let formed = self.well_formed();
+        let counts = self.verdicts;
+        let counted = counts_fit(counts);
+        if !counted {
+            return Accepted::No(Refusal::Malformed);
+        }
+        let formed = self.formed();
         if !formed {
             return Accepted::No(Refusal::Malformed);
         }
@@ -33,7 +39,7 @@ impl State {
         Accepted::Yes
     }
 
-    // The state after a tick.
+    // The state after a tick. A plain queue is always active.
     fn ticked(self, clock: Micros) -> State
         requires { ⌜ wellFormed self ≡ true ⌝ }
         ensures { λ r. ⌜ r ≡ tickedState self (clock .0) ⌝ }
@@ -41,11 +47,31 @@ impl State {
         let settings = self.settings;
         let before = self.pie;
         let queued = self.backlog;
-        let pie = before.update(settings.target, queued.bytes);
+        let calm = settings.is_calm();
+        if !calm {
+            let pie = before.update(false, settings.target, queued.bytes);
+            return State {
+                clock,
+                last: clock,
+                pie,
+                ..self
+            };
+        }
+        let active = self.active;
+        if active {
+            let pie = before.update(true, settings.target, queued.bytes);
+            let turns = self.turns_inactive(pie);
+            return State {
+                clock,
+                last: clock,
+                pie,
+                active: !turns,
+                ..self
+            };
+        }
         State {
             clock,
             last: clock,
-            pie,
             ..self
         }
     }

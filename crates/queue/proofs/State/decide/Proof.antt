@@ -1,12 +1,20 @@
--- `State::decide`: rules 1 and 2, then the drop decision.
+-- `State::decide`: rules 1 and 2, then the drop decision, which an inactive queue shares.
 use borrow.Author.Needs.{needs}
-use mathlib.Core.Path.{refl}
+use mathlib.Core.Path.{_≡_, refl}
+use mathlib.Core.Bool.{Bool, true, false, cond}
 use native.Mathlib.Omega.{arith}
+use Rattle.units.specs.declared.Prob.{Prob}
 use Rattle.pie.specs.DropDecision.{accumulatedAfter}
 use Rattle.queue.specs.Arrival.{verdictOf}
+use Rattle.queue.proofs.Activation.{decided-alike, inactive-zero, verdict-begun}
 use Rattle.queue.proofs.Facts.{facts}
 use Rattle.queue.proofs.State.decide.Statement.{statement}
 use Rattle.queue.proofs.State.decide.Tie as tie
+
+-- what is accumulated stays where rules 1 and 2 decide, active or not
+stays : (active : Bool) (sum : Prob) → sum ≡ cond active sum sum
+stays true sum = refl
+stays false sum = refl
 
 add-bytes-full : tie.Need-add-bytes-full
 add-bytes-full c =
@@ -15,11 +23,16 @@ add-bytes-full c =
 
 returns : tie.Need-returns
 unfolding verdictOf accumulatedAfter
-returns c = rw (c .if1 .taken) (refl, refl)
+returns c =
+    let s = c .before .before .before .before .before .before .before .args .self in
+    rw (verdict-begun, c .if1 .taken) (refl, stays (s .active) (s .pie .accumulated))
 
 returns-2 : tie.Need-returns-2
 unfolding verdictOf accumulatedAfter
-returns-2 c = rw (c .before .before .before .if1 .left, c .if2 .taken) (refl, refl)
+returns-2 c =
+    let e1 = c .before .before .before in
+    let s = e1 .before .before .before .before .before .before .before .args .self in
+    rw (verdict-begun, e1 .if1 .left, c .if2 .taken) (refl, stays (s .active) (s .pie .accumulated))
 
 decide-requires : tie.Need-decide-requires
 decide-requires c κs =
@@ -29,7 +42,18 @@ decide-requires c κs =
 returns-3 : tie.Need-returns-3
 unfolding verdictOf
 returns-3 c =
-    let e2 = c .before in rw (e2 .before .before .before .if1 .left, e2 .if2 .left) (c .decide .ensures)
+    let e2 = c .before in
+    let e1 = e2 .before .before .before in
+    let a = e1 .before .before .before .before .before .before .before in
+    let s = a .args .self in
+    let f = facts s (a .pre .0) in
+    let d = c .decide .ensures in
+    rw (verdict-begun, e1 .if1 .left, e2 .if2 .left)
+    (decided-alike (s .active) (s .pie) (s .settings .target .0) (s .backlog .bytes .0) (a .args .ecn) (a .args .u) _ _
+    (inactive-zero s f)
+    (f .accumulated-high)
+    (d .0)
+    (d .1))
 
 pub decide-spec : {M : Type 1} → statement M
 decide-spec = tie.close (tie.spec add-bytes-full returns returns-2 decide-requires returns-3)

@@ -35,6 +35,7 @@ departed-is : (s : State) (clock size : ℕ) (b : Backlog) (r : Rate) (first : �
       backlog = b;
       first = first;
       verdicts = s .verdicts;
+      active = s .active;
     } ≡ departedState s clock size
 unfolding departedState
 departed-is s clock size b r first eb er ef = rw (er, eb, ef)
