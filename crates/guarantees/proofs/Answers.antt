@@ -12,6 +12,7 @@ use Rattle.pie.specs.Verdicts.{placeOf, raised}
 use Rattle.pie.specs.declared.Verdict.{Verdict}
 use Rattle.pie.proofs.Counts.{length-raised, place-lt}
 use Rattle.queue.specs.declared.State.{State}
+use Rattle.queue.specs.Activity.{begun}
 use Rattle.queue.specs.Answer.{Answer, departed, made, refused, ticked, verdict}
 use Rattle.queue.specs.Arrival.{arrivedState}
 use Rattle.queue.specs.Departure.{departedState}
@@ -29,7 +30,7 @@ countedBy (departed handle size) counts = counts
 countedBy ticked counts = counts
 
 reply-counts : (s : State) (c : Call) → (reply s c) .state .verdicts ≡ countedBy ((reply s c) .answer) (s .verdicts)
-unfolding arrivedState departedState tickedState
+unfolding arrivedState begun departedState tickedState
 reply-counts s =
     at-reply s (λ c r. r .state .verdicts ≡ countedBy (r .answer) (s .verdicts))
     (λ c number. refl)

@@ -13,7 +13,7 @@ use Rattle.queue.proofs.Kept.{made-accepted}
 use Rattle.guarantees.specs.AllowanceLasts.{periods}
 use Rattle.guarantees.specs.Calls.{ByLimitsBefore, Entry, ringCalls, update}
 use Rattle.guarantees.specs.Grace.{FreshGrace, Grace}
-use Rattle.guarantees.proofs.AllowanceLasts.{by-limits}
+use Rattle.guarantees.proofs.AllowanceLasts.{allowance-lasts, by-limits}
 use Rattle.guarantees.proofs.RingSheds.{clockIn, ring-sheds, ringShedding, tells}
 
 -- after an accepted tick, while the allowance that it returned lasts
@@ -21,7 +21,9 @@ pub ticked-by-limits : {P : State → Type 0} (e : Entry) (later : List Entry) (
     e .call ≡ update t → e .answer ≡ ticked → end ≤ t + period * periods (e .returned .pie .allowance .0) →
     (a : Entry) → List·Memᴰ a later → ByLimitsBefore end a
 ticked-by-limits e later t end here ec ea h a m =
-    by-limits end a (proved.ticked-by-limits ringShedding ring-sheds e later end here (ap tells ea) (omega (arith, h, ap clockIn ec)) a m)
+    let low = proved.allowed-low ringShedding ring-sheds (e .returned) in
+    by-limits end a
+    (proved.ticked-by-limits ringShedding ring-sheds e later end here (ap tells ea) (omega (arith, h, ap clockIn ec, low)) a m)
 
 -- any state serves: a call that is accepted was given a well-formed one
 pub grace : Grace
@@ -31,6 +33,4 @@ grace start calls before e later t w q ec ea full =
 
 pub fresh-grace : FreshGrace
 unfolding fresh
-fresh-grace settings t calls e =
-    rw (made-accepted settings t e)
-    (λ a m. by-limits _ a (proved.lasts-before ringShedding ring-sheds _ (freshState settings t) calls (omega arith) a m))
+fresh-grace settings t calls e = rw (made-accepted settings t e) (λ a m. allowance-lasts (freshState settings t) calls a m)

@@ -15,3 +15,6 @@ pub mod Conservation
 pub mod MeasuredWhileQueued
 pub mod NeverGivenUp
 pub mod Spacing
+pub mod StaysInactive
+pub mod TurnsInactive
+pub mod PlainAsBefore

@@ -7,6 +7,7 @@ use native.Mathlib.Omega.{arith}
 use lib.ListN.{length}
 use Rattle.pie.specs.Verdicts.{admitted}
 use Rattle.pie.specs.declared.Verdict.{Verdict}
+use Rattle.queue.specs.Activity.{begun}
 use Rattle.queue.specs.Answer.{Reply, verdict}
 use Rattle.queue.specs.Arrival.{arrivedState, stored, verdictOf}
 use Rattle.queue.specs.Departure.{departedState, headOf}
@@ -32,12 +33,12 @@ still q q′ same bytes = record { order = append-nil (queued q) ∙ sym same; b
 
 module _ (q : Queue) (clock handle size : ℕ) (ecn : Bool) (u : ℕ) where
   abbrev v : Verdict
-  v = verdictOf (q .state) size ecn u
+  v = verdictOf (begun (q .state)) size ecn u
 
   abbrev arrived : Queue
   arrived =
       record {
-        state = arrivedState (q .state) clock size v;
+        state = arrivedState (begun (q .state)) clock size v;
         handles = stored (q .state) (verdict v) (q .handles) handle;
         sizes = stored (q .state) (verdict v) (q .sizes) size;
       }
@@ -47,14 +48,14 @@ module _ (q : Queue) (clock handle size : ℕ) (ecn : Bool) (u : ℕ) where
 
   arrives : ArrivalAccepted (q .state) (length (q .handles)) (length (q .sizes)) clock size →
       Moved q arrived (cond (admitted v) (packet ∷ []) []) []
-  unfolding arrivedState
+  unfolding arrivedState begun
   arrives a = go (admitted v) refl
     where
       go : (b : Bool) → admitted v ≡ b → Moved q arrived (cond (admitted v) (packet ∷ []) []) []
       go true e =
           let s = q .state in
           let f = a .known in
-          let room = admitted-room s size ecn u (f .count-high) e in
+          let room = admitted-room (begun s) size ecn u (f .count-high) e in
           rw e (record {
             order =
                 sym (enters (s .first) (s .settings .slots) (q .handles) (q .sizes) (f .first-high)

@@ -20,7 +20,7 @@ use Rattle.guarantees.proofs.RingSheds.{clockIn, ring-sheds, ringSheddi
 
 -- ── the tallies ──
 
-abbrev same : Tally → general.Tally
+abbrev pub same : Tally → general.Tally
 same t = record { admissions = t .admissions; departures = t .departures; emptyTicks = t .emptyTicks }
 
 noted-same : (n : ℕ) (t : Tally) (a : Answer) → general.noted n (same t) (tells a) ≡ same (noted n t a)
@@ -36,7 +36,7 @@ tallies-same : (n : ℕ) (t : Tally) (entries : List Entry) →
 tallies-same n t [] = refl
 tallies-same n t (e ∷ entries) = rw (noted-same n t (e .answer)) (tallies-same n (noted n t (e .answer)) entries)
 
-tally-same : (n : ℕ) (entries : List Entry) → general.tally ringShedding n entries ≡ same (tally n entries)
+pub tally-same : (n : ℕ) (entries : List Entry) → general.tally ringShedding n entries ≡ same (tally n entries)
 tally-same n entries = tallies-same n nothingYet entries
 
 -- ── the theorem ──

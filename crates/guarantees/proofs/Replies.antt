@@ -8,6 +8,7 @@ use Prim.Native.Nat.{ℕ, zero, suc}
 use native.Mathlib.Omega.{arith}
 use lib.ListN.{length}
 use Rattle.pie.specs.declared.Verdict.{Verdict}
+use Rattle.queue.specs.Activity.{begun}
 use Rattle.queue.specs.Answer.{Reply, departed, refused, ticked, unlessRefused, verdict}
 use Rattle.queue.specs.Arrival.{arrival, arrivalRefusal, arrivedState, verdictOf}
 use Rattle.queue.specs.Departure.{departedState, departure, departureRefusal, headOf}
@@ -25,7 +26,7 @@ refusalOf s number = record { answer = refused number; state = s }
 
 abbrev pub arrivalOf : State → (clock size : ℕ) (ecn : Bool) (u : ℕ) → Reply
 arrivalOf s clock size ecn u =
-    let v = verdictOf s size ecn u in record { answer = verdict v; state = arrivedState s clock size v }
+    let v = verdictOf (begun s) size ecn u in record { answer = verdict v; state = arrivedState (begun s) clock size v }
 
 abbrev pub departureOf : State → (handles sizes : List ℕ) (clock : ℕ) → Reply
 departureOf s handles sizes clock =
@@ -121,8 +122,8 @@ reply-well-formed s w =
 
 -- the verdict of an accepted arrival is that of the rules
 pub decided-verdict : (s : State) (handles sizes : List ℕ) (clock handle size : ℕ) (ecn : Bool) (u : ℕ) (v : Verdict) →
-    (reply s (arrive handles sizes clock handle size ecn u)) .answer ≡ verdict v → verdictOf s size ecn u ≡ v
+    (reply s (arrive handles sizes clock handle size ecn u)) .answer ≡ verdict v → verdictOf (begun s) size ecn u ≡ v
 decided-verdict s handles sizes clock handle size ecn u v =
-    at-one-reply (λ r. r .answer ≡ verdict v → verdictOf s size ecn u ≡ v) s (arrive handles sizes clock handle size ecn u)
+    at-one-reply (λ r. r .answer ≡ verdict v → verdictOf (begun s) size ecn u ≡ v) s (arrive handles sizes clock handle size ecn u)
     (λ number e. cc)
     (λ a e. cc)

@@ -51,5 +51,6 @@ early-at-most-apart start calls before between later w q none =
     omega (
       arith,
       added-same between,
-      proved.early-at-most-apart ringShedding ring-sheds start calls before between later w q (λ a m. early-same (a .answer) ∙ none a m),
+      proved.early-at-most-apart ringShedding ring-sheds start calls before between later w q
+          (λ a m. (early-same (a .answer) ∙ none a m .0, none a m .1)),
     )

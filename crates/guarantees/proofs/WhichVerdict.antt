@@ -11,10 +11,12 @@ use Rattle.pie.specs.DropDecision.{drawn, dropDecision, early, earlyVerdict, in
 use Rattle.pie.specs.DropDecision.{sumIsHigh, sumIsLow, sumOf}
 use Rattle.pie.specs.declared.Verdict.{Verdict}
 use Rattle.pie.specs.declared.Verdict.the-variants.{Enqueued, Marked, DroppedBytes, DroppedSlots, DroppedEarly}
+use Rattle.laws.proofs.Choice.{at-cond, either}
 use Rattle.laws.proofs.Tests.{and-left, and-right}
 use Rattle.queue.specs.declared.State.{State}
 use Rattle.queue.specs.Arrival.{bytesFull, slotsFull, verdictOf}
-use Rattle.guarantees.specs.WhichVerdict.{Drawn, EarlyGrounds, Grounds, HighSum, LowSum, Marks, WhichVerdict}
+use Rattle.queue.proofs.Activation.{verdict-begun}
+use Rattle.guarantees.specs.WhichVerdict.{Drawn, EarlyGrounds, Grounds, HighSum, Inactive, LowSum, Marks, WhichVerdict}
 use Rattle.guarantees.specs.WhichVerdict.{Rule1, Rule2, Rule3, Rule4, Rule5, Rule6}
 use Rattle.guarantees.proofs.Replies.{decided-verdict}
 
@@ -99,41 +101,56 @@ module _ (s : State) (size : ℕ) (ecn : Bool) (u : ℕ) where
   abbrev Q : Verdict → Type 0
   Q = Grounds s size ecn u
 
-  spares : (Rule3 s ⊎ Rule4 s) ⊎ Rule5 s → Rule3 s ⊎ Rule4 s ⊎ Rule5 s ⊎ ¬ Rule6 s u
-  spares = ⊎-elim (⊎-elim inl (λ h4. inr (inl h4))) (λ h5. inr (inr (inl h5)))
+  not-inactive : ¬ Inactive s → s .active ≡ true
+  not-inactive f = go (s .active) refl
+    where
+      go : (b : Bool) → s .active ≡ b → s .active ≡ true
+      go true e = e
+      go false e = absurd (f e)
+
+  spares : (Rule3 s ⊎ Rule4 s) ⊎ Rule5 s → Inactive s ⊎ Rule3 s ⊎ Rule4 s ⊎ Rule5 s ⊎ ¬ Rule6 s u
+  spares = ⊎-elim (⊎-elim (λ h3. inr (inl h3)) (λ h4. inr (inr (inl h4)))) (λ h5. inr (inr (inr (inl h5))))
 
   none-spares : ¬ ((Rule3 s ⊎ Rule4 s) ⊎ Rule5 s) → ¬ Rule3 s × ¬ Rule4 s × ¬ Rule5 s
   none-spares f = (λ h3. f (inl (inl h3)), λ h4. f (inl (inr h4)), λ h5. f (inr h5))
 
-  -- the verdict has its grounds
-  grounds : Q (verdictOf s size ecn u)
-  unfolding verdictOf dropDecision drawn
-  grounds =
-      by-test Q DroppedBytes _ rule-1 (λ h1. search)
-      (λ f1. by-test Q DroppedSlots _ rule-2 (λ h2. search)
-      (λ f2. by-test Q Enqueued _ rules-3-to-5 (λ h. (f1, f2, spares h))
-      (λ f. by-test Q Enqueued _ low-sum (λ low. (f1, f2, inr (inr (inr (λ r6. r6 .0 low)))))
+  -- the verdict of an active queue past rules 1 and 2 has its grounds, and so has every verdict
+  active-grounds : ¬ Rule1 s size → ¬ Rule2 s → ¬ Inactive s →
+      Q (dropDecision (s .pie) (s .settings .target .0) (s .backlog .bytes .0) ecn u)
+  unfolding dropDecision drawn
+  active-grounds f1 f2 a =
+      by-test Q Enqueued _ rules-3-to-5 (λ h. (f1, f2, spares h))
+      (λ f. by-test Q Enqueued _ low-sum (λ low. (f1, f2, inr (inr (inr (inr (λ r6. r6 .0 low))))))
       (λ due. by-test Q (earlyVerdict (s .pie .prob .0) ecn) Enqueued (either-says high-sum u-early)
       (λ e.
       let n = none-spares f in
       by-test Q Marked DroppedEarly rule-6-marks
-      (λ m. ((f1, f2, n .0, n .1, n .2, (due, e)), m))
-      (λ m. ((f1, f2, n .0, n .1, n .2, (due, e)), m)))
-      (λ f6. (f1, f2, inr (inr (inr (λ r6. f6 (r6 .1))))))))))
+      (λ m. ((f1, f2, a, n .0, n .1, n .2, (due, e)), m))
+      (λ m. ((f1, f2, a, n .0, n .1, n .2, (due, e)), m)))
+      (λ f6. (f1, f2, inr (inr (inr (inr (λ r6. f6 (r6 .1)))))))))
+
+  grounds : Q (verdictOf s size ecn u)
+  unfolding verdictOf
+  grounds =
+      by-test Q DroppedBytes _ rule-1 (λ h1. search)
+      (λ f1. by-test Q DroppedSlots _ rule-2 (λ h2. search)
+      (λ f2. at-cond Q (s .active) (λ e. active-grounds f1 f2 (λ i. true≢false (sym e ∙ i))) (λ i. (f1, f2, inl i))))
 
   -- past rules 1 to 5
-  drawn-given : ¬ Rule1 s size → ¬ Rule2 s → ¬ Rule3 s → ¬ Rule4 s → ¬ Rule5 s → verdictOf s size ecn u ≡ drawn (s .pie) ecn u
+  drawn-given : ¬ Rule1 s size → ¬ Rule2 s → ¬ Inactive s → ¬ Rule3 s → ¬ Rule4 s → ¬ Rule5 s →
+      verdictOf s size ecn u ≡ drawn (s .pie) ecn u
   unfolding verdictOf dropDecision
-  drawn-given f1 f2 f3 f4 f5 = rw (fails rule-1 f1, fails rule-2 f2, fails rules-3-to-5 (⊎-elim (⊎-elim f3 f4) f5))
+  drawn-given f1 f2 a f3 f4 f5 = rw (fails rule-1 f1, fails rule-2 f2, not-inactive a, fails rules-3-to-5 (⊎-elim (⊎-elim f3 f4) f5))
 
   early-given : EarlyGrounds s size u → verdictOf s size ecn u ≡ earlyVerdict (s .pie .prob .0) ecn
   unfolding drawn
-  early-given (f1, f2, f3, f4, f5, (due, e)) =
-      drawn-given f1 f2 f3 f4 f5 ∙ rw (fails low-sum due, holds (either-says high-sum u-early) e)
+  early-given (f1, f2, a, f3, f4, f5, (due, e)) =
+      drawn-given f1 f2 a f3 f4 f5 ∙ rw (fails low-sum due, holds (either-says high-sum u-early) e)
 
-  enqueued-given : Rule3 s ⊎ Rule4 s ⊎ Rule5 s ⊎ ¬ Rule6 s u → dropDecision (s .pie) (s .settings .target .0) (s .backlog .bytes .0) ecn u ≡ Enqueued
+  spared-given : Rule3 s ⊎ Rule4 s ⊎ Rule5 s ⊎ ¬ Rule6 s u →
+      dropDecision (s .pie) (s .settings .target .0) (s .backlog .bytes .0) ecn u ≡ Enqueued
   unfolding dropDecision drawn
-  enqueued-given g =
+  spared-given g =
       let E : Verdict → Type 0 = λ v. v ≡ Enqueued in
       by-test E Enqueued _ rules-3-to-5 (λ h. refl)
       (λ f. by-test E Enqueued _ low-sum (λ low. refl)
@@ -142,6 +159,10 @@ module _ (s : State) (size : ℕ) (ecn : Bool) (u : ℕ) where
       let n = none-spares f in
       absurd (⊎-elim (n .0) (⊎-elim (n .1) (⊎-elim (n .2) (λ f6. f6 (due, e)))) g))
       (λ f6. refl)))
+
+  enqueued-given : Inactive s ⊎ Rule3 s ⊎ Rule4 s ⊎ Rule5 s ⊎ ¬ Rule6 s u →
+      cond (s .active) (dropDecision (s .pie) (s .settings .target .0) (s .backlog .bytes .0) ecn u) Enqueued ≡ Enqueued
+  enqueued-given g = ⊎-elim (λ i. rw i) (λ h. either (λ v. v ≡ Enqueued) (s .active) _ Enqueued (spared-given h) refl) g
 
   -- where a verdict has its grounds, it is given
   given : (w : Verdict) → Q w → verdictOf s size ecn u ≡ w
@@ -154,5 +175,5 @@ module _ (s : State) (size : ℕ) (ecn : Bool) (u : ℕ) where
 
 pub which-verdict : WhichVerdict
 which-verdict s handles sizes clock handle size ecn u v e w =
-    let d = decided-verdict s handles sizes clock handle size ecn u v e in
+    let d = sym (verdict-begun s size ecn u) ∙ decided-verdict s handles sizes clock handle size ecn u v e in
     (λ same. subst (Grounds s size ecn u) (d ∙ same) (grounds s size ecn u), λ g. sym d ∙ given s size ecn u w g)

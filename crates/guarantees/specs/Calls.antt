@@ -43,7 +43,13 @@ trace s calls = general.trace ringCalls s calls
 abbrev pub limitsVerdict : State → (size : ℕ) → Verdict
 limitsVerdict s size = cond (bytesFull s size) DroppedBytes (cond (slotsFull s) DroppedSlots Enqueued)
 
--- if the entry is an accepted arrival with a clock below `end`, rules 1 and 2 alone decide
+-- if the entry is an accepted arrival, rules 1 and 2 alone decide
+abbrev pub ByLimits : Entry → Type 0
+ByLimits e =
+    (handles sizes : List ℕ) (clock handle size : ℕ) (ecn : Bool) (u : ℕ) (v : Verdict) →
+    e .call ≡ arrive handles sizes clock handle size ecn u → e .answer ≡ verdict v → v ≡ limitsVerdict (e .given) size
+
+-- likewise, if its clock is below `end`
 abbrev pub ByLimitsBefore : (end : ℕ) → Entry → Type 0
 ByLimitsBefore end e =
     (handles sizes : List ℕ) (clock handle size : ℕ) (ecn : Bool) (u : ℕ) (v : Verdict) →

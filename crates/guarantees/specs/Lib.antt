@@ -11,6 +11,10 @@
 --   Q-3          Spacing           early verdicts stand at least 0.85 and less than 8.5 of added probability apart
 --   Q-6          MeasuredWhileQueued   wherever a measurement runs, a packet is queued
 --   Q-6          NeverGivenUp      from fresh, a measurement ends before the queue empties, or as it does
+--   Q-12         StaysInactive     an inactive queue that is never more than a third full stays so, and sheds by rules 1 and 2 alone
+--   Q-12         TurnsInactive     1,000 ticks on an empty queue: a calm queue is inactive again
+--   Q-12         BeforeProfiles    the ring queue by the rules before profiles
+--   Q-12         PlainAsBefore     the plain profile answers by them
 --
 -- That the library's calls give these answers, states and tables is promised by the functions themselves (crate queue).
 pub mod Calls
@@ -25,3 +29,7 @@ pub mod Conservation
 pub mod MeasuredWhileQueued
 pub mod NeverGivenUp
 pub mod Spacing
+pub mod StaysInactive
+pub mod TurnsInactive
+pub mod BeforeProfiles
+pub mod PlainAsBefore

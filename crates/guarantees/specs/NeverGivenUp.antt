@@ -1,5 +1,5 @@
 -- From fresh no measurement is given up (Q-6): over any list of calls from an accepted fresh call, with any tables lent to each, a
--- measurement ends before the queue empties, or as it does.
+-- measurement ends before the queue empties, or as it does. (One that runs where an inactive queue turns active ends there: Q-12.)
 use mathlib.Core.Path.{_≡_}
 use mathlib.Core.Bool.{true}
 use mathlib.Core.List.{List, List·Memᴰ}

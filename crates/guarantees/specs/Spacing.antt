@@ -1,7 +1,7 @@
 -- How far early verdicts stand apart (Q-3): over any list of calls, refused ones and other kinds of call anywhere between, with any tables
 -- lent to each. What is counted is the probability that each accepted arrival past rule 5 adds.
 use mathlib.Core.Path.{_≡_}
-use mathlib.Core.Bool.{Bool, true, false, cond}
+use mathlib.Core.Bool.{Bool, true, false, not, cond, _&&_}
 use mathlib.Core.List.{List, [], _∷_, _++_, List·Memᴰ}
 use Prim.Native.Nat.{ℕ, _+_, _*_, _≤_, _<_}
 use Rattle.units.specs.Kinds.{whole}
@@ -23,7 +23,7 @@ isEarlyAnswer (verdict v) = isEarly v
 isEarlyAnswer (departed handle size) = false
 isEarlyAnswer ticked = false
 
--- the probability that an arrival with this verdict adds: none where rules 1 to 5 decide
+-- the probability that an arrival with this verdict adds: none where rules 1 to 5 decide; an inactive queue's probability is 0
 abbrev pub addedAt : State → Verdict → ℕ
 addedAt s Enqueued = cond (spared (s .pie) (s .settings .target .0) (s .backlog .bytes .0)) 0 (s .pie .prob .0)
 addedAt s Marked = s .pie .prob .0
@@ -51,9 +51,13 @@ EarlyAtLeastApart =
     isEarlyAnswer (first .answer) ≡ true → isEarlyAnswer (next .answer) ≡ true →
     17 * whole ≤ 20 * added (between ++ next ∷ [])
 
--- from any well-formed state: while no early verdict comes, they come to less than 8.5
+-- an inactive queue turns active: what it has accumulated is 0 then (Q-12)
+abbrev pub activates : Entry → Bool
+activates e = not (e .given .active) && e .returned .active
+
+-- from any well-formed state: while no early verdict comes and the queue does not turn active, they come to less than 8.5
 abbrev pub EarlyAtMostApart : Type 0
 EarlyAtMostApart =
     (start : State) (calls : List Call) (before between later : List Entry) → wellFormed start ≡ true →
     trace start calls ≡ before ++ (between ++ later) →
-    ((a : Entry) → List·Memᴰ a between → isEarlyAnswer (a .answer) ≡ false) → added between < mostAccumulated
+    ((a : Entry) → List·Memᴰ a between → (isEarlyAnswer (a .answer) ≡ false) × (activates a ≡ false)) → added between < mostAccumulated

@@ -1,7 +1,7 @@
 -- Question 1: was that packet shed because the rule required it? Each of the five verdicts is given to an accepted arrival exactly when the
--- rules of document 01, 'Arrival', require it.
+-- rules of document 01, 'Arrival', require it, with the profiles of Q-12.
 use mathlib.Core.Path.{_≡_}
-use mathlib.Core.Bool.{Bool, true}
+use mathlib.Core.Bool.{Bool, true, false}
 use mathlib.Core.List.{List}
 use mathlib.Core.Logic.{_⊎_, _↔_}
 use Prim.Native.Nat.{ℕ, _+_, _*_, _≤_, _<_}
@@ -19,6 +19,10 @@ Rule1 s size = s .settings .buffer .0 < s .backlog .bytes .0 + size
 
 abbrev pub Rule2 : State → Type 0
 Rule2 s = s .backlog .count ≡ s .settings .slots
+
+-- an inactive queue has rules 1 and 2 alone (Q-12); where the arrival turns it active, the allowance is full, and rule 3 enqueues too
+abbrev pub Inactive : State → Type 0
+Inactive s = s .active ≡ false
 
 abbrev pub Rule3 : State → Type 0
 Rule3 s = 0 < s .pie .allowance .0
@@ -48,15 +52,15 @@ Rule6 s u = ¬ LowSum s × (HighSum s ⊎ Drawn s u)
 abbrev pub Marks : State → (ecn : Bool) → Type 0
 Marks s ecn = (ecn ≡ true) × (s .pie .prob .0 < tenth)
 
--- rules 1 to 5 fail, and rule 6 holds
+-- the queue is active, rules 1 to 5 fail, and rule 6 holds
 abbrev pub EarlyGrounds : State → (size u : ℕ) → Type 0
-EarlyGrounds s size u = ¬ Rule1 s size × ¬ Rule2 s × ¬ Rule3 s × ¬ Rule4 s × ¬ Rule5 s × Rule6 s u
+EarlyGrounds s size u = ¬ Rule1 s size × ¬ Rule2 s × ¬ Inactive s × ¬ Rule3 s × ¬ Rule4 s × ¬ Rule5 s × Rule6 s u
 
 -- what the rules ask for each verdict; enqueued where rule 6 fails is rule 7
 abbrev pub Grounds : State → (size : ℕ) (ecn : Bool) (u : ℕ) → Verdict → Type 0
 Grounds s size ecn u DroppedBytes = Rule1 s size
 Grounds s size ecn u DroppedSlots = ¬ Rule1 s size × Rule2 s
-Grounds s size ecn u Enqueued = ¬ Rule1 s size × ¬ Rule2 s × (Rule3 s ⊎ Rule4 s ⊎ Rule5 s ⊎ ¬ Rule6 s u)
+Grounds s size ecn u Enqueued = ¬ Rule1 s size × ¬ Rule2 s × (Inactive s ⊎ Rule3 s ⊎ Rule4 s ⊎ Rule5 s ⊎ ¬ Rule6 s u)
 Grounds s size ecn u Marked = EarlyGrounds s size u × Marks s ecn
 Grounds s size ecn u DroppedEarly = EarlyGrounds s size u × ¬ Marks s ecn
 

@@ -1,7 +1,7 @@
 -- The most that the probability can be after so many ticks in succession that each found the queue empty, with a target of at least
 -- `least`.
 use mathlib.Core.Path.{_≡_, refl}
-use mathlib.Core.Bool.{cond}
+use mathlib.Core.Bool.{Bool, cond}
 use mathlib.Core.List.{List, [], _∷_}
 use mathlib.Core.Logic.{_⊎_, inl, inr, ⊎-elim}
 use Prim.Native.Nat.{ℕ, zero, suc, _-_, _*_, _/_, _≤_, max}
@@ -63,16 +63,17 @@ same-divisor : (p b : ℕ) → p ≤ b → (divisorOf p ≡ divisorOf b) ⊎ (p 
 unfolding divisorOf
 same-divisor p b h = same-row table 0 p b h
 
-next-le-worst : (least target p b : ℕ) → least ≤ target → p ≤ b → nextProb p 0 0 target ≤ worst least b
+next-le-worst : (calm : Bool) (least target p b : ℕ) → least ≤ target → p ≤ b → nextProb calm p 0 0 target ≤ worst least b
 unfolding worst
-next-le-worst least target p b h l =
-    rw (next-empty p target) (⊎-elim (λ e. rw e (omega (arith, fall-mono (divisorOf b) h))) (λ m. omega arith) (same-divisor p b l))
+next-le-worst calm least target p b h l =
+    rw (next-empty calm p target) (⊎-elim (λ e. rw e (omega (arith, fall-mono (divisorOf b) h))) (λ m. omega arith) (same-divisor p b l))
 
 -- ── tick after tick ──
 
-pub bound-next : (least target n p : ℕ) → least ≤ target → p ≤ bound least (suc n) → nextProb p 0 0 target ≤ bound least (suc (suc n))
+pub bound-next : (calm : Bool) (least target n p : ℕ) → least ≤ target → p ≤ bound least (suc n) →
+    nextProb calm p 0 0 target ≤ bound least (suc (suc n))
 unfolding bound
-bound-next least target n p h l = next-le-worst least target p (bound least (suc n)) h l
+bound-next calm least target n p h l = next-le-worst calm least target p (bound least (suc n)) h l
 
 worst-none : (least : ℕ) → worst least 0 ≡ 0
 unfolding worst floor

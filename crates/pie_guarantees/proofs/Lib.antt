@@ -1,5 +1,6 @@
 -- The proofs of the claims in specs/, each in the file of its name, and what they share.
 pub mod AtTold
+pub mod NoProfile
 pub mod AllowanceLasts
 pub mod Fall
 pub mod Bound

@@ -1,5 +1,5 @@
 -- No measurement is given up (Q-6), of any kind of queue that sheds load by PIE: over any list of calls from a state in which none runs, a
--- measurement ends before the queue empties, or as it does.
+-- measurement ends before the queue empties, or as it does. (One that runs where an inactive queue turns active ends there: Q-12.)
 use mathlib.Core.Path.{_≡_}
 use mathlib.Core.Bool.{true, false}
 use mathlib.Core.List.{List, List·Memᴰ}

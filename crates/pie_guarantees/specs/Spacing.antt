@@ -1,7 +1,7 @@
 -- How far early verdicts stand apart (Q-3), of any kind of queue that sheds load by PIE: over any list of calls, refused ones and other
 -- kinds of call anywhere between. What is counted is the probability that each accepted arrival past rule 5 adds.
 use mathlib.Core.Path.{_≡_}
-use mathlib.Core.Bool.{Bool, true, false, cond}
+use mathlib.Core.Bool.{Bool, true, false, not, cond, _&&_}
 use mathlib.Core.List.{List, [], _∷_, _++_, List·Memᴰ}
 use Prim.Native.Nat.{ℕ, _+_, _*_, _≤_, _<_}
 use Rattle.units.specs.Kinds.{whole}
@@ -20,7 +20,7 @@ tellsEarly (decided v) = isEarly v
 tellsEarly (departed size) = false
 tellsEarly ticked = false
 
--- the probability that an arrival with this verdict adds: none where rules 1 to 5 decide
+-- the probability that an arrival with this verdict adds: none where rules 1 to 5 decide; an inactive queue's probability is 0
 abbrev pub addedAt : (k : Shedding) → k .kind .State → Verdict → ℕ
 addedAt k s Enqueued = cond (spared (k .pie s) (k .target s) (k .bytes s)) 0 ((k .pie s) .prob .0)
 addedAt k s Marked = (k .pie s) .prob .0
@@ -48,9 +48,14 @@ EarlyAtLeastApart =
     tellsEarly (k .tells (first .answer)) ≡ true → tellsEarly (k .tells (next .answer)) ≡ true →
     17 * whole ≤ 20 * added k (between ++ next ∷ [])
 
--- from any well-formed state: while no early verdict comes, they come to less than 8.5
+-- an inactive queue turns active: what it has accumulated is 0 then (Q-12)
+abbrev pub activates : (k : Shedding) → Entry (k .kind) → Bool
+activates k e = not (k .active (e .given)) && k .active (e .returned)
+
+-- from any well-formed state: while no early verdict comes and the queue does not turn active, they come to less than 8.5
 abbrev pub EarlyAtMostApart : Type 1
 EarlyAtMostApart =
     (k : Shedding) → Sheds k → (start : k .kind .State) (calls : List (k .kind .Call)) →
     (before between later : List (Entry (k .kind))) → k .Formed start → trace (k .kind) start calls ≡ before ++ (between ++ later) →
-    ((a : Entry (k .kind)) → List·Memᴰ a between → tellsEarly (k .tells (a .answer)) ≡ false) → added k between < mostAccumulated
+    ((a : Entry (k .kind)) → List·Memᴰ a between → (tellsEarly (k .tells (a .answer)) ≡ false) × (activates k a ≡ false)) →
+    added k between < mostAccumulated
