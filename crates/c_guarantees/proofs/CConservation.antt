@@ -80,8 +80,8 @@ conserved q requests k =
     }
 
 pub c-conservation : CConservation
-c-conservation given target buffer slots clock requests accepted =
-    let settings = settingsOf target buffer slots in
-    conserved (freshQueue given target buffer slots clock) requests
-    (rw (run-same given target buffer slots clock requests) at
-    (conservation settings clock (given .handles) (given .sizes) requests (fresh-made target buffer slots clock accepted)))
+c-conservation given target buffer slots profile clock requests accepted =
+    let settings = settingsOf target buffer slots profile in
+    conserved (freshQueue given target buffer slots profile clock) requests
+    (rw (run-same given target buffer slots profile clock requests) at
+    (conservation settings clock (given .handles) (given .sizes) requests (fresh-made target buffer slots profile clock accepted)))

@@ -17,11 +17,11 @@ use Rattle.c_guarantees.specs.CHanded.{CQueue, Logged, freshCode, queueO
 use Rattle.c_guarantees.specs.RunsJoined.{SameRun}
 use Rattle.c_guarantees.proofs.RunsJoined.{runs-joined}
 
-pub fresh-made : (target buffer slots clock : ℕ) → freshCode target buffer slots clock ≡ 0 →
-    (fresh (settingsOf target buffer slots) clock) .answer ≡ made
+pub fresh-made : (target buffer slots profile clock : ℕ) → freshCode target buffer slots profile clock ≡ 0 →
+    (fresh (settingsOf target buffer slots profile) clock) .answer ≡ made
 unfolding fresh
-fresh-made target buffer slots clock =
-    either (λ (r : Reply). codeOf (r .answer) ≡ 0 → r .answer ≡ made) (settingsRefused (settingsOf target buffer slots) clock) _ _
+fresh-made target buffer slots profile clock =
+    either (λ (r : Reply). codeOf (r .answer) ≡ 0 → r .answer ≡ made) (settingsRefused (settingsOf target buffer slots profile) clock) _ _
     (λ e. absurd (omega arith))
     (λ e. refl)
 
@@ -34,7 +34,7 @@ in-order q log r same ordered =
     same .admitted ∙ ordered ∙ sym (ap₂ _++_ (same .departed) (queued-held q ∙ ap queued (same .queue)))
 
 pub c-first-in-first-out : CFirstInFirstOut
-c-first-in-first-out given target buffer slots clock requests accepted =
-    let settings = settingsOf target buffer slots in
-    in-order _ _ _ (runs-joined given target buffer slots clock requests)
-    (first-in-first-out settings clock (given .handles) (given .sizes) requests (fresh-made target buffer slots clock accepted))
+c-first-in-first-out given target buffer slots profile clock requests accepted =
+    let settings = settingsOf target buffer slots profile in
+    in-order _ _ _ (runs-joined given target buffer slots profile clock requests)
+    (first-in-first-out settings clock (given .handles) (given .sizes) requests (fresh-made target buffer slots profile clock accepted))

@@ -4,6 +4,7 @@ use mathlib.Core.List.{List, [], _∷_, _++_, foldl, foldl-append, List·Memᴰ,
 use mathlib.Core.List.{List·Memᴰ·tail, map}
 use Prim.Native.Nat.{ℕ, _+_}
 use native.Mathlib.Omega.{arith}
+use Rattle.queue.specs.Activity.{begun}
 use Rattle.queue.specs.Arrival.{verdictOf}
 use Rattle.queue.specs.declared.State.{State}
 use Rattle.capi.specs.Codes.{codeOf}
@@ -23,7 +24,7 @@ noted-same : (n : ℕ) (t : Tally) (s : State) (c : Call) → codeNoted n t c (c
 noted-same n t s =
     at-reply s (λ c r. codeNoted n t c (codeOf (r .answer)) ≡ noted n t (r .answer))
     refused-noted
-    (λ handles sizes clock handle size ecn u a. rw (admitted-below-2 (verdictOf s size ecn u)))
+    (λ handles sizes clock handle size ecn u a. rw (admitted-below-2 (verdictOf (begun s) size ecn u)))
     (λ handles sizes clock a. refl)
     (λ clock a. refl)
   where

@@ -3,6 +3,7 @@ use mathlib.Core.Path.{_≡_, refl, _∙_}
 use mathlib.Core.List.{List}
 use Prim.Native.Nat.{ℕ}
 use Rattle.pie.proofs.Counts.{length-raised}
+use Rattle.queue.specs.Activity.{begun}
 use Rattle.queue.specs.Arrival.{arrivedState, verdictOf}
 use Rattle.queue.specs.Departure.{departedState}
 use Rattle.queue.specs.Tick.{tickedState}
@@ -15,12 +16,13 @@ use Rattle.c_guarantees.proofs.Decoding.{decoding}
 
 -- a refused call leaves the words that hold its state; any other call writes its state's words
 pub words-left : (words : List ℕ) (c : Call) → stateOf (wordsLeft words c) ≡ (reply (stateOf words) c) .state
-unfolding arrivedState departedState tickedState
+unfolding arrivedState begun departedState tickedState
 words-left w =
     let s = stateOf w in
     at-reply s (λ c r. stateOf (wordsAfter r w) ≡ r .state)
     (λ c number. refl)
     (λ handles sizes clock handle size ecn u a.
-    let v = verdictOf s size ecn u in decoding .decodes w (arrivedState s clock size v) (length-raised (s .verdicts) v ∙ decoding .five w))
+    let v = verdictOf (begun s) size ecn u in
+    decoding .decodes w (arrivedState (begun s) clock size v) (length-raised (s .verdicts) v ∙ decoding .five w))
     (λ handles sizes clock a. decoding .decodes w _ (decoding .five w))
     (λ clock a. decoding .decodes w _ (decoding .five w))

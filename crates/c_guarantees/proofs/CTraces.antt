@@ -10,6 +10,7 @@ use Rattle.pie.specs.Verdicts.{placeOf}
 use Rattle.pie.specs.declared.Verdict.{Verdict}
 use Rattle.pie.specs.declared.Verdict.the-variants.{Enqueued, DroppedBytes, DroppedSlots}
 use Rattle.queue.specs.Answer.{ticked, verdict}
+use Rattle.queue.specs.Activity.{begun}
 use Rattle.queue.specs.Arrival.{verdictOf}
 use Rattle.queue.specs.declared.State.{State}
 use Rattle.capi.specs.Codes.{codeOf}
@@ -82,7 +83,7 @@ module _ (s : State) (handles sizes : List ℕ) (clock handle size : ℕ) (ecn :
   arrival-answered =
       at-one-reply (λ r. codeOf (r .answer) < 100 → (v : Verdict) × (r .answer ≡ verdict v)) s arrived
       (λ number h. absurd (omega arith))
-      (λ a h. (verdictOf s size ecn u, refl))
+      (λ a h. (verdictOf (begun s) size ecn u, refl))
 
 limits-place : (words : List ℕ) (size : ℕ) → placeOf (limitsVerdict (stateOf words) size) ≡ limitsCode words size
 unfolding stateOf

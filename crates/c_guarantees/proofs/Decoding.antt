@@ -9,11 +9,11 @@ use lib.ListN.{getD, length}
 use Rattle.capi.specs.Words.{flagWord, isSet, stateOf, stateWords}
 use Rattle.c_guarantees.specs.Decoding.{Decoding}
 
--- the word `measuring` says what was written
-flag-says : (word : ℕ) (runs : Bool) → isSet (flagWord word runs) ≡ runs
-flag-says word runs = go (eqb word 0) refl runs
+-- the word of a flag says what was written
+flag-says : (word : ℕ) (said : Bool) → isSet (flagWord word said) ≡ said
+flag-says word said = go (eqb word 0) refl said
   where
-    go : (b : Bool) → eqb word 0 ≡ b → (runs : Bool) → isSet (cond (not b) (cond runs word 0) (cond runs 1 0)) ≡ runs
+    go : (b : Bool) → eqb word 0 ≡ b → (said : Bool) → isSet (cond (not b) (cond said word 0) (cond said 1 0)) ≡ said
     go true e true = refl
     go true e false = refl
     go false e true = ap not e
@@ -33,7 +33,13 @@ pub decoding : Decoding
 unfolding stateOf stateWords
 decoding =
     record {
-      decodes = λ w s h. rw (flag-says (getD w 10 0) (s .pie .rate .measuring), five-written (s .verdicts) h);
+      decodes =
+          λ w s h.
+          rw (
+            flag-says (getD w 10 0) (s .pie .rate .measuring),
+            flag-says (getD w 22 0) (s .active),
+            five-written (s .verdicts) h,
+          );
       five = λ w. refl;
-      twenty-one = λ w s. refl;
+      twenty-three = λ w s. refl;
     }

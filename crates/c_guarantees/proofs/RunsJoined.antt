@@ -8,6 +8,7 @@ use lib.ListN.{length}
 use Rattle.laws.proofs.Choice.{either}
 use Rattle.pie.specs.Verdicts.{placeOf}
 use Rattle.queue.specs.Answer.{Answer, Reply, admits, refused}
+use Rattle.queue.specs.Activity.{begun}
 use Rattle.queue.specs.Arrival.{verdictOf}
 use Rattle.queue.specs.Fresh.{fresh, settingsOf}
 use Rattle.queue.specs.Refusals.{settingsRefused}
@@ -43,7 +44,7 @@ admitted-same q (askArrival clock handle size ecn u) =
     let r = askArrival clock handle size ecn u in
     at-one-reply (λ p. admittedAt (loggedWith q r (p .answer)) ≡ states.admittedBy r (p .answer)) (stateOf (q .words)) (cCallOf q r)
     (λ number. rw (refused-not-below number 2 (omega arith)))
-    (λ a. rw (admitted-below-2 (verdictOf (stateOf (q .words)) size ecn u)))
+    (λ a. rw (admitted-below-2 (verdictOf (begun (stateOf (q .words))) size ecn u)))
 admitted-same q (askDeparture clock) =
     let r = askDeparture clock in same-either-way (ltb (codeFor q r) 2) [] ∙ sym (same-either-way (admits (answerOf (queueOf q) r)) [])
 admitted-same q (askTick clock) =
@@ -62,7 +63,7 @@ departed-same q r =
 
     some : (r : Request) → Accepted (stateOf (q .words)) (cCallOf q r) →
         let a = (acceptance (stateOf (q .words)) (cCallOf q r)) .answer in handedOutAt (loggedWith q r a) ≡ departedBy a
-    some (askArrival clock handle size ecn u) a = same-either-way (eqb (placeOf (verdictOf (stateOf (q .words)) size ecn u)) 0) []
+    some (askArrival clock handle size ecn u) a = same-either-way (eqb (placeOf (verdictOf (begun (stateOf (q .words))) size ecn u)) 0) []
     some (askDeparture clock) a = refl
     some (askTick clock) a = refl
 
@@ -100,23 +101,24 @@ fresh-five : (settings : Settings) (clock : ℕ) → length ((fresh settings clo
 unfolding fresh
 fresh-five settings clock = either (λ (r : Reply). length (r .state .verdicts) ≡ 5) (settingsRefused settings clock) _ _ refl refl
 
-begin-same : (given : CQueue) (target buffer slots clock : ℕ) →
-    begin (settingsOf target buffer slots) clock (given .handles) (given .sizes)
-    ≡ runOf (freshQueue given target buffer slots clock) [] [] []
-begin-same given target buffer slots clock =
-    let settings = settingsOf target buffer slots in
-    rw (decoding .decodes (given .words) ((fresh settings clock) .state) (fresh-five settings clock))
+begin-same : (given : CQueue) (target buffer slots profile clock : ℕ) →
+    begin (settingsOf target buffer slots profile) clock (given .handles) (given .sizes)
+    ≡ runOf (freshQueue given target buffer slots profile clock) [] [] []
+begin-same given target buffer slots profile clock =
+    let settings = settingsOf target buffer slots profile in
+    rw (decoding .decodes [] ((fresh settings clock) .state) (fresh-five settings clock))
 
-pub run-same : (given : CQueue) (target buffer slots clock : ℕ) (requests : List Request) →
-    let start = freshQueue given target buffer slots clock in
+pub run-same : (given : CQueue) (target buffer slots profile clock : ℕ) (requests : List Request) →
+    let start = freshQueue given target buffer slots profile clock in
     let log = logOf start requests in
-    run (settingsOf target buffer slots) clock (given .handles) (given .sizes) requests
+    run (settingsOf target buffer slots profile) clock (given .handles) (given .sizes) requests
     ≡ runOf (finalQueue start requests) (admittedIn log) (handedOutIn log) (answersTo start requests)
-run-same given target buffer slots clock requests =
-    rw (begin-same given target buffer slots clock) (steps-same (freshQueue given target buffer slots clock) [] [] [] requests)
+run-same given target buffer slots profile clock requests =
+    rw (begin-same given target buffer slots profile clock)
+    (steps-same (freshQueue given target buffer slots profile clock) [] [] [] requests)
 
 pub runs-joined : RunsJoined
-runs-joined given target buffer slots clock requests =
-    let start = freshQueue given target buffer slots clock in
-    rw (run-same given target buffer slots clock requests)
+runs-joined given target buffer slots profile clock requests =
+    let start = freshQueue given target buffer slots profile clock in
+    rw (run-same given target buffer slots profile clock requests)
     (record { queue = refl; codes = codes-same start requests; admitted = refl; departed = refl })

@@ -39,5 +39,5 @@ pub record CConserved (q : CQueue) (log : List Logged) : Type 0 where
 
 abbrev pub CConservation : Type 0
 CConservation =
-    (given : CQueue) (target buffer slots clock : ℕ) (requests : List Request) → freshCode target buffer slots clock ≡ 0 →
-    let start = freshQueue given target buffer slots clock in CConserved (finalQueue start requests) (logOf start requests)
+    (given : CQueue) (target buffer slots profile clock : ℕ) (requests : List Request) → freshCode target buffer slots profile clock ≡ 0 →
+    let start = freshQueue given target buffer slots profile clock in CConserved (finalQueue start requests) (logOf start requests)

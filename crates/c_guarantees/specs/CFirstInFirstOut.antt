@@ -12,5 +12,5 @@ CInOrder q log = admittedIn log ≡ handedOutIn log ++ queuedIn q
 
 abbrev pub CFirstInFirstOut : Type 0
 CFirstInFirstOut =
-    (given : CQueue) (target buffer slots clock : ℕ) (requests : List Request) → freshCode target buffer slots clock ≡ 0 →
-    let start = freshQueue given target buffer slots clock in CInOrder (finalQueue start requests) (logOf start requests)
+    (given : CQueue) (target buffer slots profile clock : ℕ) (requests : List Request) → freshCode target buffer slots profile clock ≡ 0 →
+    let start = freshQueue given target buffer slots profile clock in CInOrder (finalQueue start requests) (logOf start requests)

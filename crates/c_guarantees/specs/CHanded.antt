@@ -23,13 +23,13 @@ pub record CQueue : Type 0 where
   pub sizes : List ℕ
 
 -- what obikuteru_fresh answers, and the queue that it makes of any words and tables
-abbrev pub freshCode : (target buffer slots clock : ℕ) → ℕ
-freshCode target buffer slots clock = codeOf ((fresh (settingsOf target buffer slots) clock) .answer)
+abbrev pub freshCode : (target buffer slots profile clock : ℕ) → ℕ
+freshCode target buffer slots profile clock = codeOf ((fresh (settingsOf target buffer slots profile) clock) .answer)
 
-abbrev pub freshQueue : CQueue → (target buffer slots clock : ℕ) → CQueue
-freshQueue q target buffer slots clock =
+abbrev pub freshQueue : CQueue → (target buffer slots profile clock : ℕ) → CQueue
+freshQueue q target buffer slots profile clock =
     record {
-      words = stateWords (q .words) ((fresh (settingsOf target buffer slots) clock) .state);
+      words = stateWords [] ((fresh (settingsOf target buffer slots profile) clock) .state);
       handles = q .handles;
       sizes = q .sizes;
     }

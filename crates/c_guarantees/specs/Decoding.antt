@@ -11,4 +11,4 @@ pub record Decoding : Type 0 where
   pub decodes : (words : List ℕ) (s : State) → length (s .verdicts) ≡ 5 → stateOf (stateWords words s) ≡ s
   -- the state that any words hold has five
   pub five : (words : List ℕ) → length ((stateOf words) .verdicts) ≡ 5
-  pub twenty-one : (words : List ℕ) (s : State) → length (stateWords words s) ≡ 21
+  pub twenty-three : (words : List ℕ) (s : State) → length (stateWords words s) ≡ 23

@@ -18,7 +18,7 @@ pub record SameRun (q : CQueue) (log : List Logged) (r : Run) : Type 0 where
 
 abbrev pub RunsJoined : Type 0
 RunsJoined =
-    (given : CQueue) (target buffer slots clock : ℕ) (requests : List Request) →
-    let start = freshQueue given target buffer slots clock in
+    (given : CQueue) (target buffer slots profile clock : ℕ) (requests : List Request) →
+    let start = freshQueue given target buffer slots profile clock in
     SameRun (finalQueue start requests) (logOf start requests)
-    (run (settingsOf target buffer slots) clock (given .handles) (given .sizes) requests)
+    (run (settingsOf target buffer slots profile) clock (given .handles) (given .sizes) requests)

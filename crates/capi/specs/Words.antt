@@ -1,10 +1,11 @@
--- The state record as twenty-one words, in the order of struct obikuteru_state.
+-- The state record as twenty-three words, in the order of struct obikuteru_state.
 use mathlib.Core.Bool.{Bool, not, cond}
 use mathlib.Core.List.{List, [], _∷_}
 use Prim.Native.Nat.{ℕ, _+_}
 use lib.Dec.{eqb}
 use lib.ListN.{getD, set}
 use Rattle.units.specs.Kinds.{bytes, micros, prob}
+use Rattle.pie.specs.Constants.{fullAllowance}
 use Rattle.pie.specs.declared.Backlog.{Backlog}
 use Rattle.pie.specs.declared.Pie.{Pie}
 use Rattle.pie.specs.declared.Rate.{Rate}
@@ -39,24 +40,25 @@ pieOf w =
 abbrev pub backlogOf : (words : List ℕ) → Backlog
 backlogOf w = record { count = getD w 13 0; bytes = bytes (getD w 14 0) }
 
--- the state that twenty-one words hold
+-- the state that twenty-three words hold
 unfoldable pub stateOf : (words : List ℕ) → State
 stateOf w =
     record {
-      settings = settingsOf (getD w 0 0) (getD w 1 0) (getD w 2 0);
+      settings = settingsOf (getD w 0 0) (getD w 1 0) (getD w 2 0) (getD w 21 0);
       clock = micros (getD w 3 0);
       last = micros (getD w 4 0);
       pie = pieOf w;
       backlog = backlogOf w;
       first = getD w 15 0;
       verdicts = getD w 16 0 ∷ getD w 17 0 ∷ getD w 18 0 ∷ getD w 19 0 ∷ getD w 20 0 ∷ [];
+      active = isSet (getD w 22 0);
     }
 
--- the word `measuring`: left as it is where it says so already, else 1 or 0
-abbrev pub flagWord : (word : ℕ) (runs : Bool) → ℕ
-flagWord word runs = cond (isSet word) (cond runs word 0) (cond runs 1 0)
+-- the word of a flag, `measuring` or `active`: left as it is where it says so already, else 1 or 0
+abbrev pub flagWord : (word : ℕ) (said : Bool) → ℕ
+flagWord word said = cond (isSet word) (cond said word 0) (cond said 1 0)
 
--- the twenty-one words of a state, written over these
+-- the twenty-three words of a state, written over these
 unfoldable pub stateWords : (words : List ℕ) → State → List ℕ
 stateWords w s =
     s .settings .target .0
@@ -80,9 +82,18 @@ stateWords w s =
     ∷ getD (s .verdicts) 2 0
     ∷ getD (s .verdicts) 3 0
     ∷ getD (s .verdicts) 4 0
+    ∷ s .settings .profile
+    ∷ flagWord (getD w 22 0) (s .active)
     ∷ []
 
--- the words that an arrival with this verdict changes: clock, accumulated probability, count, bytes and the verdict's count
+-- the words that turning active changes, but for the accumulated probability, which every arrival writes
+abbrev pub restartedWords : (words : List ℕ) → List ℕ
+restartedWords w =
+    let controlled = set (set (set w 5 0) 6 0) 7 fullAllowance in
+    let rated = set (set (set (set controlled 9 0) 10 0) 11 0) 12 0 in
+    set rated 22 1
+
+-- the words that an arrival with this verdict changes beside those: clock, accumulated probability, count, bytes and the verdict's count
 abbrev pub arrivalWords : (words : List ℕ) → State → Verdict → List ℕ
 arrivalWords w s v =
     let early = set (set w 3 (s .clock .0)) 8 (s .pie .accumulated .0) in

@@ -1,6 +1,7 @@
 // The C interface (include/obikuteru.h): the queue's calls over a state that is lent as words.
 // Each entry decodes the words, makes the one call of the queue and encodes what it returned.
 use pie::Backlog;
+use pie::FULL_ALLOWANCE;
 use pie::Pie;
 use pie::Rate;
 use pie::Verdict;
@@ -13,6 +14,7 @@ use units::Bytes;
 use units::Micros;
 use units::Prob;
 ghost use mathlib.Core.Path.{_≡_};
+ghost use mathlib.Core.Bool.{cond};
 ghost use mathlib.Core.List.{[], _∷_};
 ghost use Prim.Native.Nat.{_+_, _<_};
 ghost use lib.ListN.{getD, length};
@@ -24,17 +26,18 @@ ghost use Rattle.queue.specs.Fresh.{fresh, settingsOf};
 ghost use Rattle.queue.specs.Arrival.{arrival, stored};
 ghost use Rattle.queue.specs.Departure.{departedState, departure};
 ghost use Rattle.queue.specs.Tick.{tick};
-ghost use Rattle.capi.specs.Words.{arrivalWords, flagWord, stateOf, stateWords};
+ghost use Rattle.capi.specs.Words.{arrivalWords, flagWord, restartedWords, stateOf, stateWords};
 ghost use Rattle.capi.specs.Codes.{codeOf, packetOf, wordsAfter};
 
-// The state that the words hold, and that they are twenty-one.
-fn decode(w: [u64; 21]) -> State
-    ensures { λ r. ⌜ (r ≡ stateOf w) × (length w ≡ 21) ⌝ }
+// The state that the words hold, and that they are twenty-three.
+fn decode(w: [u64; 23]) -> State
+    ensures { λ r. ⌜ (r ≡ stateOf w) × (length w ≡ 23) ⌝ }
 {
     let settings = Settings {
         target: Micros(w[0]),
         buffer: Bytes(w[1]),
         slots: w[2],
+        profile: w[21],
     };
     let rate = Rate {
         average: Micros(w[9]),
@@ -62,25 +65,26 @@ fn decode(w: [u64; 21]) -> State
         backlog,
         first: w[15],
         verdicts,
+        active: w[22] != 0,
     }
 }
 
-// The word `measuring`, left as it is where it says so already.
-fn flag(word: u64, runs: bool) -> u64
-    ensures { λ r. ⌜ r ≡ flagWord word runs ⌝ }
+// The word of a flag, left as it is where it says so already.
+fn flag(word: u64, said: bool) -> u64
+    ensures { λ r. ⌜ r ≡ flagWord word said ⌝ }
 {
     let set = word != 0;
     if set {
-        if runs {
+        if said {
             return word;
         }
         return 0;
     }
-    runs as u64
+    said as u64
 }
 
 // The words of a state.
-fn encode(w: &mut [u64; 21], s: State)
+fn encode(w: &mut [u64; 23], s: State)
     ensures { λ _. ⌜ now (w .exit) ≡ stateWords (now (w .entry)) s ⌝ }
 {
     let v0 = s.verdicts[0];
@@ -89,6 +93,7 @@ fn encode(w: &mut [u64; 21], s: State)
     let v3 = s.verdicts[3];
     let v4 = s.verdicts[4];
     let runs = flag(w[10], s.pie.rate.measuring);
+    let active = flag(w[22], s.active);
     *w = [
         s.settings.target.0,
         s.settings.buffer.0,
@@ -111,15 +116,35 @@ fn encode(w: &mut [u64; 21], s: State)
         v2,
         v3,
         v4,
+        s.settings.profile,
+        active,
     ];
 }
 
-// The words that an arrival with this verdict changes: fewer than `encode` writes, since the tables were written before.
-fn write_arrival(w: &mut [u64; 21], s: State, v: Verdict) -> u32
+// The words that turning active changes, but for the accumulated probability, which every arrival writes.
+fn write_restart(w: &mut [u64; 23])
+    ensures { λ _. ⌜ now (w .exit) ≡ restartedWords (now (w .entry)) ⌝ }
+{
+    w[5] = 0;
+    w[6] = 0;
+    w[7] = FULL_ALLOWANCE;
+    w[9] = 0;
+    w[10] = 0;
+    w[11] = 0;
+    w[12] = 0;
+    w[22] = 1;
+}
+
+// The words that an arrival with this verdict changes: fewer than `encode` writes, since the tables were written before. `turned`: it
+// made the queue active.
+fn write_arrival(w: &mut [u64; 23], s: State, v: Verdict, turned: bool) -> u32
     requires { ⌜ getD (now w) (16 + placeOf v) 0 < mostVerdicts ⌝ }
     ensures { λ r. ⌜ r ≡ placeOf v ⌝ }
-    ensures { λ _. ⌜ now (w .exit) ≡ arrivalWords (now (w .entry)) s v ⌝ }
+    ensures { λ _. ⌜ now (w .exit) ≡ arrivalWords (cond turned (restartedWords (now (w .entry))) (now (w .entry))) s v ⌝ }
 {
+    if turned {
+        write_restart(w);
+    }
     let place = v.place();
     let at = 16 + place;
     w[3] = s.clock.0;
@@ -131,8 +156,8 @@ fn write_arrival(w: &mut [u64; 21], s: State, v: Verdict) -> u32
 }
 
 // The words that a departure changes, and its packet. A measurement that has counted bytes goes on, and its other words stay.
-fn write_departure(w: &mut [u64; 21], packet: &mut [u32; 2], state: State, handle: u32, size: u32)
-    requires { ⌜ (length (now w) ≡ 21) × (state ≡ departedState (stateOf (now w)) (state .clock .0) size) ⌝ }
+fn write_departure(w: &mut [u64; 23], packet: &mut [u32; 2], state: State, handle: u32, size: u32)
+    requires { ⌜ (length (now w) ≡ 23) × (state ≡ departedState (stateOf (now w)) (state .clock .0) size) ⌝ }
     ensures { λ _. ⌜ now (w .exit) ≡ stateWords (now (w .entry)) state ⌝ }
     ensures { λ _. ⌜ now (packet .exit) ≡ handle ∷ size ∷ [] ⌝ }
 {
@@ -159,16 +184,18 @@ fn refused(r: Refusal) -> u32
 
 #[no_mangle]
 pub extern "C" fn obikuteru_fresh(
-    words: &mut [u64; 21],
+    words: &mut [u64; 23],
     target: u64,
     buffer: u64,
     slots: u64,
+    profile: u64,
     clock: u64,
 ) -> u32
-    ensures { λ r. ⌜ r ≡ codeOf (fresh (settingsOf target buffer slots) clock .answer) ⌝ }
-    ensures { λ _. ⌜ now (words .exit) ≡ stateWords (now (words .entry)) (fresh (settingsOf target buffer slots) clock .state) ⌝ }
+    ensures { λ r. ⌜ r ≡ codeOf (fresh (settingsOf target buffer slots profile) clock .answer) ⌝ }
+    ensures { λ _. ⌜ now (words .exit) ≡ stateWords [] (fresh (settingsOf target buffer slots profile) clock .state) ⌝ }
 {
-    let r = State::fresh(Micros(target), Bytes(buffer), slots, Micros(clock));
+    *words = [0; 23];
+    let r = State::fresh(Micros(target), Bytes(buffer), slots, profile, Micros(clock));
     let state = r.state;
     encode(words, state);
     let accepted = r.accepted;
@@ -180,7 +207,7 @@ pub extern "C" fn obikuteru_fresh(
 
 #[no_mangle]
 pub extern "C" fn obikuteru_arrival(
-    words: &mut [u64; 21],
+    words: &mut [u64; 23],
     handles: &mut [u32],
     sizes: &mut [u32],
     clock: u64,
@@ -209,13 +236,13 @@ pub extern "C" fn obikuteru_arrival(
     let answer = r.answer;
     match answer {
         ArrivalAnswer::Refused(refusal) => refused(refusal),
-        ArrivalAnswer::Decided(v) => write_arrival(words, state, v),
+        ArrivalAnswer::Decided(v) => write_arrival(words, state, v, !s.active & state.active),
     }
 }
 
 #[no_mangle]
 pub extern "C" fn obikuteru_departure(
-    words: &mut [u64; 21],
+    words: &mut [u64; 23],
     handles: &[u32],
     sizes: &[u32],
     clock: u64,
@@ -245,7 +272,7 @@ pub extern "C" fn obikuteru_departure(
 }
 
 #[no_mangle]
-pub extern "C" fn obikuteru_tick(words: &mut [u64; 21], clock: u64) -> u32
+pub extern "C" fn obikuteru_tick(words: &mut [u64; 23], clock: u64) -> u32
     ensures { λ r. ⌜ (let a = tick (stateOf (now (words .entry))) clock in
         (r ≡ codeOf (a .answer)) × (now (words .exit) ≡ wordsAfter a (now (words .entry)))) ⌝ }
 {
@@ -263,7 +290,7 @@ pub extern "C" fn obikuteru_tick(words: &mut [u64; 21], clock: u64) -> u32
 }
 
 #[no_mangle]
-pub extern "C" fn obikuteru_well_formed(words: &[u64; 21]) -> bool
+pub extern "C" fn obikuteru_well_formed(words: &[u64; 23]) -> bool
     ensures { λ r. ⌜ r ≡ wellFormed (stateOf (now (words .entry))) ⌝ }
 {
     let s = decode(*words);

@@ -2,7 +2,7 @@
 use mathlib.Core.Path.{_≡_, refl, ap}
 use mathlib.Core.List.{List, [], _∷_}
 use Prim.Native.Nat.{ℕ, zero, suc, _+_, _*_, _/_, _%_, _^_, _<_}
-use native.Mathlib.Nat.{pow-zero, pow-succ'}
+use native.Mathlib.Nat.{mul-assoc, pow-zero, pow-succ'}
 use native.Mathlib.Omega.{arith}
 use lib.ListN.{length}
 use Rattle.codec.specs.Numbers.{bytesOf, numberOf}
@@ -15,6 +15,16 @@ length-bytesOf (suc w) x = ap suc (length-bytesOf w (x / 256))
 pub number-bytes : (w x : ℕ) → x < 256 ^ w → numberOf (bytesOf w x) ≡ x
 number-bytes zero x h = omega (arith, pow-zero 256)
 number-bytes (suc w) x h = rw (number-bytes w (x / 256) (omega (arith, pow-succ' 256 w))) (omega arith)
+
+-- higher bytes do not matter
+pub low-bytes : (w x k : ℕ) → bytesOf w (x + 256 ^ w * k) ≡ bytesOf w x
+low-bytes zero x k = refl
+low-bytes (suc w) x k =
+    let m = 256 ^ w * k in
+    let e : 256 ^ suc w * k ≡ 256 * m = rw (pow-succ' 256 w) (mul-assoc 256 (256 ^ w) k) in
+    let low : (x + 256 * m) % 256 ≡ x % 256 = omega arith in
+    let high : (x + 256 * m) / 256 ≡ x / 256 + m = omega arith in
+    rw (e, low, high) (ap (λ (t : List ℕ). x % 256 ∷ t) (low-bytes w (x / 256) k))
 
 pub bytes-number : (l : List ℕ) → AreBytes l → bytesOf (length l) (numberOf l) ≡ l
 bytes-number [] h = refl

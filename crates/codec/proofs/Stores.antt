@@ -1,7 +1,7 @@
 -- Bytes that are stored one after the other.
-use mathlib.Core.Path.{_≡_, refl, ap, _∙_}
+use mathlib.Core.Path.{_≡_, refl, ap, sym, _∙_}
 use mathlib.Core.List.{List, [], _∷_, _++_}
-use Prim.Native.Nat.{ℕ, suc, _+_, _<_, _/_, _%_}
+use Prim.Native.Nat.{ℕ, suc, _+_, _*_, _<_, _/_, _%_}
 use native.Mathlib.Omega.{arith}
 use lib.ListN.{set, length, length-append, take, drop}
 use lib.Seq.{sets}
@@ -10,6 +10,7 @@ use Rattle.codec.specs.Records.{encoded}
 use Rattle.codec.specs.Headers.{encodedHeader}
 use Rattle.codec.specs.declared.Header.{Header}
 use Rattle.codec.specs.declared.Record.{Record}
+use Rattle.codec.proofs.BytesOf.{low-bytes}
 
 module _ (at : ℕ) where
   one : at + 1 ≡ suc at
@@ -93,8 +94,19 @@ module _ (l : List ℕ) (at : ℕ) (r : Record) where
   unfolding encoded
   whole = after l at (take 16 (encoded r)) (drop 16 (encoded r)) (at + 16) refl
 
-pub settings : (l : List ℕ) (at : ℕ) (h : Header) {l1 l2 l3 l4 l5 : List ℕ} → l1 ≡ sets l at (bytesOf 8 (h .target)) →
+-- a byte and the lowest seven bytes of another number, as one number of eight
+byte-seven : (p u : ℕ) → p < 256 → bytesOf 8 (p + 256 * (u % 72057594037927936)) ≡ bytesOf 1 p ++ bytesOf 7 u
+byte-seven p u h =
+    let low : (p + 256 * (u % 72057594037927936)) % 256 ≡ p % 256 = omega arith in
+    let high : (p + 256 * (u % 72057594037927936)) / 256 ≡ u % 72057594037927936 = omega arith in
+    let whole : u % 72057594037927936 + 72057594037927936 * (u / 72057594037927936) ≡ u = omega arith in
+    rw (low, high) (ap (_∷_ (p % 256)) (sym (low-bytes 7 (u % 72057594037927936) (u / 72057594037927936)) ∙ ap (bytesOf 7) whole))
+
+pub settings : (l : List ℕ) (at : ℕ) (h : Header) {l1 l2 l3 l4 l5 : List ℕ} → h .profile < 256 → l1 ≡ sets l at (bytesOf 8 (h .target)) →
     l2 ≡ sets l1 (at + 8) (bytesOf 4 (h .buffer)) → l3 ≡ sets l2 (at + 12) (bytesOf 4 (h .slots)) →
-    l4 ≡ sets l3 (at + 16) (bytesOf 8 (h .clock)) → l5 ≡ sets l4 (at + 24) (bytesOf 8 (h .unused)) → l5 ≡ sets l at (encodedHeader h)
+    l4 ≡ sets l3 (at + 16) (bytesOf 8 (h .clock)) →
+    l5 ≡ sets l4 (at + 24) (bytesOf 8 (h .profile + 256 * (h .unused % 72057594037927936))) → l5 ≡ sets l at (encodedHeader h)
 unfolding encodedHeader
-settings l at h = five l at (bytesOf 8 (h .target)) (bytesOf 4 (h .buffer)) (bytesOf 4 (h .slots)) (bytesOf 8 (h .clock)) (bytesOf 8 (h .unused))
+settings l at h {l1} {l2} {l3} {l4} p e1 e2 e3 e4 e5 =
+    five l at (bytesOf 8 (h .target)) (bytesOf 4 (h .buffer)) (bytesOf 4 (h .slots)) (bytesOf 8 (h .clock)) (bytesOf 1 (h .profile) ++ bytesOf 7 (h .unused))
+    e1 e2 e3 e4 (e5 ∙ ap (sets l4 (at + 24)) (byte-seven (h .profile) (h .unused) p))

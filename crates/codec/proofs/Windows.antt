@@ -1,7 +1,7 @@
 -- Bytes that are read one after the other.
 use mathlib.Core.Path.{_≡_, refl, ap, _∙_}
 use mathlib.Core.List.{List, [], _∷_}
-use Prim.Native.Nat.{ℕ, zero, suc, _+_, _*_, _≤_}
+use Prim.Native.Nat.{ℕ, zero, suc, _+_, _*_, _/_, _<_, _≤_}
 use native.Mathlib.Nat.{add-zero, add-suc, add-assoc}
 use native.Mathlib.Omega.{arith}
 use lib.ListN.{getD, take, drop, length}
@@ -21,7 +21,7 @@ window l at k (suc n) h =
     rw (drop-cons l (at + k) 0 (omega arith), ← (add-suc at k)) (ap (λ (t : List ℕ). getD l (at + k) 0 ∷ t) (window l at (suc k) n (omega arith)))
 
 module _ (l : List ℕ) (at : ℕ) where
-  byte : at + 1 ≤ length l → numberOf (take 1 (drop at l)) ≡ getD l at 0
+  pub byte : at + 1 ≤ length l → numberOf (take 1 (drop at l)) ≡ getD l at 0
   byte h = let e = simp add-zero at (window l at 0 1 (omega arith)) in rw e (omega arith)
 
   pub pair : at + 2 ≤ length l → {b0 b1 : ℕ} → b0 ≡ getD l at 0 → b1 ≡ getD l (at + 1) 0 → b0 + 256 * b1 ≡ numberOf (take 2 (drop at l))
@@ -38,6 +38,13 @@ module _ (l : List ℕ) (at : ℕ) where
       let v = simp add-zero at (window l at 0 4 (omega arith)) in
       let u = window l at 4 4 (omega arith) in
       rw w (omega (arith, e ∙ ap numberOf v, f ∙ ap numberOf u))
+
+  -- of eight bytes those after the first
+  pub seven : at + 8 ≤ length l → {n : ℕ} → numberOf (take 1 (drop at l)) ≤ 255 → n ≡ numberOf (take 8 (drop at l)) → n / 256 ≡ numberOf (take 7 (drop (at + 1) l))
+  seven h b e =
+      let w = simp add-zero at (window l at 0 8 (omega arith)) in
+      let v = window l at 1 7 (omega arith) in
+      rw v (omega (arith, byte (omega arith), e ∙ ap numberOf w))
 
   fields : decoded l at ≡ record {
     kind = numberOf (take 1 (drop at l));
@@ -74,16 +81,19 @@ module _ (l : List ℕ) (at : ℕ) where
     buffer = numberOf (take 4 (drop (at + 8) l));
     slots = numberOf (take 4 (drop (at + 12) l));
     clock = numberOf (take 8 (drop (at + 16) l));
-    unused = numberOf (take 8 (drop (at + 24) l));
+    profile = numberOf (take 1 (drop (at + 24) l));
+    unused = numberOf (take 7 (drop (at + 25) l));
   }
   unfolding decodedHeader
   header-fields = simp add-assoc
 
-  pub settings : {target buffer slots clock unused : ℕ} →
+  pub settings : at + 32 ≤ length l → {target buffer slots clock profile unused : ℕ} →
       target ≡ numberOf (take 8 (drop at l)) →
       buffer ≡ numberOf (take 4 (drop (at + 8) l)) →
       slots ≡ numberOf (take 4 (drop (at + 12) l)) →
       clock ≡ numberOf (take 8 (drop (at + 16) l)) →
+      profile ≡ numberOf (take 1 (drop (at + 24) l)) → profile ≤ 255 →
       unused ≡ numberOf (take 8 (drop (at + 24) l)) →
-      record { target = target; buffer = buffer; slots = slots; clock = clock; unused = unused } ≡ decodedHeader l at
-  settings e0 e1 e2 e3 e4 = cc (header-fields)
+      record { target = target; buffer = buffer; slots = slots; clock = clock; profile = profile; unused = unused / 256 } ≡ decodedHeader l at
+  settings h e0 e1 e2 e3 e4 b e5 =
+      let s = simp add-assoc at (seven l (at + 24) (omega arith) (omega (arith, e4, b)) e5) in cc (header-fields, s)

@@ -5,12 +5,12 @@ use lib.ListN.{getD}
 use Rattle.codec.specs.Fields.{Fit, joined, parted}
 use Rattle.codec.specs.declared.Header.{Header}
 
--- target, buffer, slots, start clock, unused
+-- target, buffer, slots, start clock, profile, unused
 abbrev pub headerWidths : List ℕ
-headerWidths = 8 ∷ 4 ∷ 4 ∷ 8 ∷ 8 ∷ []
+headerWidths = 8 ∷ 4 ∷ 4 ∷ 8 ∷ 1 ∷ 7 ∷ []
 
 abbrev pub headerFields : Header → List ℕ
-headerFields h = h .target ∷ h .buffer ∷ h .slots ∷ h .clock ∷ h .unused ∷ []
+headerFields h = h .target ∷ h .buffer ∷ h .slots ∷ h .clock ∷ h .profile ∷ h .unused ∷ []
 
 abbrev pub headerOf : (fields : List ℕ) → Header
 headerOf f =
@@ -19,7 +19,8 @@ headerOf f =
       buffer = getD f 1 0;
       slots = getD f 2 0;
       clock = getD f 3 0;
-      unused = getD f 4 0;
+      profile = getD f 4 0;
+      unused = getD f 5 0;
     }
 
 -- the 32 bytes of the settings
@@ -30,6 +31,6 @@ encodedHeader h = joined headerWidths (headerFields h)
 unfoldable pub decodedHeader : (bytes : List ℕ) (at : ℕ) → Header
 decodedHeader bytes at = headerOf (parted headerWidths bytes at)
 
--- each field fits its width, as it does wherever code holds the settings
+-- each field fits its width, as it does wherever code holds settings that 12 does not refuse
 abbrev pub HeaderInRange : Header → Type 0
 HeaderInRange h = Fit headerWidths (headerFields h)

@@ -1,5 +1,6 @@
 // A log's settings and their 32 bytes.
 use crate::Header;
+use crate::numbers::get1;
 use crate::numbers::get4;
 use crate::numbers::get8;
 use crate::numbers::put4;
@@ -18,7 +19,11 @@ pub fn put_header(h: Header, bytes: &mut [u8], at: usize)
     put4(h.buffer, bytes, at + 8);
     put4(h.slots, bytes, at + 12);
     put8(h.clock, bytes, at + 16);
-    put8(h.unused, bytes, at + 24);
+    put8(
+        h.profile as u64 + 256 * (h.unused % 72_057_594_037_927_936),
+        bytes,
+        at + 24,
+    );
 }
 
 pub fn get_header(bytes: &[u8], at: usize) -> Header
@@ -29,12 +34,14 @@ pub fn get_header(bytes: &[u8], at: usize) -> Header
     let buffer = get4(bytes, at + 8);
     let slots = get4(bytes, at + 12);
     let clock = get8(bytes, at + 16);
-    let unused = get8(bytes, at + 24);
+    let profile = get1(bytes, at + 24);
+    let unused = get8(bytes, at + 24) / 256;
     Header {
         target,
         buffer,
         slots,
         clock,
+        profile,
         unused,
     }
 }

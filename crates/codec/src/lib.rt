@@ -18,6 +18,8 @@ pub struct Header {
     pub buffer: u32,
     pub slots: u32,
     pub clock: u64,
+    pub profile: u8,
+    // Seven bytes.
     pub unused: u64,
 }
 

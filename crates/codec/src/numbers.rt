@@ -48,6 +48,13 @@ fn wide(b: u8) -> u32
     b as u32
 }
 
+pub fn get1(bytes: &[u8], at: usize) -> u8
+    requires { ⌜ at + 1 ≤ length (now bytes) ⌝ }
+    ensures { λ r. ⌜ (r ≡ numberOf (take 1 (drop at (now (bytes .entry))))) × (r ≤ 255) ⌝ }
+{
+    wide(bytes[at]) as u8
+}
+
 pub fn get2(bytes: &[u8], at: usize) -> u16
     requires { ⌜ at + 2 ≤ length (now bytes) ⌝ }
     ensures { λ r. ⌜ r ≡ numberOf (take 2 (drop at (now (bytes .entry)))) ⌝ }

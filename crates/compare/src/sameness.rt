@@ -11,7 +11,8 @@ pub(crate) fn same_settings(a: Header, b: Header) -> bool
 {
     (a.target == b.target)
         & ((a.buffer == b.buffer)
-            & ((a.slots == b.slots) & ((a.clock == b.clock) & (a.unused == b.unused))))
+            & ((a.slots == b.slots)
+                & ((a.clock == b.clock) & ((a.profile == b.profile) & (a.unused == b.unused)))))
 }
 
 pub(crate) fn same_record(a: Record, b: Record) -> bool

@@ -13,7 +13,7 @@ use Rattle.codec.specs.declared.Record.{Record}
 
 -- 12: settings that refusal 1 would meet, or an unused byte set
 unfoldable pub headerRefused : Header → Bool
-headerRefused h = settingsRefused (settingsOf (h .target) (h .buffer) (h .slots)) (h .clock) || not (eqb (h .unused) 0)
+headerRefused h = settingsRefused (settingsOf (h .target) (h .buffer) (h .slots) (h .profile)) (h .clock) || not (eqb (h .unused) 0)
 
 -- the kinds, by the script's letters: a, d, t
 abbrev pub arrival : Record → Bool

@@ -16,6 +16,7 @@ pub fn header_refused(h: Header) -> bool
         target: Micros(h.target),
         buffer: Bytes(h.buffer as u64),
         slots: h.slots as u64,
+        profile: h.profile as u64,
     };
     !(settings.in_range() & (h.clock <= LATEST)) | !(h.unused == 0)
 }

@@ -67,16 +67,17 @@ snoc-front h note rs r =
 pub header-in-range : (h : Header) → headerRefused h ≡ false → HeaderInRange h
 unfolding headerRefused
 header-in-range h e =
-    let s = settingsOf (h .target) (h .buffer) (h .slots) in
+    let s = settingsOf (h .target) (h .buffer) (h .slots) (h .profile) in
     let p = or-neither (settingsRefused s (h .clock)) (not (eqb (h .unused) 0)) e in
     let q = not-false (all (settingsConditions s) && leb (h .clock) latest) (p .0) in
     let at = all-at (settingsConditions s) (and-left (all (settingsConditions s)) (leb (h .clock) latest) q) in
     let target = leb-true (h .target) 100000 (at 1) in
     let buffer = leb-true (h .buffer) 16777216 (at 3) in
     let slots = leb-true (h .slots) 65536 (at 5) in
+    let profile = leb-true (h .profile) 1 (at 6) in
     let clock = leb-true (h .clock) latest (and-right (all (settingsConditions s)) (leb (h .clock) latest) q) in
     let unused = eqb-true (h .unused) 0 (not-false (eqb (h .unused) 0) (p .1)) in
-    (omega arith, (omega arith, (omega arith, (omega arith, (omega arith, tt)))))
+    (omega arith, (omega arith, (omega arith, (omega arith, (omega arith, (omega arith, tt))))))
 
 records-encoded : (rs : List Record) (l : List ℕ) (at : ℕ) (rest : List ℕ) → AllInRange rs → drop at l ≡ encodedAll rs ++ rest →
     recordsFrom (length rs) l at ≡ rs

@@ -36,7 +36,7 @@ at-run h note bytes r k =
 -- ── a way to a state: settings and ticks that nothing refuses ──
 
 abbrev settings : Header
-settings = record { target = 1000; buffer = 1; slots = 1; clock = 0; unused = 0 }
+settings = record { target = 1000; buffer = 1; slots = 1; clock = 0; profile = 0; unused = 0 }
 
 abbrev tick : Record
 tick = record { kind = 116; ecn = 0; unused = 0; handle = 0; clock = 0; size = 0; u = 0; verdict = 0; bytes = 0; prob = 0 }

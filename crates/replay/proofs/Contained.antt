@@ -59,17 +59,17 @@ contained l o n e =
     }
 
 -- settings that 12 does not refuse are those of a fresh queue
-pub fresh-state : (h : Header) → headerRefused h ≡ false → let settings = settingsOf (h .target) (h .buffer) (h .slots) in
+pub fresh-state : (h : Header) → headerRefused h ≡ false → let settings = settingsOf (h .target) (h .buffer) (h .slots) (h .profile) in
     (fresh settings (h .clock)) .state ≡ freshState settings (h .clock)
 unfolding headerRefused fresh
 fresh-state h e =
-    let settings = settingsOf (h .target) (h .buffer) (h .slots) in
+    let settings = settingsOf (h .target) (h .buffer) (h .slots) (h .profile) in
     let p = or-neither (settingsRefused settings (h .clock)) (not (eqb (h .unused) 0)) e in rw (p .0)
 
-pub fresh-made : (h : Header) → headerRefused h ≡ false → (fresh (settingsOf (h .target) (h .buffer) (h .slots)) (h .clock)) .answer ≡ made
+pub fresh-made : (h : Header) → headerRefused h ≡ false → (fresh (settingsOf (h .target) (h .buffer) (h .slots) (h .profile)) (h .clock)) .answer ≡ made
 unfolding headerRefused fresh
 fresh-made h e =
-    let settings = settingsOf (h .target) (h .buffer) (h .slots) in
+    let settings = settingsOf (h .target) (h .buffer) (h .slots) (h .profile) in
     let p = or-neither (settingsRefused settings (h .clock)) (not (eqb (h .unused) 0)) e in rw (p .0)
 
 module _ (l handles sizes : List ℕ) where
@@ -90,7 +90,7 @@ module _ (l handles sizes : List ℕ) where
 
     -- tables that do
     pub fits : not (eqb (length handles) (h .slots) && eqb (length sizes) (h .slots)) ≡ false → (s : State) →
-        s ≡ (fresh (settingsOf (h .target) (h .buffer) (h .slots)) (h .clock)) .state →
+        s ≡ (fresh (settingsOf (h .target) (h .buffer) (h .slots) (h .profile)) (h .clock)) .state →
         replay l handles sizes ≡ replayFrom 0 (queueOf s handles sizes) (recordsFrom n l o)
     unfolding replay
     fits t s f =

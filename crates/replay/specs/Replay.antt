@@ -42,7 +42,7 @@ queueOf s handles sizes = record { state = s; handles = handles; sizes = sizes }
 
 -- a fresh queue with the log's settings and start clock
 abbrev pub freshQueue : Header → (handles sizes : List ℕ) → Queue
-freshQueue h handles sizes = queueOf (freshState (settingsOf (h .target) (h .buffer) (h .slots)) (h .clock)) handles sizes
+freshQueue h handles sizes = queueOf (freshState (settingsOf (h .target) (h .buffer) (h .slots) (h .profile)) (h .clock)) handles sizes
 
 -- a log without faults: 3 where a table's length is not its slots, then the rules from a fresh queue
 abbrev pub replayContents : Contents → (handles sizes : List ℕ) → Replay

@@ -60,6 +60,7 @@ fn replay_whole(
         Micros(h.target),
         Bytes(h.buffer as u64),
         slots,
+        h.profile as u64,
         Micros(h.clock),
     );
     let fresh = made.state;

@@ -33,7 +33,7 @@ queue-of r (q ∷ requests) = queue-of (step r q) requests
 
 module _ (h : Header) (ok : headerRefused h ≡ false) where
   abbrev settings : Settings
-  settings = settingsOf (h .target) (h .buffer) (h .slots)
+  settings = settingsOf (h .target) (h .buffer) (h .slots) (h .profile)
 
   abbrev start : (handles sizes : List ℕ) → Queue
   start handles sizes = (begin settings (h .clock) handles sizes) .queue

@@ -11,6 +11,7 @@ use Rattle.pie.specs.Constants.{largest, latest}
 use Rattle.pie.specs.Verdicts.{placeOf}
 use Rattle.pie.specs.declared.Verdict.{Verdict}
 use Rattle.pie.specs.declared.Verdict.the-variants.{Enqueued, Marked, DroppedBytes, DroppedSlots, DroppedEarly}
+use Rattle.queue.specs.Activity.{begun}
 use Rattle.queue.specs.Answer.{Answer, Reply, admits, departed, made, refused, ticked, verdict}
 use Rattle.queue.specs.Arrival.{arrivalRefusal, verdictOf}
 use Rattle.queue.specs.Departure.{departureRefusal, headOf}
@@ -155,7 +156,7 @@ fine-kept q (askArrival clock handle size ecn u) f k e =
     let s = q .state in
     let a = arrival-accepted s (length (q .handles)) (length (q .sizes)) clock size e in
     let place : verdictIn (answerOf q r) ≤ 4 =
-    subst (λ (p : Reply). verdictIn (p .answer) ≤ 4) (sym (accepted-reply s (callOf q r) e)) (place-small (verdictOf s size ecn u)) in
+    subst (λ (p : Reply). verdictIn (p .answer) ≤ 4) (sym (accepted-reply s (callOf q r) e)) (place-small (verdictOf (begun s) size ecn u)) in
     arrival-fine (cond ecn 1 0) handle clock size u (answerOf q r) ((after q r) .state) (flag-small ecn) (f .0) (a .clock-high)
     (a .size-low) (a .size-high) (f .1) place (facts ((after q r) .state) (sound-after q r f k .1 .formed))
 fine-kept q (askDeparture clock) f k e =

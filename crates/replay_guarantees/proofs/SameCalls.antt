@@ -4,6 +4,7 @@ use mathlib.Core.Path.{_≡_, refl, sym, ap, subst, _∙_}
 use mathlib.Core.List.{List, [], _∷_, _++_}
 use Prim.Native.Nat.{ℕ, _+_, _<_, _≤_}
 use lib.ListN.{length}
+use Rattle.queue.specs.Activity.{begun}
 use Rattle.queue.specs.Answer.{Reply}
 use Rattle.queue.specs.Arrival.{arrivalRefusal, arrivedState}
 use Rattle.queue.specs.Departure.{departedState, departureRefusal, headOf}
@@ -49,7 +50,7 @@ after-state q (askDeparture clock) = refl
 after-state q (askTick clock) = refl
 
 acceptance-settings : (s : State) (c : Call) → (acceptance s c) .state .settings ≡ s .settings
-unfolding arrivedState departedState tickedState
+unfolding begun arrivedState departedState tickedState
 acceptance-settings s (arrive handles sizes clock handle size ecn u) = refl
 acceptance-settings s (depart handles sizes clock) = refl
 acceptance-settings s (update clock) = refl

@@ -15,6 +15,7 @@ use Rattle.pie.specs.Constants.{largest, mostVerdicts}
 use Rattle.pie.specs.Verdicts.{total}
 use Rattle.pie.proofs.Counts.{total-raised}
 use Rattle.refusals.specs.Tests.{sizeRefused}
+use Rattle.queue.specs.Activity.{begun}
 use Rattle.queue.specs.Answer.{Reply, refused}
 use Rattle.queue.specs.Arrival.{arrivedState, verdictOf}
 use Rattle.queue.specs.Departure.{departedState}
@@ -125,8 +126,8 @@ call-within q r n formed k fine not-9 = go (arrival r) refl (departure r)
 -- ── the calls before it ──
 
 acceptance-few : (s : State) (c : Call) → total ((acceptance s c) .state .verdicts) ≤ total (s .verdicts) + 1
-unfolding arrivedState departedState tickedState
-acceptance-few s (arrive handles sizes clock handle size ecn u) = total-raised (s .verdicts) (verdictOf s size ecn u)
+unfolding begun arrivedState departedState tickedState
+acceptance-few s (arrive handles sizes clock handle size ecn u) = total-raised (s .verdicts) (verdictOf (begun s) size ecn u)
 acceptance-few s (depart handles sizes clock) = omega arith
 acceptance-few s (update clock) = omega arith
 
@@ -204,13 +205,13 @@ module _ (c : Contents) (ok : Accepted c) (handles sizes : List ℕ) where
   start = freshQueue h handles sizes
 
   -- the replay's queue is a fresh one
-  begins : (begin (settingsOf (h .target) (h .buffer) (h .slots)) (h .clock) handles sizes) .queue ≡ start
+  begins : (begin (settingsOf (h .target) (h .buffer) (h .slots) (h .profile)) (h .clock) handles sizes) .queue ≡ start
   begins = rw (fresh-state h (ok .header))
 
   run-within : (before : List Record) (r : Record) (rest : List Record) (n : ℕ) → c .records ≡ before ++ r ∷ rest → Kept start 0 →
       answerOf (afterAll start before) (requestOf r) ≡ refused n → Within n
   run-within before r rest n split k e =
-      let settings = settingsOf (h .target) (h .buffer) (h .slots) in
+      let settings = settingsOf (h .target) (h .buffer) (h .slots) (h .profile) in
       let made = fresh-made h (ok .header) in
       let kept =
       run-kept ringQueue ringReadings Sound ring-keeps ((begin settings (h .clock) handles sizes) .queue) (requests before)

@@ -22,7 +22,7 @@ pub record AcceptedAs (R : Replay) (n : ℕ) (q : Queue) : Type 0 where
 abbrev pub AlwaysAccepted : Type 0
 AlwaysAccepted =
     (h : Header) (note bytes : List ℕ) (ownHandles ownSizes : List ℕ) (requests : List Request) →
-    let settings = settingsOf (h .target) (h .buffer) (h .slots) in
+    let settings = settingsOf (h .target) (h .buffer) (h .slots) (h .profile) in
     -- the queue's calls, whatever is refused among them, and their records
     let q = (begin settings (h .clock) ownHandles ownSizes) .queue in
     let records = recorded q requests in

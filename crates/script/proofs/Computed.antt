@@ -6,8 +6,9 @@ use Rattle.command.specs.Line.{readLine}
 use Rattle.lines.specs.Words.{wordsOf}
 use Rattle.pie.specs.DepartureRate.{averageOf, rateAfter, sampleOf}
 use Rattle.pie.specs.DropDecision.{accumulatedAfter, drawn, dropDecision}
-use Rattle.pie.specs.Update.{decayed, delayOf, divisorOf, errorOf, limited, lookup, nextAllowance, nextProb, stepOf, updated}
+use Rattle.pie.specs.Update.{capped, decayed, delayOf, divisorOf, errorOf, limited, lookup, nextAllowance, nextProb, stepOf, updated}
 use Rattle.pie.specs.Verdicts.{raised}
+use Rattle.queue.specs.Activity.{begun}
 use Rattle.queue.specs.Arrival.{arrival, arrivalRefusal, arrivedState, verdictOf}
 use Rattle.queue.specs.Departure.{departedState, departure, departureRefusal}
 use Rattle.queue.specs.Fresh.{fresh}
@@ -20,5 +21,5 @@ use Rattle.script.specs.Lines.{linesOf}
 use Rattle.script.specs.Script.{answerLine, script}
 
 pub cases-hold : CasesHold
-unfolding digitsOf spelled commandOf readLine wordsOf averageOf rateAfter sampleOf drawn dropDecision accumulatedAfter decayed delayOf divisorOf errorOf limited lookup nextAllowance nextProb stepOf updated raised arrival arrivalRefusal arrivedState verdictOf departedState departure departureRefusal fresh headRefused wellFormed tick tickRefusal tickedState firstLine laterLine outcome linesOf answerLine script
+unfolding digitsOf spelled commandOf readLine wordsOf averageOf rateAfter sampleOf drawn dropDecision accumulatedAfter capped decayed delayOf divisorOf errorOf limited lookup nextAllowance nextProb stepOf updated raised begun arrival arrivalRefusal arrivedState verdictOf departedState departure departureRefusal fresh headRefused wellFormed tick tickRefusal tickedState firstLine laterLine outcome linesOf answerLine script
 cases-hold = (refl, (refl, (refl, (refl, (refl, (refl, (refl, (refl, (refl, (refl, (refl, (refl, (refl, (refl, (refl, (refl, (refl, (refl, (refl, (refl, (refl, (refl, (refl, (refl, (refl, (refl, (refl, (refl, (refl, (refl, (refl, (refl, (refl, (refl, tt))))))))))))))))))))))))))))))))))

@@ -51,10 +51,10 @@ refusedLine s handles sizes =
       text = badText (s .line);
     }
 
--- the first line: a `c`, whose start clock is 0
+-- the first line: a `c`, whose start clock is 0; the queue is plain (Q-12)
 unfoldable pub firstLine : Session → (handles sizes : List ℕ) → Command → Outcome
 firstLine s handles sizes Bad = refusedLine s handles sizes
-firstLine s handles sizes (Configure target buffer slots) = replied s (fresh (settingsOf target buffer slots) 0) handles sizes
+firstLine s handles sizes (Configure target buffer slots) = replied s (fresh (settingsOf target buffer slots 0) 0) handles sizes
 firstLine s handles sizes (Arrival clock handle size ecn u) = refusedLine s handles sizes
 firstLine s handles sizes (Departure clock) = refusedLine s handles sizes
 firstLine s handles sizes (Tick clock) = refusedLine s handles sizes

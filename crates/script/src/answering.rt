@@ -78,12 +78,13 @@ fn start_line(
 ) -> Answered
     requires { ⌜ at + 128 ≤ length (now out) ⌝ }
     ensures { λ r. ⌜ ((handles sizes : List ℕ) →
-        Said (replied session (fresh (settingsOf target buffer slots) 0) handles sizes) r (now (out .entry)) (now (out .exit)) at) ⌝ }
+        Said (replied session (fresh (settingsOf target buffer slots 0) 0) handles sizes) r (now (out .entry)) (now (out .exit)) at) ⌝ }
 {
     let made = State::fresh(
         Micros(target as u64),
         Bytes(buffer as u64),
         slots as u64,
+        0,
         Micros(0),
     );
     let accepted = made.accepted;

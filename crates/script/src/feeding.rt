@@ -23,7 +23,7 @@ pub fn begin() -> Runner
     ensures { λ r. ⌜ r ≡ startRunner ⌝ }
 {
     // Refused, so that the state is the all-zero record.
-    let none = State::fresh(Micros(0), Bytes(0), 0, Micros(0));
+    let none = State::fresh(Micros(0), Bytes(0), 0, 0, Micros(0));
     let state = none.state;
     let session = Session {
         stage: Stage::First,

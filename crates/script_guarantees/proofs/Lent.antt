@@ -5,6 +5,7 @@ use mathlib.Core.Logic.{_⊎_, inl, inr, ⊎-elim}
 use Prim.Native.Nat.{ℕ}
 use lib.ListN.{length, length-replicate, length-set, replicate}
 use Rattle.laws.proofs.Choice.{at-cond}
+use Rattle.queue.specs.Activity.{begun}
 use Rattle.queue.specs.Answer.{Answer, Reply, admits}
 use Rattle.queue.specs.Arrival.{arrivedState, stored}
 use Rattle.queue.specs.Departure.{departedState}
@@ -29,7 +30,7 @@ Lent q = Whole q ⊎ (q .state ≡ zeroState)
 -- ── every call keeps it ──
 
 same-slots : (s : State) (c : Call) → (reply s c) .state .settings .slots ≡ s .settings .slots
-unfolding arrivedState departedState tickedState
+unfolding begun arrivedState departedState tickedState
 same-slots s =
     at-reply s (λ c r. r .state .settings .slots ≡ s .settings .slots)
     (λ c number. refl)
@@ -72,6 +73,6 @@ pub lent-opened : (target buffer slots : ℕ) → Lent (opened target buffer slo
 unfolding fresh
 lent-opened target buffer slots =
     at-cond (λ (r : Reply). Lent (record { state = r .state; handles = replicate slots 0; sizes = replicate slots 0 }))
-    (settingsRefused (settingsOf target buffer slots) 0)
+    (settingsRefused (settingsOf target buffer slots 0) 0)
     (λ e. inr refl)
     (λ e. inl (record { handles = length-replicate slots 0; sizes = length-replicate slots 0 }))

@@ -62,14 +62,14 @@ tabled line state output table =
 
 module _ (target buffer slots : ℕ) (few : slots ≤ 4096) where
   configured : answerLine startRun (Configure target buffer slots)
-      ≡ running 2 (zeros (4096 - slots)) (opened target buffer slots) (replyText (fresh (settingsOf target buffer slots) 0))
+      ≡ running 2 (zeros (4096 - slots)) (opened target buffer slots) (replyText (fresh (settingsOf target buffer slots 0) 0))
   unfolding answerLine outcome firstLine
   configured =
-      let r = fresh (settingsOf target buffer slots) 0 in
+      let r = fresh (settingsOf target buffer slots 0) 0 in
       ap (tabled 2 (r .state) (replyText r)) (zeros-parted slots 4096 few)
 
   left-at-end : (body : Body) →
-      leftBy 2 (zeros (4096 - slots)) (opened target buffer slots) (replyText (fresh (settingsOf target buffer slots) 0)) body
+      leftBy 2 (zeros (4096 - slots)) (opened target buffer slots) (replyText (fresh (settingsOf target buffer slots 0) 0)) body
       ≡ endOf (started target buffer slots body)
   left-at-end body =
       let two : 2 ≤ 2 ^ 64 - 1 = omega arith in
@@ -81,13 +81,13 @@ module _ (target buffer slots : ℕ) (few : slots ≤ 4096) where
         sizes = q .sizes ++ zeros (4096 - slots);
         output = textOf (started target buffer slots body);
       })
-      (sym (queue-after (begin (settingsOf target buffer slots) 0 (zeros slots) (zeros slots)) (body .requests))))
+      (sym (queue-after (begin (settingsOf target buffer slots 0) 0 (zeros slots) (zeros slots)) (body .requests))))
 
   configured-lines : (commands : List Command) →
       foldl answerLine startRun (Configure target buffer slots ∷ commands) ≡ endOf (started target buffer slots (bodyOf commands))
   configured-lines commands =
       let q = opened target buffer slots in
-      let text = replyText (fresh (settingsOf target buffer slots) 0) in
+      let text = replyText (fresh (settingsOf target buffer slots 0) 0) in
       ap (λ (r : ScriptRun). foldl answerLine r commands) configured
       ∙ (lines-leave (zeros (4096 - slots)) commands 2 q text (lent-opened target buffer slots)
       ∙ left-at-end (bodyOf commands))

@@ -18,10 +18,10 @@ use Rattle.script_guarantees.specs.ScriptRecovery.{ScriptRecovery}
 use Rattle.script_guarantees.proofs.Idle.{idle-reply}
 use Rattle.script_guarantees.proofs.Sound.{by-entries, by-start}
 
-empty-start : (target buffer slots : ℕ) → (fresh (settingsOf target buffer slots) 0) .answer ≡ made →
+empty-start : (target buffer slots : ℕ) → (fresh (settingsOf target buffer slots 0) 0) .answer ≡ made →
     (opened target buffer slots) .state .backlog .count ≡ 0
 unfolding fresh
-empty-start target buffer slots e = rw (made-accepted (settingsOf target buffer slots) 0 e)
+empty-start target buffer slots e = rw (made-accepted (settingsOf target buffer slots 0) 0 e)
 
 -- nothing happened
 record Still (t : Tally) (s : State) : Type 0 where

@@ -88,20 +88,20 @@ whole-steps [] r w = w
 whole-steps (q ∷ requests) r w = whole-steps requests (step r q) (whole-after (r .queue) q w)
 
 module _ (target buffer slots : ℕ) where
-  whole-start : (fresh (settingsOf target buffer slots) 0) .answer ≡ made → Whole (opened target buffer slots)
+  whole-start : (fresh (settingsOf target buffer slots 0) 0) .answer ≡ made → Whole (opened target buffer slots)
   unfolding fresh
   whole-start m =
-      rw (made-accepted (settingsOf target buffer slots) 0 m)
+      rw (made-accepted (settingsOf target buffer slots 0) 0 m)
       (record { handles = length-replicate slots 0; sizes = length-replicate slots 0 })
 
-  after-accepted : (requests : List Request) → (fresh (settingsOf target buffer slots) 0) .answer ≡ made →
+  after-accepted : (requests : List Request) → (fresh (settingsOf target buffer slots 0) 0) .answer ≡ made →
       (e : Entry) → List·Memᴰ e (traceOf (opened target buffer slots) requests) → NotByThese e
   after-accepted requests m e i =
-      let start : Run = begin (settingsOf target buffer slots) 0 (replicate slots 0) (replicate slots 0) in
+      let start : Run = begin (settingsOf target buffer slots 0) 0 (replicate slots 0) (replicate slots 0) in
       let k = asked-of requests start e i in
       let q = (foldl step start (k .done)) .queue in
       let w = whole-steps (k .done) start (whole-start m) in
-      let c = conservation (settingsOf target buffer slots) 0 (replicate slots 0) (replicate slots 0) (k .done) m in
+      let c = conservation (settingsOf target buffer slots 0) 0 (replicate slots 0) (replicate slots 0) (k .done) m in
       record {
         not-1 = λ h. not-by-1 q w (k .request) (sym (k .answer) ∙ h);
         not-2 = λ h. c .never-2 (k .request) (sym (k .answer) ∙ h);
@@ -109,14 +109,14 @@ module _ (target buffer slots : ℕ) where
         not-9 = λ h. c .never-9 (k .request) (sym (k .answer) ∙ h);
       }
 
-  zero-start : (fresh (settingsOf target buffer slots) 0) .answer ≡ refused 1 → (opened target buffer slots) .state ≡ zeroState
+  zero-start : (fresh (settingsOf target buffer slots 0) 0) .answer ≡ refused 1 → (opened target buffer slots) .state ≡ zeroState
   unfolding fresh
   zero-start =
-      at-cond (λ (r : Reply). r .answer ≡ refused 1 → r .state ≡ zeroState) (settingsRefused (settingsOf target buffer slots) 0)
+      at-cond (λ (r : Reply). r .answer ≡ refused 1 → r .state ≡ zeroState) (settingsRefused (settingsOf target buffer slots 0) 0)
       (λ b e. refl)
       (λ b e. cc)
 
-  after-refused : (requests : List Request) → (fresh (settingsOf target buffer slots) 0) .answer ≡ refused 1 →
+  after-refused : (requests : List Request) → (fresh (settingsOf target buffer slots 0) 0) .answer ≡ refused 1 →
       (e : Entry) → List·Memᴰ e (traceOf (opened target buffer slots) requests) → e .answer ≡ refused 2
   after-refused requests h =
       let q = opened target buffer slots in

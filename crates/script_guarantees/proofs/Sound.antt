@@ -26,13 +26,13 @@ use Rattle.script_guarantees.proofs.RunTrace.{run-trace}
 -- ── accepted or not ──
 
 -- a `c` is accepted, or leaves the all-zero state
-pub by-start : (P : Type 0) (target buffer slots : ℕ) → ((fresh (settingsOf target buffer slots) 0) .answer ≡ made → P) →
+pub by-start : (P : Type 0) (target buffer slots : ℕ) → ((fresh (settingsOf target buffer slots 0) 0) .answer ≡ made → P) →
     ((opened target buffer slots) .state ≡ zeroState → P) → P
-by-start P target buffer slots accepted otherwise = go (settingsRefused (settingsOf target buffer slots) 0) refl
+by-start P target buffer slots accepted otherwise = go (settingsRefused (settingsOf target buffer slots 0) 0) refl
   where
-    go : (b : Bool) → settingsRefused (settingsOf target buffer slots) 0 ≡ b → P
-    go true e = otherwise (ap (λ (r : Reply). r .state) (refusals .starts (settingsOf target buffer slots) 0 .refuses e))
-    go false e = accepted (refusals .starts (settingsOf target buffer slots) 0 .accepts e)
+    go : (b : Bool) → settingsRefused (settingsOf target buffer slots 0) 0 ≡ b → P
+    go true e = otherwise (ap (λ (r : Reply). r .state) (refusals .starts (settingsOf target buffer slots 0) 0 .refuses e))
+    go false e = accepted (refusals .starts (settingsOf target buffer slots 0) 0 .accepts e)
 
 -- ── what a run keeps ──
 

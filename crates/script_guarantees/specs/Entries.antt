@@ -20,11 +20,11 @@ traceOf q requests = trace (q .state) (callsOf q requests)
 
 -- the queue that a `c` makes: the start clock is 0, and its tables hold nothing
 abbrev pub opened : (target buffer slots : ℕ) → Queue
-opened target buffer slots = (begin (settingsOf target buffer slots) 0 (replicate slots 0) (replicate slots 0)) .queue
+opened target buffer slots = (begin (settingsOf target buffer slots 0) 0 (replicate slots 0) (replicate slots 0)) .queue
 
 -- and its run over requests
 abbrev pub runOf : (target buffer slots : ℕ) → List Request → Run
-runOf target buffer slots requests = run (settingsOf target buffer slots) 0 (replicate slots 0) (replicate slots 0) requests
+runOf target buffer slots requests = run (settingsOf target buffer slots 0) 0 (replicate slots 0) (replicate slots 0) requests
 
 -- one entry for each request
 abbrev pub entriesOf : Asked → List Entry

@@ -19,5 +19,5 @@ abbrev pub ScriptRefusals : Type 0
 ScriptRefusals =
     (input : List ℕ) (target buffer slots : ℕ) (body : Body) → asked input ≡ started target buffer slots body →
     (e : Entry) → List·Memᴰ e (entriesOf (asked input)) →
-    ((fresh (settingsOf target buffer slots) 0) .answer ≡ made → NotByThese e)
-    × ((fresh (settingsOf target buffer slots) 0) .answer ≡ refused 1 → e .answer ≡ refused 2)
+    ((fresh (settingsOf target buffer slots 0) 0) .answer ≡ made → NotByThese e)
+    × ((fresh (settingsOf target buffer slots 0) 0) .answer ≡ refused 1 → e .answer ≡ refused 2)

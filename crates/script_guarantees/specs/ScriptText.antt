@@ -26,7 +26,7 @@ abbrev pub textOf : Asked → List ℕ
 textOf nothing = []
 textOf unstarted = badText 1
 textOf (started target buffer slots body) =
-    replyText (fresh (settingsOf target buffer slots) 0)
+    replyText (fresh (settingsOf target buffer slots 0) 0)
     ++ (flatMap lineText (entriesOf (started target buffer slots body)) ++ endText body)
 
 abbrev pub ScriptText : Type 0

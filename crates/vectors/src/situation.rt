@@ -100,6 +100,7 @@ impl Situation {
             target: Micros(self.target),
             buffer: Bytes(64_000),
             slots: 4,
+            profile: 0,
         };
         State {
             settings,
@@ -109,6 +110,7 @@ impl Situation {
             backlog,
             first: 0,
             verdicts: [0, 0, 0, 0, 0],
+            active: true,
         }
     }
 

@@ -14,8 +14,14 @@ array-read-t14 c = search needs
 array-read-t18 : tie.Need-array-read-t18
 array-read-t18 c = search needs
 
+array-read-t21 : tie.Need-array-read-t21
+array-read-t21 c = search needs
+
 array-read-t10-2 : tie.Need-array-read-t10-2
 array-read-t10-2 c = search needs
+
+array-read-t21-2 : tie.Need-array-read-t21-2
+array-read-t21-2 c = search needs
 
 array-read-t18-2 : tie.Need-array-read-t18-2
 array-read-t18-2 c = search needs
@@ -23,23 +29,23 @@ array-read-t18-2 c = search needs
 array-read-t14-2 : tie.Need-array-read-t14-2
 array-read-t14-2 c = search needs
 
-array-read-t29 : tie.Need-array-read-t29
-array-read-t29 c = search needs
-
 array-read-t10-3 : tie.Need-array-read-t10-3
 array-read-t10-3 c = search needs
 
-array-read-t18-3 : tie.Need-array-read-t18-3
-array-read-t18-3 c = search needs
-
-array-read-t29-2 : tie.Need-array-read-t29-2
-array-read-t29-2 c = search needs
+array-read-t21-3 : tie.Need-array-read-t21-3
+array-read-t21-3 c = search needs
 
 array-read-t14-3 : tie.Need-array-read-t14-3
 array-read-t14-3 c = search needs
 
+array-read-t18-3 : tie.Need-array-read-t18-3
+array-read-t18-3 c = search needs
+
 array-read-t10-4 : tie.Need-array-read-t10-4
 array-read-t10-4 c = search needs
+
+array-read-t21-4 : tie.Need-array-read-t21-4
+array-read-t21-4 c = search needs
 
 array-read-t18-4 : tie.Need-array-read-t18-4
 array-read-t18-4 c = search needs
@@ -47,26 +53,26 @@ array-read-t18-4 c = search needs
 array-read-t14-4 : tie.Need-array-read-t14-4
 array-read-t14-4 c = search needs
 
-array-read-t29-3 : tie.Need-array-read-t29-3
-array-read-t29-3 c = search needs
-
-array-read-t18-5 : tie.Need-array-read-t18-5
-array-read-t18-5 c = search needs
+array-read-t21-5 : tie.Need-array-read-t21-5
+array-read-t21-5 c = search needs
 
 array-read-t10-5 : tie.Need-array-read-t10-5
 array-read-t10-5 c = search needs
 
-array-read-t54 : tie.Need-array-read-t54
-array-read-t54 c = search needs
+array-read-t56 : tie.Need-array-read-t56
+array-read-t56 c = search needs
 
-array-read-t14-5 : tie.Need-array-read-t14-5
-array-read-t14-5 c = search needs
+array-read-t18-5 : tie.Need-array-read-t18-5
+array-read-t18-5 c = search needs
 
 array-read-t10-6 : tie.Need-array-read-t10-6
 array-read-t10-6 c = search needs
 
-array-read-t18-6 : tie.Need-array-read-t18-6
-array-read-t18-6 c = search needs
+array-read-t21-6 : tie.Need-array-read-t21-6
+array-read-t21-6 c = search needs
+
+array-read-t56-2 : tie.Need-array-read-t56-2
+array-read-t56-2 c = search needs
 
 returns : tie.Need-returns
 unfolding stateOf
@@ -79,22 +85,24 @@ decode-spec =
     array-read-t10
     array-read-t14
     array-read-t18
+    array-read-t21
     array-read-t10-2
+    array-read-t21-2
     array-read-t18-2
     array-read-t14-2
-    array-read-t29
     array-read-t10-3
-    array-read-t18-3
-    array-read-t29-2
+    array-read-t21-3
     array-read-t14-3
+    array-read-t18-3
     array-read-t10-4
+    array-read-t21-4
     array-read-t18-4
     array-read-t14-4
-    array-read-t29-3
-    array-read-t18-5
+    array-read-t21-5
     array-read-t10-5
-    array-read-t54
-    array-read-t14-5
+    array-read-t56
+    array-read-t18-5
     array-read-t10-6
-    array-read-t18-6
+    array-read-t21-6
+    array-read-t56-2
     returns)

@@ -25,9 +25,15 @@ element-copy-out-flag c = search needs
 flag-requires : tie.Need-flag-requires
 flag-requires c κs = search needs
 
+element-copy-out-flag-2 : tie.Need-element-copy-out-flag-2
+element-copy-out-flag-2 c = search needs
+
+flag-requires-2 : tie.Need-flag-requires-2
+flag-requires-2 c κs = search needs
+
 returns : tie.Need-returns
 unfolding stateWords
-returns c = rw (c .before .flag .ensures)
+returns c = rw (c .before .before .before .flag .ensures, c .before .flag2 .ensures)
 
 pub encode-spec : {M : Type 1} → statement M
 encode-spec =
@@ -40,4 +46,6 @@ encode-spec =
     element-copy-out-v4
     element-copy-out-flag
     flag-requires
+    element-copy-out-flag-2
+    flag-requires-2
     returns)

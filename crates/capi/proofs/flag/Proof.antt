@@ -20,7 +20,7 @@ cast-result : tie.Need-cast-result
 cast-result c = search needs
 
 returns-3 : tie.Need-returns-3
-returns-3 c = rw (c .if1 .left) (as-number (c .before .args .runs))
+returns-3 c = rw (c .if1 .left) (as-number (c .before .args .said))
 
 pub flag-spec : {M : Type 1} → statement M
 flag-spec = tie.close (tie.spec returns returns-2 cast-result returns-3)

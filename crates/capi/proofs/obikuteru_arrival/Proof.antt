@@ -24,10 +24,10 @@ enum-known-answer-2 c = search needs
 
 write-arrival-requires : tie.Need-write-arrival-requires
 write-arrival-requires c κs =
-    let t = c .before .before .before .before .before .before .before .before .before in
+    let t = c .before .before .before .before .before .before .before .before .before .before .before in
     let w = t .before .before .before in
     let a = t .arrival .ensures .0 in
-    let e = sym (ap (λ (r : Reply). r .answer) a) ∙ ap arrivalAnswer (c .before .before .answer2 .given .1) in
+    let e = sym (ap (λ (r : Reply). r .answer) a) ∙ ap arrivalAnswer (c .before .before .before .before .answer2 .given .1) in
     count-lt _ _ _ _ _ _ _ _ (rw (w .decode .ensures .0) at e)
 
 same-length : tie.Need-same-length
@@ -51,14 +51,14 @@ same-length-4 c = search needs
 
 returns-2 : tie.Need-returns-2
 returns-2 c =
-    let t = c .before .before .before .before .before .before .before .before .before .before in
+    let t = c .before .before .before .before .before .before .before .before .before .before .before .before in
     let w = t .before .before .before in
     let a = t .arrival .ensures in
-    let given = c .before .before .before .answer2 .given .1 in
+    let given = c .before .before .before .before .before .answer2 .given .1 in
     let e = sym (ap (λ (r : Reply). r .answer) (a .0)) ∙ ap arrivalAnswer given in
     let d = w .decode .ensures in
     let state = sym (ap (λ (r : Reply). r .state) (a .0)) in
-    let written = words-of _ _ _ _ _ _ _ _ (d .1) (rw (d .0) at e) _ (rw (d .0) at state) in
+    let written = rw (← d .0) at (words-of _ _ _ _ _ _ _ _ (d .1) (rw (d .0) at e) _ (rw (d .0) at state)) in
     let g = arrival-decided _ _ (a .0) given (c .write-arrival .ensures .0) (c .write-arrival .ensures .1 ∙ written) in
     rw (← (w .decode .ensures .0)) (g .0, g .1, a .1 .0, a .1 .1)
 

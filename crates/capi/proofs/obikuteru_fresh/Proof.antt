@@ -1,8 +1,10 @@
 -- `obikuteru_fresh`: the reply's number, and the words of its state also where it refuses.
-use mathlib.Core.Path.{refl}
+use mathlib.Core.Path.{refl, _∙_}
 use mathlib.Core.List.{[]}
+use lib.ListN.{replicate}
 use Rattle.queue.specs.Answer.{made}
 use Rattle.capi.proofs.Codes.{accepted, refused}
+use Rattle.capi.proofs.Words.{over-zeros}
 use borrow.Author.Needs.{needs}
 use Rattle.capi.proofs.obikuteru_fresh.Statement.{statement}
 use Rattle.capi.proofs.obikuteru_fresh.Tie as tie
@@ -26,13 +28,13 @@ returns : tie.Need-returns
 returns c =
     let t = c .before .before .before .before .before in
     let g = accepted made _ _ (t .fresh .ensures) (c .enum-told .given .1) refl refl (c .before .before .encode .ensures) in
-    (g .0, rw (← (t .fresh .ensures)) (c .before .before .encode .ensures))
+    (g .0, rw (← (t .fresh .ensures)) (c .before .before .encode .ensures ∙ over-zeros (replicate 23 0) _ refl refl))
 
 returns-2 : tie.Need-returns-2
 returns-2 c =
     let t = c .before .before .before .before .before .before .before in
     let g = refused made [] (t .fresh .ensures) (c .before .before .accepted .given .1) (c .refused .ensures) in
-    (g .0, rw (← (t .fresh .ensures)) (c .before .before .before .before .encode .ensures))
+    (g .0, rw (← (t .fresh .ensures)) (c .before .before .before .before .encode .ensures ∙ over-zeros (replicate 23 0) _ refl refl))
 
 pub obikuteru-fresh-spec : {M : Type 1} → statement M
 obikuteru-fresh-spec =

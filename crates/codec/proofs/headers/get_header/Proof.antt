@@ -25,6 +25,12 @@ add-get8 c = search needs
 get8-requires-2 : tie.Need-get8-requires-2
 get8-requires-2 c κs = search needs
 
+add-get1 : tie.Need-add-get1
+add-get1 c = search needs
+
+get1-requires : tie.Need-get1-requires
+get1-requires c κs = search needs
+
 add-get8-2 : tie.Need-add-get8-2
 add-get8-2 c = search needs
 
@@ -33,8 +39,9 @@ get8-requires-3 c κs = search needs
 
 returns : tie.Need-returns
 returns c =
-    let s = c .before .before .before .before .before .before in
-    settings (s .args .bytes .now) (s .args .at) (c .before .before .before .before .get8 .ensures) (c .before .before .before .get4 .ensures) (c .before .before .get42 .ensures) (c .before .get82 .ensures) (c .get83 .ensures)
+    let s = c .before .before .before .before .before .before .before in
+    settings (s .args .bytes .now) (s .args .at) (s .pre) (c .before .before .before .before .before .get8 .ensures) (c .before .before .before .before .get4 .ensures) (c .before .before .before .get42 .ensures) (c .before .before .get82 .ensures)
+    (c .before .get1 .ensures .0) (c .before .get1 .ensures .1) (c .get83 .ensures)
 
 pub get-header-spec : {M : Type 1} → statement M
 get-header-spec =
@@ -47,6 +54,8 @@ get-header-spec =
     get4-requires-2
     add-get8
     get8-requires-2
+    add-get1
+    get1-requires
     add-get8-2
     get8-requires-3
     returns)

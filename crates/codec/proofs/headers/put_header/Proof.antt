@@ -25,8 +25,17 @@ add-put8 c = search needs
 put8-requires-2 : tie.Need-put8-requires-2
 put8-requires-2 c κs = search needs
 
+cast-put8 : tie.Need-cast-put8
+cast-put8 c = search needs
+
+mul-put8 : tie.Need-mul-put8
+mul-put8 c = search needs
+
 add-put8-2 : tie.Need-add-put8-2
 add-put8-2 c = search needs
+
+add-put8-3 : tie.Need-add-put8-3
+add-put8-3 c = search needs
 
 put8-requires-3 : tie.Need-put8-requires-3
 put8-requires-3 c κs = search needs
@@ -36,12 +45,12 @@ same-length c = search needs
 
 returns : tie.Need-returns
 returns c =
-    let s = c .before .before .before .before .before .before .before .before .before .before .before .before .before .before .before .before .before .before .before .before .before in
-    settings (s .args .bytes .now) (s .args .at) (s .args .h)
-    (c .before .before .before .before .before .before .before .before .before .before .before .before .before .before .before .before .before .before .put8 .ensures)
-    (c .before .before .before .before .before .before .before .before .before .before .before .before .before .before .put4 .ensures)
-    (c .before .before .before .before .before .before .before .before .before .before .put42 .ensures)
-    (c .before .before .before .before .before .before .put82 .ensures)
+    let s = c .before .before .before .before .before .before .before .before .before .before .before .before .before .before .before .before .before .before .before .before .before .before .before in
+    settings (s .args .bytes .now) (s .args .at) (s .args .h) (c .before .before .before .before .before .struct-known .given .1 .1 .1 .1 .0 .fits)
+    (c .before .before .before .before .before .before .before .before .before .before .before .before .before .before .before .before .before .before .before .before .put8 .ensures)
+    (c .before .before .before .before .before .before .before .before .before .before .before .before .before .before .before .before .put4 .ensures)
+    (c .before .before .before .before .before .before .before .before .before .before .before .before .put42 .ensures)
+    (c .before .before .before .before .before .before .before .before .put82 .ensures)
     (c .before .before .put83 .ensures)
 
 pub put-header-spec : {M : Type 1} → statement M
@@ -55,7 +64,10 @@ put-header-spec =
     put4-requires-2
     add-put8
     put8-requires-2
+    cast-put8
+    mul-put8
     add-put8-2
+    add-put8-3
     put8-requires-3
     same-length
     returns)

@@ -10,6 +10,9 @@ cast-t4 c = search needs
 cast-t6 : tie.Need-cast-t6
 cast-t6 c = search needs
 
+cast-t7 : tie.Need-cast-t7
+cast-t7 c = search needs
+
 in-range-requires : tie.Need-in-range-requires
 in-range-requires c κs = search needs
 
@@ -18,4 +21,4 @@ unfolding headerRefused
 returns c = rw (c .before .before .in-range .ensures)
 
 pub header-refused-spec : {M : Type 1} → statement M
-header-refused-spec = tie.close (tie.spec cast-t4 cast-t6 in-range-requires returns)
+header-refused-spec = tie.close (tie.spec cast-t4 cast-t6 cast-t7 in-range-requires returns)

@@ -31,12 +31,15 @@ returns c =
 cast-t12 : tie.Need-cast-t12
 cast-t12 c = search needs
 
+cast-fresh : tie.Need-cast-fresh
+cast-fresh c = search needs
+
 fresh-requires : tie.Need-fresh-requires
 fresh-requires c κs = search needs
 
 run-requires : tie.Need-run-requires
 run-requires c κs =
-    let a = c .before .before .before .before .before .before .before .before .before .before .before in
+    let a = c .before .before .before .before .before .before .before .before .before .before .before .before in
     let k = contained (now (a .args .log)) (a .args .offset) (a .args .count) (a .pre) in k .long
 
 same-length : tie.Need-same-length
@@ -47,13 +50,13 @@ same-length-2 c = search needs
 
 returns-2 : tie.Need-returns-2
 returns-2 c =
-    let a = c .before .before .before .before .before .before .before .before .before .before .before .before .before .before .before .before in
+    let a = c .before .before .before .before .before .before .before .before .before .before .before .before .before .before .before .before .before in
     let l = now (a .args .log) in
     let k = contained l (a .args .offset) (a .args .count) (a .pre) in
-    let g = c .before .before .before .before .before .before .before .before .before .before .before .before .get-header in
+    let g = c .before .before .before .before .before .before .before .before .before .before .before .before .before .get-header in
     let f = c .before .before .before .before .before .before .before .before .fresh in
     let r = c .before .before .before .before .run in
-    let e = fits l (now (a .args .handles)) (now (a .args .sizes)) (a .args .offset) (a .args .count) k (g .result) (g .ensures) (c .before .before .before .before .before .before .before .before .before .before .if1 .left)
+    let e = fits l (now (a .args .handles)) (now (a .args .sizes)) (a .args .offset) (a .args .count) k (g .result) (g .ensures) (c .before .before .before .before .before .before .before .before .before .before .before .if1 .left)
     (f .result .state) (ap (λ (q : Reply). q .state) (f .ensures)) in
     rw e (r .ensures)
 
@@ -66,6 +69,7 @@ replay-whole-spec =
     refused-requires
     returns
     cast-t12
+    cast-fresh
     fresh-requires
     run-requires
     same-length
