@@ -104,7 +104,7 @@ int main(void)
     uint64_t clock = 0, timer;
 
     /* Target 15 ms, 64,000 bytes, 64 slots. */
-    stop_if_refused(obikuteru_fresh(&queue, 15000, 64000, SLOTS, clock), "fresh");
+    stop_if_refused(obikuteru_fresh(&queue, 15000, 64000, SLOTS, OBIKUTERU_PLAIN, clock), "fresh");
     timer = queue.last + OBIKUTERU_TICK_PERIOD;
 
     for (uint32_t n = 0; n < PACKETS; n++) {

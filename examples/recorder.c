@@ -82,7 +82,8 @@ static void begin(void)
     struct obikuteru_settings settings = {.target = 15000, .buffer = 64000, .slots = SLOTS};
     const char *note = "recorder, an example";
 
-    stop_if_refused(obikuteru_fresh(&queue, settings.target, settings.buffer, settings.slots, settings.clock), "fresh");
+    stop_if_refused(obikuteru_fresh(&queue, settings.target, settings.buffer, settings.slots, settings.profile,
+                                    settings.clock), "fresh");
     stop_if_refused(obikuteru_log_begin(&kept, &settings, (const uint8_t *)note, strlen(note), bytes, ROOM), "begin");
 }
 

@@ -77,10 +77,19 @@ extern "C" {
 #endif
 
 /* Raised whenever the layout or the meaning of the state record changes. */
-#define OBIKUTERU_RECORD_VERSION 2u
+#define OBIKUTERU_RECORD_VERSION 3u
 
 /* Least time from one accepted tick to the next. */
 #define OBIKUTERU_TICK_PERIOD 15000u
+
+/*
+ * Profiles. A calm queue (RFC 8033, 5.3 and 5.5) is inactive until an arrival finds more than a
+ * third of the buffer queued, and again after a tick that finds no more than that, the probability
+ * 0 and the delays below half the target; inactive, it drops nothing early and marks nothing. From
+ * one tenth on its probability rises by at most 0.02 a tick.
+ */
+#define OBIKUTERU_PLAIN 0u
+#define OBIKUTERU_CALM 1u
 
 /*
  * The state record. Make one with obikuteru_fresh; read any field; write none, unless to restore
@@ -104,6 +113,8 @@ struct obikuteru_state {
     uint64_t bytes;       /* bytes queued */
     uint64_t first;       /* place of the head in the tables */
     uint64_t verdicts[5]; /* arrivals answered 0 to 4 below; their sum is at most 2^48 */
+    uint64_t profile;     /* PLAIN or CALM */
+    uint64_t active;      /* 0: inactive, calm with probability 0; a plain queue is never inactive */
 };
 
 /* What a departure hands back. */
@@ -128,7 +139,7 @@ struct obikuteru_packet {
  * were, the packet of a refused departure is {0, 0}; only a refused fresh writes, an all-zero
  * record, which every call refuses. Where several apply, the lowest is given.
  */
-#define OBIKUTERU_REFUSED_SETTINGS 101u /* fresh: target, buffer, slots or clock out of range */
+#define OBIKUTERU_REFUSED_SETTINGS 101u /* fresh: a setting or the clock is out of range */
 #define OBIKUTERU_REFUSED_STATE 102u    /* the state record is damaged: start afresh */
 #define OBIKUTERU_REFUSED_TABLES 103u   /* a table's length is not the state's slots */
 #define OBIKUTERU_REFUSED_CLOCK 104u    /* the clock went back, or is above 2^48 */
@@ -141,11 +152,11 @@ struct obikuteru_packet {
 static inline bool obikuteru_refused(uint32_t answer) { return 100u < answer; }
 
 /*
- * A fresh queue at `clock`. Answers ACCEPTED or REFUSED_SETTINGS. The tables need no
- * preparation: lend any two of `slots` numbers to the calls that follow.
+ * A fresh queue at `clock`. Answers ACCEPTED or REFUSED_SETTINGS. The record's memory and the
+ * tables need no preparation: lend any two of `slots` numbers to the calls that follow.
  */
 uint32_t obikuteru_fresh(struct obikuteru_state *state, uint64_t target, uint64_t buffer,
-                         uint64_t slots, uint64_t clock);
+                         uint64_t slots, uint64_t profile, uint64_t clock);
 
 /*
  * A packet of `size` bytes arrives. `ecn`: the packet is ECN-capable. `u`: a random number,
@@ -180,7 +191,8 @@ struct obikuteru_settings {
     uint32_t buffer;    /* 1 to 16,777,216 */
     uint32_t slots;     /* 1 to 65,536 */
     uint64_t clock;     /* start clock, 0 to 2^48 */
-    uint8_t unused[8];  /* 0 */
+    uint8_t profile;    /* PLAIN or CALM */
+    uint8_t unused[7];  /* 0 */
 };
 
 struct obikuteru_record {

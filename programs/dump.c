@@ -41,8 +41,8 @@ static uint32_t print_head(void)
         answer = obikuteru_log_note(file.bytes, file.length, &note);
     if (obikuteru_refused(answer))
         return answer;
-    printf("c %" PRIu64 " %" PRIu32 " %" PRIu32 " %" PRIu64 "\n", settings.target, settings.buffer,
-           settings.slots, settings.clock);
+    printf("c %" PRIu64 " %" PRIu32 " %" PRIu32 " %" PRIu64 " %d\n", settings.target, settings.buffer,
+           settings.slots, settings.clock, settings.profile);
     print_note(note);
     return answer;
 }

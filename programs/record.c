@@ -1,9 +1,11 @@
 /*
- * record SCRIPT ANSWERS LOG NOTE: makes the log of a script's accepted calls. ANSWERS is what the
- * script program printed: one line for each line of SCRIPT, so that both are read side by side.
- * The script program has checked the form of every line that it answered.
+ * record [--calm] SCRIPT ANSWERS LOG NOTE: makes the log of a script's accepted calls. ANSWERS is
+ * what the script program printed: one line for each line of SCRIPT, so that both are read side by
+ * side. The script program has checked the form of every line that it answered. Its answers are a
+ * plain queue's; with --calm the calls are made on a calm queue, and its answers are recorded.
  */
 #include "shared/call_text.h"
+#include "shared/calm_queue.h"
 #include "shared/say.h"
 #include "shared/write_whole.h"
 
@@ -27,6 +29,7 @@ struct answer {
 
 static struct text script, answers;
 static uint64_t line; /* number of the line that is read */
+static bool calm;
 static struct obikuteru_log log_state;
 static uint8_t bytes[OBIKUTERU_LOG_MOST];
 
@@ -107,6 +110,9 @@ static void begin_log(const char *note)
     settings.target = read_number(&script);
     settings.buffer = (uint32_t)read_number(&script);
     settings.slots = (uint32_t)read_number(&script);
+    settings.profile = calm ? OBIKUTERU_CALM : OBIKUTERU_PLAIN;
+    if (calm)
+        start_calm_queue(&settings);
     if (obikuteru_refused(obikuteru_log_begin(&log_state, &settings, (const uint8_t *)note, strlen(note),
                                               bytes, sizeof bytes)))
         exit(say("the note has more than 4,096 bytes."));
@@ -138,17 +144,25 @@ static uint32_t verdict_of(const struct answer *answer)
     return (uint32_t)answer->detail;
 }
 
+/* The record's answer, as the script program gave it; or none where it refused the call. */
+static bool take_answer(struct obikuteru_record *record, const struct answer *answer)
+{
+    if (is_refused(answer))
+        return false;
+    record->verdict = verdict_of(answer);
+    record->probability = answer->probability;
+    record->bytes = (uint32_t)answer->bytes;
+    return true;
+}
+
 static void add_call(const struct answer *answer)
 {
     struct obikuteru_record record = {0};
     uint32_t added;
 
     read_call(&record);
-    if (is_refused(answer))
+    if (!(calm ? ask_calm_queue(&record) : take_answer(&record, answer)))
         return;
-    record.verdict = verdict_of(answer);
-    record.probability = answer->probability;
-    record.bytes = (uint32_t)answer->bytes;
     added = obikuteru_log_add(&log_state, &record, bytes, sizeof bytes);
     if (added == OBIKUTERU_REFUSED_ROOM)
         exit(say("line %" PRIu64 " of the script is one accepted call too many: a log holds at most 100,000.",
@@ -170,7 +184,9 @@ int main(int argc, char **argv)
 {
     struct answer answer;
 
-    if (argc != 5)
+    calm = argc > 1 && strcmp(argv[1], "--calm") == 0;
+    argv += calm;
+    if (argc - calm != 5)
         return say("record takes a script, its answers, a log and a note.");
     script.file = open_text(argv[1]);
     answers.file = open_text(argv[2]);
