@@ -12,10 +12,12 @@
 #include "sides.h"
 
 #define PROGRAM "bench"
-#define STREAMS "varied, full"
+#define STREAMS "varied, full, calm"
 #define SIDE_NAMES "plain, library, rust, clang (if it was built in)"
 #define find find_stream
 #define make make_events
+
+static size_t inactive; /* events of the mixed run that met the queue so */
 
 static bool same(struct plain_state a, struct plain_state b)
 {
@@ -25,12 +27,14 @@ static bool same(struct plain_state a, struct plain_state b)
         && a.start == b.start && a.allowance == b.allowance && a.average == b.average
         && a.counted == b.counted && a.measuring == b.measuring
         && a.first == b.first && a.count == b.count && a.bytes == b.bytes
+        && a.profile == b.profile && a.active == b.active
         && memcmp(a.verdicts, b.verdicts, sizeof a.verdicts) == 0;
 }
 
 static void met(const struct event *e)
 {
     (void)e;
+    inactive += !on_plain_queues[0].active;
 }
 
 /* The counts are in the record. */
@@ -54,6 +58,8 @@ static void print_answers(void)
     printf("verdicts %s %llu %llu %llu %llu %llu\n", stream->name, (unsigned long long)v[0],
            (unsigned long long)v[1], (unsigned long long)v[2], (unsigned long long)v[3],
            (unsigned long long)v[4]);
+    if (stream->profile == PLAIN_CALM)
+        printf("inactive %s %zu\n", stream->name, inactive);
 }
 
 #include "rounds.h"

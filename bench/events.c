@@ -1,11 +1,13 @@
 /*
- * Two streams of events, each in phases that come again and again. The clock goes on by a random
+ * Three streams of events, each in phases that come again and again. The clock goes on by a random
  * gap from event to event; a tick comes as soon as its period has passed. A link sends only what
  * is queued: the queue is followed in plain C, and few departures find it empty.
  *   varied  overload, draining, idle, balanced, idle; 1,024 slots. About 51 % are arrivals, 45 %
  *           departures and 4 % ticks, and every verdict occurs.
  *   full    a short queue before a fast link, nearly always full: a third of the arrivals find no
  *           slot or no room, and few of the others are early; 100 slots.
+ *   calm    the phases of varied on a calm queue: inactive at first, active from a third of the
+ *           buffer on, and inactive again after an idle phase; 1,024 slots.
  */
 #include "events.h"
 
@@ -51,8 +53,9 @@ static const struct phase full[] = {
 #define COUNT(phases) (sizeof(phases) / sizeof *(phases))
 
 static const struct stream streams[] = {
-    {"varied", 15000, 1000000, MOST_SLOTS, 8033, varied, COUNT(varied)},
-    {"full", 100000, 64000, 100, 20170217, full, COUNT(full)},
+    {"varied", 15000, 1000000, MOST_SLOTS, PLAIN_PLAIN, 8033, varied, COUNT(varied)},
+    {"full", 100000, 64000, 100, PLAIN_PLAIN, 20170217, full, COUNT(full)},
+    {"calm", 15000, 300000, MOST_SLOTS, PLAIN_CALM, 8033, varied, COUNT(varied)},
 };
 
 struct generator {
@@ -107,7 +110,7 @@ void make_events(const struct stream *stream, struct event *events, size_t n)
     g.stream = stream;
     g.seed = stream->seed;
     g.clock = 0;
-    plain_fresh(&g.state, stream->target, stream->buffer, stream->slots, 0);
+    plain_fresh(&g.state, stream->target, stream->buffer, stream->slots, stream->profile, 0);
     while (at < n) {
         const struct phase *phase = &stream->phases[place++ % stream->phase_count];
         for (size_t end = at + phase->length; at < end && at < n; at++) {

@@ -25,6 +25,7 @@ struct stream {
     uint32_t target;
     uint32_t buffer;
     uint32_t slots;
+    uint32_t profile;
     uint64_t seed;
     const struct phase *phases;
     size_t phase_count;

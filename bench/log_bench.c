@@ -104,12 +104,12 @@ static bool accepted(struct plain_state *state, uint32_t *handles, uint32_t *siz
 static void prepare(void)
 {
     static uint32_t handles[MOST_SLOTS], sizes[MOST_SLOTS];
-    struct plain_settings settings = {stream->target, stream->buffer, stream->slots, 0, 0};
+    struct plain_settings settings = {stream->target, stream->buffer, stream->slots, 0, (uint8_t)stream->profile, {0}};
     struct plain_state state;
     struct plain_record record;
     struct plain_log log;
     make_events(stream, events, EVENTS);
-    plain_fresh(&state, stream->target, stream->buffer, stream->slots, 0);
+    plain_fresh(&state, stream->target, stream->buffer, stream->slots, stream->profile, 0);
     plain_log_begin(&log, &settings, first_log, 0, first_log, LONGEST);
     for (size_t i = 0; i < EVENTS && log.count < RECORDS; i++)
         if (accepted(&state, handles, sizes, &events[i], &record)

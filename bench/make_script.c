@@ -18,8 +18,8 @@ int main(int argc, char **argv)
 {
     const struct stream *stream = argc == 3 ? find_stream(argv[1]) : NULL;
     size_t lines = argc == 3 ? strtoull(argv[2], NULL, 10) : 0;
-    if (stream == NULL || lines < 2 || 100000000 < lines) {
-        fprintf(stderr, "make_script: give a stream (varied or full) and a number of lines from 2 "
+    if (stream == NULL || stream->profile != 0 || lines < 2 || 100000000 < lines) {
+        fprintf(stderr, "make_script: give a plain stream (varied or full) and a number of lines from 2 "
                         "to 100,000,000.\n");
         return 1;
     }

@@ -11,19 +11,21 @@
 #define ALLOWANCE 150000u
 #define THRESHOLD 16384u /* bytes of one rate measurement */
 #define SMALL 3000u      /* bytes of a small queue */
+#define CAP 85899345     /* 0.02: the most that a step of the calm profile adds at one tenth or more */
 
-static bool settings_in_range(uint32_t target, uint32_t buffer, uint32_t slots)
+static bool settings_in_range(uint32_t target, uint32_t buffer, uint32_t slots, uint32_t profile)
 {
     return 1000 <= target && target <= 100000
         && 1 <= buffer && buffer <= 16777216
-        && 1 <= slots && slots <= 65536;
+        && 1 <= slots && slots <= 65536
+        && profile <= PLAIN_CALM;
 }
 
 /* Each count is tested before their sum, so that it does not wrap; here and not in a function of
  * their own, which gcc would call. */
 static bool well_formed(const struct plain_state *s)
 {
-    return settings_in_range(s->target, s->buffer, s->slots)
+    return settings_in_range(s->target, s->buffer, s->slots, s->profile)
         && s->last <= s->clock && s->clock <= LIMIT
         && s->probability <= WHOLE
         && s->accumulated < FORCED
@@ -37,34 +39,63 @@ static bool well_formed(const struct plain_state *s)
         && s->start <= s->clock
         && s->counted < THRESHOLD
         && (s->measuring ? 0 < s->count : s->start == 0 && s->counted == 0)
+        && (s->active || (s->profile == PLAIN_CALM && s->probability == 0))
         && s->verdicts[0] <= LIMIT && s->verdicts[1] <= LIMIT && s->verdicts[2] <= LIMIT
         && s->verdicts[3] <= LIMIT && s->verdicts[4] <= LIMIT
         && arrivals_counted(s->verdicts) <= LIMIT;
 }
 
 uint32_t plain_fresh(struct plain_state *s, uint32_t target, uint32_t buffer, uint32_t slots,
-                     uint64_t clock)
+                     uint32_t profile, uint64_t clock)
 {
     memset(s, 0, sizeof *s);
-    if (!settings_in_range(target, buffer, slots) || LIMIT < clock)
+    if (!settings_in_range(target, buffer, slots, profile) || LIMIT < clock)
         return PLAIN_REFUSED_SETTINGS; /* 1 */
     s->target = target;
     s->buffer = buffer;
     s->slots = slots;
+    s->profile = profile;
+    s->active = profile != PLAIN_CALM;
     s->clock = clock;
     s->last = clock;
     s->allowance = ALLOWANCE;
     return PLAIN_ACCEPTED;
 }
 
-/* Rules 1 to 7 of an arrival. After rule 5 the probability is added to those before. */
+static void stop_measurement(struct plain_state *s)
+{
+    s->measuring = false;
+    s->start = 0;
+    s->counted = 0;
+}
+
+/* Three times the queued bytes are above the buffer. */
+static bool above_third(const struct plain_state *s)
+{
+    return s->buffer < 3 * s->bytes;
+}
+
+/* An inactive queue turns active: the algorithm begins anew. */
+static void turn_active(struct plain_state *s)
+{
+    s->active = true;
+    s->probability = 0;
+    s->old_delay = 0;
+    s->average = 0;
+    s->accumulated = 0;
+    s->allowance = ALLOWANCE;
+    stop_measurement(s);
+}
+
+/* Rules 1 to 7 of an arrival. After rule 5 the probability is added to those before. A queue that
+ * turns active has the full allowance, and rule 3 decides there as if it were inactive. */
 static uint32_t decide(struct plain_state *s, uint32_t size, bool ecn, uint32_t u)
 {
     if (s->buffer < s->bytes + size) /* 1 */
         return PLAIN_DROPPED_BYTES;
     if (s->count == s->slots) /* 2 */
         return PLAIN_DROPPED_SLOTS;
-    if (0 < s->allowance) /* 3 */
+    if (!s->active || 0 < s->allowance) /* 3 */
         return PLAIN_ENQUEUED;
     if (2 * s->old_delay < s->target && 5 * s->probability < WHOLE) /* 4 */
         return PLAIN_ENQUEUED;
@@ -94,7 +125,10 @@ uint32_t plain_arrival(struct plain_state *s, uint32_t *handles, size_t handles_
     if (arrivals_counted(s->verdicts) == LIMIT)
         return PLAIN_REFUSED_COUNTS; /* 8 */
 
+    bool turns = !s->active && above_third(s);
     uint32_t verdict = decide(s, size, ecn, u);
+    if (turns)
+        turn_active(s);
     if (verdict == PLAIN_ENQUEUED || verdict == PLAIN_MARKED) {
         uint32_t tail = place(s->first + s->count, s->slots);
         handles[tail] = handle;
@@ -105,13 +139,6 @@ uint32_t plain_arrival(struct plain_state *s, uint32_t *handles, size_t handles_
     s->verdicts[verdict]++;
     s->clock = clock;
     return verdict;
-}
-
-static void stop_measurement(struct plain_state *s)
-{
-    s->measuring = false;
-    s->start = 0;
-    s->counted = 0;
 }
 
 /* The measurement has reached its threshold: take the sample into the average. */
@@ -176,13 +203,32 @@ static uint32_t divisor(uint64_t p)
 }
 
 /* Rules 2 to 6 of a tick. */
-static uint64_t next_probability(uint64_t before, uint32_t delay, uint32_t old, uint32_t target)
+static uint64_t next_probability(uint32_t profile, uint64_t before, uint32_t delay, uint32_t old,
+                                 uint32_t target)
 {
-    int64_t x = ((int64_t)delay - target) + 10 * ((int64_t)delay - old);                /* 2 */
-    int64_t p = (int64_t)before + x * 8388608 / (15625 * (int64_t)divisor(before));     /* 4 */
+    int64_t x = ((int64_t)delay - target) + 10 * ((int64_t)delay - old);       /* 2 */
+    int64_t step = x * 8388608 / (15625 * (int64_t)divisor(before));           /* 4 */
+    if (profile == PLAIN_CALM && TENTH <= before && CAP < step)
+        step = CAP;
+    int64_t p = (int64_t)before + step;
     if (delay == 0 && old == 0 && 0 < p)
         p -= p / 64; /* 5 */
     return p < 0 ? 0 : (int64_t)WHOLE < p ? WHOLE : (uint64_t)p; /* 6 */
+}
+
+/* Rules 1 to 9 of a tick, but for the clock of the last one. */
+static void update(struct plain_state *s)
+{
+    uint64_t product = (uint64_t)s->bytes * s->average / THRESHOLD;
+    uint32_t delay = LONGEST < product ? LONGEST : (uint32_t)product; /* 1 */
+    uint32_t old = s->old_delay;
+    s->probability = next_probability(s->profile, s->probability, delay, old, s->target);
+    s->allowance = s->allowance < PERIOD ? 0 : s->allowance - PERIOD; /* 7 */
+    if (s->probability == 0 && 2 * delay < s->target && 2 * old < s->target) {
+        s->allowance = ALLOWANCE; /* 8 */
+        s->active = s->profile != PLAIN_CALM || above_third(s);
+    }
+    s->old_delay = delay; /* 9 */
 }
 
 uint32_t plain_tick(struct plain_state *s, uint64_t clock)
@@ -194,14 +240,8 @@ uint32_t plain_tick(struct plain_state *s, uint64_t clock)
     if (clock < s->last + PERIOD)
         return PLAIN_REFUSED_TOO_SOON; /* 5 */
 
-    uint64_t product = (uint64_t)s->bytes * s->average / THRESHOLD;
-    uint32_t delay = LONGEST < product ? LONGEST : (uint32_t)product; /* 1 */
-    uint32_t old = s->old_delay;
-    s->probability = next_probability(s->probability, delay, old, s->target);
-    s->allowance = s->allowance < PERIOD ? 0 : s->allowance - PERIOD; /* 7 */
-    if (s->probability == 0 && 2 * delay < s->target && 2 * old < s->target)
-        s->allowance = ALLOWANCE; /* 8 */
-    s->old_delay = delay;         /* 9 */
+    if (s->active)
+        update(s);
     s->last = clock;
     s->clock = clock;
     return PLAIN_ACCEPTED;

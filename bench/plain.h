@@ -25,15 +25,22 @@ struct plain_state {
     uint32_t average; /* time for 16,384 bytes to leave; 0: none yet */
     uint32_t counted; /* bytes that left during the measurement; 0 if none runs */
     bool measuring;
+    bool active;
     uint32_t first; /* place of the head */
     uint32_t count;
     uint32_t bytes;
+    uint32_t profile; /* PLAIN_PLAIN or PLAIN_CALM */
     uint64_t verdicts[5];
 };
 
 struct plain_packet {
     uint32_t handle;
     uint32_t size;
+};
+
+enum plain_profile {
+    PLAIN_PLAIN = 0,
+    PLAIN_CALM = 1
 };
 
 enum plain_answer {
@@ -55,7 +62,7 @@ enum plain_answer {
 };
 
 uint32_t plain_fresh(struct plain_state *s, uint32_t target, uint32_t buffer, uint32_t slots,
-                     uint64_t clock);
+                     uint32_t profile, uint64_t clock);
 
 uint32_t plain_arrival(struct plain_state *s, uint32_t *handles, size_t handles_len,
                        uint32_t *sizes, size_t sizes_len, uint64_t clock, uint32_t handle,

@@ -18,12 +18,20 @@ struct trailer {
     char letters[4];
 };
 
+/* The last eight bytes as one number: 0 or 1 where the profile is in range and no unused byte is set. */
+static uint64_t profile_and_unused(const struct plain_settings *s)
+{
+    uint64_t n;
+    memcpy(&n, (const uint8_t *)s + offsetof(struct plain_settings, profile), sizeof n);
+    return n;
+}
+
 static bool settings_fault(const struct plain_settings *s)
 {
     return s->target < 1000 || 100000 < s->target
         || s->buffer < 1 || MOST_BYTES < s->buffer
         || s->slots < 1 || 65536 < s->slots
-        || LATEST < s->clock || s->unused != 0;
+        || LATEST < s->clock || 1 < profile_and_unused(s);
 }
 
 /* No jump by the kind but for a fault: which kind comes next cannot be foreseen. */

@@ -14,7 +14,8 @@ struct plain_settings {
     uint32_t buffer;
     uint32_t slots;
     uint64_t clock;
-    uint64_t unused;
+    uint8_t profile;
+    uint8_t unused[7];
 };
 
 struct plain_record {

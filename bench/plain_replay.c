@@ -83,6 +83,7 @@ uint32_t plain_replay(const uint8_t *log, size_t log_len, uint32_t *handles, siz
     if (handles_len != settings.slots || sizes_len != settings.slots)
         return PLAIN_REFUSED_TABLES; /* 3 */
     q.slots = settings.slots;
-    plain_fresh(&q.state, (uint32_t)settings.target, settings.buffer, settings.slots, settings.clock);
+    plain_fresh(&q.state, (uint32_t)settings.target, settings.buffer, settings.slots, settings.profile,
+                settings.clock);
     return run(&q, log + records.offset, records.count, found);
 }

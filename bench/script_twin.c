@@ -14,7 +14,7 @@ static bool configure(void)
     if (!field(&target, UINT32_MAX) || !field(&buffer, UINT32_MAX) || !field(&slots, MOST_SLOTS)
         || !line_ends())
         return false;
-    put_answer(plain_fresh(&state, (uint32_t)target, (uint32_t)buffer, (uint32_t)slots, 0), "ok");
+    put_answer(plain_fresh(&state, (uint32_t)target, (uint32_t)buffer, (uint32_t)slots, PLAIN_PLAIN, 0), "ok");
     return true;
 }
 

@@ -14,7 +14,7 @@ static const struct stream *stream;
 #define RECORD struct plain_state
 #define QUEUES 1
 #define QUEUE(e) ((void)(e), 0)
-#define START(s, c, q) CALL(fresh)(s, stream->target, stream->buffer, stream->slots, 0)
+#define START(s, c, q) CALL(fresh)(s, stream->target, stream->buffer, stream->slots, stream->profile, 0)
 #define ARRIVE(s, c, e, h, z)                                                                     \
     CALL(arrival)(s, h, slots, z, slots, (e)->clock, (e)->handle, (e)->size, (e)->ecn, (e)->u)
 #define DEPART(s, c, e, h, z, p) CALL(departure)(s, h, slots, z, slots, (e)->clock, p)
@@ -24,7 +24,8 @@ static const struct stream *stream;
 
 /* The Rust twin, and plain C by clang: records and calls of the same form as plain C's. */
 #define DECLARE(prefix)                                                                           \
-    uint32_t prefix##_fresh(struct plain_state *, uint32_t, uint32_t, uint32_t, uint64_t);        \
+    uint32_t prefix##_fresh(struct plain_state *, uint32_t, uint32_t, uint32_t, uint32_t,         \
+                            uint64_t);                                                            \
     uint32_t prefix##_arrival(struct plain_state *, uint32_t *, size_t, uint32_t *, size_t,       \
                               uint64_t, uint32_t, uint32_t, bool, uint32_t);                      \
     uint32_t prefix##_departure(struct plain_state *, const uint32_t *, size_t, const uint32_t *, \
@@ -35,7 +36,7 @@ DECLARE(clang)
 DECLARE(remainder)
 
 /* An earlier archive of the library, its calls renamed. */
-uint32_t before_fresh(struct obikuteru_state *, uint64_t, uint64_t, uint64_t, uint64_t);
+uint32_t before_fresh(struct obikuteru_state *, uint64_t, uint64_t, uint64_t, uint64_t, uint64_t);
 uint32_t before_arrival(struct obikuteru_state *, uint32_t *, size_t, uint32_t *, size_t, uint64_t,
                         uint32_t, uint32_t, bool, uint32_t);
 uint32_t before_departure(struct obikuteru_state *, const uint32_t *, size_t, const uint32_t *,
@@ -46,7 +47,8 @@ static struct obikuteru_state library_state(struct plain_state r)
 {
     struct obikuteru_state s = {
         r.target, r.buffer, r.slots, r.clock, r.last, r.probability, r.old_delay, r.allowance,
-        r.accumulated, r.average, r.measuring, r.start, r.counted, r.count, r.bytes, r.first, {0}};
+        r.accumulated, r.average, r.measuring, r.start, r.counted, r.count, r.bytes, r.first, {0},
+        r.profile, r.active};
     for (int i = 0; i < 5; i++)
         s.verdicts[i] = r.verdicts[i];
     return s;
@@ -61,7 +63,7 @@ static struct plain_state library_record(struct obikuteru_state s)
         .allowance = (uint32_t)s.allowance, .average = (uint32_t)s.average,
         .counted = (uint32_t)s.counted,
         .measuring = s.measuring != 0, .first = (uint32_t)s.first, .count = (uint32_t)s.count,
-        .bytes = (uint32_t)s.bytes};
+        .bytes = (uint32_t)s.bytes, .profile = (uint32_t)s.profile, .active = s.active != 0};
     for (int i = 0; i < 5; i++)
         r.verdicts[i] = s.verdicts[i];
     return r;

@@ -12,6 +12,8 @@ const PERIOD: u32 = 15_000;
 const ALLOWANCE: u32 = 150_000;
 const THRESHOLD: u32 = 16_384; // bytes of one rate measurement
 const SMALL: u32 = 3_000; // bytes of a small queue
+const CALM: u32 = 1; // the profile with switching and capped adjustment
+const CAP: i64 = 85_899_345; // the calm profile's greatest step from one tenth on
 
 /// The fields of `struct plain_state`, in its layout, so that one record serves both.
 #[repr(C)]
@@ -30,9 +32,11 @@ pub struct State {
     average: u32,
     counted: u32,
     measuring: bool,
+    active: bool,
     first: u32,
     count: u32,
     bytes: u32,
+    profile: u32,
     verdicts: [u64; 5],
 }
 
@@ -59,10 +63,14 @@ fn divisor(p: u64) -> i64 {
 }
 
 /// Rules 2 to 6 of a tick.
-fn next_probability(before: u64, delay: u32, old: u32, target: u32) -> u64 {
+fn next_probability(calm: bool, before: u64, delay: u32, old: u32, target: u32) -> u64 {
     let delayed = i64::from(delay);
     let x = (delayed - i64::from(target)) + 10 * (delayed - i64::from(old)); // 2
-    let mut p = before as i64 + x * 8_388_608 / (15_625 * divisor(before)); // 4
+    let mut step = x * 8_388_608 / (15_625 * divisor(before)); // 4
+    if calm && before >= TENTH {
+        step = step.min(CAP);
+    }
+    let mut p = before as i64 + step;
     if delay == 0 && old == 0 && p > 0 {
         p -= p / 64; // 5
     }
@@ -70,14 +78,22 @@ fn next_probability(before: u64, delay: u32, old: u32, target: u32) -> u64 {
 }
 
 impl State {
-    fn fresh(target: u32, buffer: u32, slots: u32, clock: u64) -> Result<State, Refusal> {
-        if !settings_in_range(target, buffer, slots) || clock > LIMIT {
+    fn fresh(
+        target: u32,
+        buffer: u32,
+        slots: u32,
+        profile: u32,
+        clock: u64,
+    ) -> Result<State, Refusal> {
+        if !(settings_in_range(target, buffer, slots) && profile <= CALM) || clock > LIMIT {
             return Err(Refusal::Settings);
         }
         Ok(State {
             target,
             buffer,
             slots,
+            profile,
+            active: profile != CALM,
             clock,
             last: clock,
             allowance: ALLOWANCE,
@@ -87,6 +103,7 @@ impl State {
 
     fn well_formed(&self) -> bool {
         settings_in_range(self.target, self.buffer, self.slots)
+            && self.profile <= CALM
             && self.last <= self.clock
             && self.clock <= LIMIT
             && self.probability <= WHOLE
@@ -105,6 +122,7 @@ impl State {
                 true => self.count > 0,
                 false => self.start == 0 && self.counted == 0,
             }
+            && (self.active || (self.profile == CALM && self.probability == 0))
             && counts_fit(&self.verdicts)
     }
 
@@ -117,13 +135,27 @@ impl State {
         }
     }
 
+    /// Three times the queued bytes are above the buffer.
+    fn above_third(&self) -> bool {
+        3 * self.bytes > self.buffer
+    }
+
+    /// An inactive queue turns active: the algorithm begins anew.
+    fn turn_active(&mut self) {
+        self.active = true;
+        (self.probability, self.accumulated) = (0, 0);
+        (self.old_delay, self.average, self.allowance) = (0, 0, ALLOWANCE);
+        self.stop_measurement();
+    }
+
     /// Rules 1 to 5 of an arrival, and then what the probability decides.
     fn decide(&mut self, size: u32, ecn: bool, u: u32) -> Verdict {
         if self.bytes + size > self.buffer {
             Verdict::DroppedBytes // 1
         } else if self.count == self.slots {
             Verdict::DroppedSlots // 2
-        } else if self.allowance > 0 // 3
+        } else if !self.active
+            || self.allowance > 0 // 3
             || (2 * self.old_delay < self.target && 5 * self.probability < WHOLE) // 4
             || self.bytes <= SMALL
         {
@@ -163,6 +195,9 @@ impl State {
         check_tables(self.slots, handles, sizes)?;
         check_clock(self.clock, clock)?;
         check_arrival(size, &self.verdicts)?;
+        if !self.active && self.above_third() {
+            self.turn_active();
+        }
         let verdict = self.decide(size, ecn, u);
         if matches!(verdict, Verdict::Enqueued | Verdict::Marked) {
             let tail = ((self.first + self.count) % self.slots) as usize;
@@ -222,18 +257,26 @@ impl State {
         if clock < self.last + u64::from(PERIOD) {
             return Err(Refusal::Early);
         }
-        let product = u64::from(self.bytes) * u64::from(self.average) / u64::from(THRESHOLD);
-        let delay = product.min(u64::from(LONGEST)) as u32; // 1
-        let old = self.old_delay;
-        self.probability = next_probability(self.probability, delay, old, self.target);
-        self.allowance = self.allowance.saturating_sub(PERIOD); // 7
-        if self.probability == 0 && 2 * delay < self.target && 2 * old < self.target {
-            self.allowance = ALLOWANCE; // 8
+        if self.active {
+            self.update();
         }
-        self.old_delay = delay; // 9
         self.last = clock;
         self.clock = clock;
         Ok(())
+    }
+
+    /// Rules 1 to 9 of a tick, but for the clock of the last one.
+    fn update(&mut self) {
+        let product = u64::from(self.bytes) * u64::from(self.average) / u64::from(THRESHOLD);
+        let delay = product.min(u64::from(LONGEST)) as u32; // 1
+        let (old, calm) = (self.old_delay, self.profile == CALM);
+        self.probability = next_probability(calm, self.probability, delay, old, self.target);
+        self.allowance = self.allowance.saturating_sub(PERIOD); // 7
+        if self.probability == 0 && 2 * delay < self.target && 2 * old < self.target {
+            self.allowance = ALLOWANCE; // 8
+            self.active = !calm || self.above_third();
+        }
+        self.old_delay = delay; // 9
     }
 }
 
@@ -245,9 +288,10 @@ pub extern "C" fn twin_fresh(
     target: u32,
     buffer: u32,
     slots: u32,
+    profile: u32,
     clock: u64,
 ) -> u32 {
-    handed(State::fresh(target, buffer, slots, clock), state)
+    handed(State::fresh(target, buffer, slots, profile, clock), state)
 }
 
 /// # Safety

@@ -40,7 +40,9 @@ static void record(void)
     WORD(verdicts[2], 18);
     WORD(verdicts[3], 19);
     WORD(verdicts[4], 20);
-    expect("the size of the record", sizeof(struct obikuteru_state), 168);
+    WORD(profile, 21);
+    WORD(active, 22);
+    expect("the size of the record", sizeof(struct obikuteru_state), 184);
     expect("the alignment of the record", offsetof(struct before_state, state), 8);
 }
 
@@ -72,7 +74,9 @@ static void constants(void)
     expect("REFUSED_COUNTS", OBIKUTERU_REFUSED_COUNTS, 108);
     expect("REFUSED_HEAD", OBIKUTERU_REFUSED_HEAD, 109);
     expect("TICK_PERIOD", OBIKUTERU_TICK_PERIOD, 15000);
-    expect("RECORD_VERSION", OBIKUTERU_RECORD_VERSION, 2);
+    expect("RECORD_VERSION", OBIKUTERU_RECORD_VERSION, 3);
+    expect("PLAIN", OBIKUTERU_PLAIN, 0);
+    expect("CALM", OBIKUTERU_CALM, 1);
     for (uint32_t answer = 0; answer <= 4; answer++)
         expect("a verdict taken for a refusal", obikuteru_refused(answer), false);
     for (uint32_t answer = 101; answer <= 109; answer++)
@@ -84,7 +88,7 @@ static const struct obikuteru_state start_state = {
     .target = 20000, .buffer = 60000, .slots = SLOTS, .clock = 1000000, .last = 985000,
     .probability = 1000000, .old_delay = 12000, .allowance = 30000, .accumulated = 4294967296,
     .average = 10000, .measuring = 1, .start = 990000, .counted = 16000, .count = 3, .bytes = 20001, .first = 2,
-    .verdicts = {11, 22, 33, 44, 55},
+    .verdicts = {11, 22, 33, 44, 55}, .profile = OBIKUTERU_CALM, .active = 9,
 };
 
 static struct obikuteru_state state;
@@ -136,6 +140,8 @@ static void expect_state(const char *after, const struct obikuteru_state *wanted
     expect("first", state.first, wanted->first);
     for (int v = 0; v < 5; v++)
         expect("a count of verdicts", state.verdicts[v], wanted->verdicts[v]);
+    expect("profile", state.profile, wanted->profile);
+    expect("active", state.active, wanted->active);
     if (mistakes > before)
         printf("layout: that was after %s.\n", after);
 }
@@ -143,11 +149,16 @@ static void expect_state(const char *after, const struct obikuteru_state *wanted
 static void run_fresh(void)
 {
     struct obikuteru_state wanted = {.target = 15000, .buffer = 64000, .slots = 64, .clock = 99,
-                                     .last = 99, .allowance = 150000};
+                                     .last = 99, .allowance = 150000, .active = 1};
 
     state = start_state;
-    expect("fresh", obikuteru_fresh(&state, 15000, 64000, 64, 99), OBIKUTERU_ACCEPTED);
+    expect("fresh", obikuteru_fresh(&state, 15000, 64000, 64, OBIKUTERU_PLAIN, 99), OBIKUTERU_ACCEPTED);
     expect_state("fresh", &wanted);
+    wanted.profile = OBIKUTERU_CALM;
+    wanted.active = 0;
+    state = start_state;
+    expect("calm fresh", obikuteru_fresh(&state, 15000, 64000, 64, OBIKUTERU_CALM, 99), OBIKUTERU_ACCEPTED);
+    expect_state("calm fresh", &wanted);
 }
 
 /* Delay 20,001 x 10,000 / 16,384 = 12,207; x = 12,207 - 20,000 + 10 x 207 = -5,723; k = 32. */
@@ -267,6 +278,32 @@ static void run_arrivals(void)
     run_sums();
 }
 
+/* Three times 20,001 bytes are above 60,000: an arrival turns the queue active, and it begins anew. */
+static void run_activation(void)
+{
+    struct obikuteru_state wanted = start_state;
+
+    wanted.clock = 1000001;
+    wanted.probability = wanted.old_delay = wanted.accumulated = wanted.average = 0;
+    wanted.measuring = wanted.start = wanted.counted = 0;
+    wanted.allowance = 150000;
+    wanted.count = 4;
+    wanted.bytes = 20101;
+    wanted.verdicts[0] = 12;
+    wanted.active = 1;
+    restore();
+    state.probability = state.active = 0;
+    expect("an inactive queue", obikuteru_well_formed(&state), true);
+    expect("an arrival at it", arrive(1000001, 85, 100, true), OBIKUTERU_ENQUEUED);
+    expect_state("an activation", &wanted);
+    state.active = 0;
+    state.probability = 1;
+    expect("an inactive queue with a probability", obikuteru_well_formed(&state), false);
+    state.probability = 0;
+    state.profile = OBIKUTERU_PLAIN;
+    expect("an inactive plain queue", obikuteru_well_formed(&state), false);
+}
+
 /* Each refusal by a call to which no other applies. */
 static void run_refusals(void)
 {
@@ -289,7 +326,8 @@ static void run_refusals(void)
     expect("a measurement on an empty queue", obikuteru_well_formed(&state), false);
     state.measuring = state.start = state.counted = 0;
     expect("an empty queue", depart(1000000, &packet), OBIKUTERU_REFUSED_EMPTY);
-    expect("wrong settings", obikuteru_fresh(&state, 0, 64000, SLOTS, 0), OBIKUTERU_REFUSED_SETTINGS);
+    expect("wrong settings", obikuteru_fresh(&state, 0, 64000, SLOTS, OBIKUTERU_PLAIN, 0), OBIKUTERU_REFUSED_SETTINGS);
+    expect("a wrong profile", obikuteru_fresh(&state, 15000, 64000, SLOTS, 2, 0), OBIKUTERU_REFUSED_SETTINGS);
     expect("the record of wrong settings", obikuteru_well_formed(&state), false);
     expect("a record of zeros", obikuteru_tick(&state, 15000), OBIKUTERU_REFUSED_STATE);
 }
@@ -303,6 +341,7 @@ int main(void)
     run_tick();
     run_departures();
     run_arrivals();
+    run_activation();
     run_refusals();
     return result();
 }

@@ -23,7 +23,8 @@ static void records(void)
     FIELD(settings, buffer, 8, 4);
     FIELD(settings, slots, 12, 4);
     FIELD(settings, clock, 16, 8);
-    FIELD(settings, unused, 24, 8);
+    FIELD(settings, profile, 24, 1);
+    FIELD(settings, unused, 25, 7);
     WHOLE(settings, 32);
     FIELD(record, kind, 0, 1);
     FIELD(record, ecn, 1, 1);
@@ -102,7 +103,8 @@ static const struct obikuteru_record departure = {
 /* Each field of what was written, no two of them alike. */
 static void run_writer(struct obikuteru_log *log)
 {
-    const struct obikuteru_settings settings = {.target = 15000, .buffer = 64000, .slots = 4, .clock = 99};
+    const struct obikuteru_settings settings = {
+        .target = 15000, .buffer = 64000, .slots = 4, .clock = 99, .profile = OBIKUTERU_CALM};
     struct obikuteru_record fault = departure;
 
     fault.size = 1;
@@ -118,7 +120,7 @@ static void run_writer(struct obikuteru_log *log)
     expect("buffer", number(bytes, 8, 4), 64000);
     expect("slots", number(bytes, 12, 4), 4);
     expect("start clock", number(bytes, 16, 8), 99);
-    expect("unused", number(bytes, 24, 8), 0);
+    expect("profile and unused", number(bytes, 24, 8), 1);
     expect("the note", (uint64_t)memcmp(bytes + 32, "coach 7", 7), 0);
     expect("kind, ecn, unused and handle", number(bytes, 39, 8), UINT64_C(0x0102030400000161));
     expect("clock", number(bytes, 47, 8), UINT64_C(0x050607080910));
@@ -150,9 +152,14 @@ static void run_reader(void)
     expect("buffer", settings.buffer, 64000);
     expect("slots", settings.slots, 4);
     expect("start clock", settings.clock, 99);
+    expect("profile", settings.profile, OBIKUTERU_CALM);
     expect("note", obikuteru_log_note(bytes, sizeof bytes, &note), OBIKUTERU_ACCEPTED);
     expect("its place", note.from, 32);
     expect("its length", note.length, 7);
+    bytes[24] = 2;
+    expect("no such profile", obikuteru_log_settings(bytes, sizeof bytes, &settings), OBIKUTERU_REFUSED_HEADER);
+    bytes[24] = 0;
+    expect("a plain log", obikuteru_log_settings(bytes, sizeof bytes, &settings), OBIKUTERU_ACCEPTED);
     bytes[31] = 1;
     expect("an unused byte", obikuteru_log_settings(bytes, sizeof bytes, &settings), OBIKUTERU_REFUSED_HEADER);
 }

@@ -7,9 +7,10 @@
 //!   tick:      any two of 2, 4, 5
 //! Refusal 1 stands alone: it is the only one of fresh.
 
+use crate::calm;
 use crate::events;
-use crate::shared::groups::{owned, Groups};
 use crate::model::{self, Refusals, BANDS, CONDITIONS};
+use crate::shared::groups::{owned, Groups};
 use crate::side::{Call, Side};
 
 pub struct Coverage {
@@ -27,6 +28,7 @@ const BAND_FIRST: usize = 11;
 const BAND_LAST: usize = 12;
 const CONDITION: usize = 13;
 const EVENTS: usize = 14; // and the following: the groups of `events`
+const CALM: usize = 23; // and 24: the lists of `calm`
 
 const APPLY: [&[usize]; 4] = [&[1], &[2, 3, 4, 7, 8], &[2, 3, 4, 6, 9], &[2, 4, 5]];
 
@@ -94,6 +96,8 @@ impl Coverage {
         coverage.add("early packet beside one tenth", single, owned(&events::EARLY));
         coverage.add("measurement, few packets left", single, owned(&events::GIVEN_UP));
         coverage.add("sum of probabilities", single, owned(&events::SUMS));
+        coverage.add("calm profile", both, owned(&calm::CALM_EVENTS));
+        coverage.add("calm profile, edges", single, owned(&calm::CALM_EDGES));
         coverage
     }
 
@@ -116,6 +120,11 @@ impl Coverage {
         events::found(before, call, after, &mut hits);
         for (group, label) in hits {
             self.hit(EVENTS + group, label);
+        }
+        let mut lists = [Vec::new(), Vec::new()];
+        calm::found(before, call, after, &mut lists);
+        for (list, labels) in lists.into_iter().enumerate() {
+            labels.into_iter().for_each(|label| self.hit(CALM + list, label));
         }
     }
 
@@ -148,9 +157,9 @@ impl Coverage {
         match call {
             Call::Arrival { packet, .. } => {
                 self.hit(VERDICTS, after.answer as usize);
-                self.hit(RULES, model::deciding_rule(state, packet) as usize);
+                self.hit(RULES, model::deciding_rule(&model::begun(state), packet) as usize);
             }
-            Call::Tick { .. } => {
+            Call::Tick { .. } if state.active != 0 => {
                 let band = model::band(state.probability);
                 match model::step(state, model::queueing_delay(state)) {
                     step if step > 0 => self.hit(STEP_UP, band),
@@ -182,9 +191,7 @@ impl Coverage {
 pub fn applying(before: &Side, call: &Call) -> (usize, Refusals) {
     let s = &before.state;
     match *call {
-        Call::Fresh { target, buffer, slots, clock } => {
-            (0, model::fresh_refusals(target, buffer, slots, clock))
-        }
+        Call::Fresh(asked) => (0, model::fresh_refusals(&asked)),
         Call::Arrival { lent, clock, packet } => {
             let lengths = (lent.handles, lent.sizes);
             (1, model::arrival_refusals(s, lengths, clock, packet.size))

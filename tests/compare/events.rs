@@ -1,15 +1,15 @@
 //! Names the things that happen at a call, from the state before it and the state after it.
 
-use crate::shared::area::PAGE;
 use crate::model::{self, Arriving, Rule, State};
+use crate::shared::area::PAGE;
 use crate::side::{Call, Side};
 
 pub const VERDICTS: [&str; 5] =
     ["enqueued", "marked", "dropped, bytes", "dropped, slots", "dropped, early"];
 
 /// In the order of `model::Rule`.
-pub const RULES: [&str; 9] =
-    ["1", "2", "3", "4", "5", "sum below 0.85", "sum of 8.5 and more", "6", "7"];
+pub const RULES: [&str; 10] =
+    ["1", "2", "inactive", "3", "4", "5", "sum below 0.85", "sum of 8.5 and more", "6", "7"];
 
 pub const MEASUREMENT: [&str; 5] = [
     "none runs and none starts",
@@ -62,7 +62,11 @@ pub const EVENTS: [&str; 25] = [
     "marked though u is not below the probability",
 ];
 
-pub const RUN_EVENTS: [&str; 1] = ["arrival after 1,000 ticks with an empty queue"];
+pub const RUN_EVENTS: [&str; 3] = [
+    "arrival after 1,000 ticks with an empty queue",
+    "arrival at an inactive queue after 1,000 ticks with an empty queue",
+    "turned active a second time",
+];
 
 pub const SINGLE_EVENTS: [&str; 9] = [
     "allowance below 15,000 becomes 0",
@@ -108,7 +112,7 @@ pub const SUMS: [&str; 20] = [
     "rules 3 to 5 enqueue where u would be early",
 ];
 
-pub const ENDS: [&str; 34] = [
+pub const ENDS: [&str; 37] = [
     "target 1,000",
     "target 100,000",
     "buffer 1",
@@ -143,6 +147,9 @@ pub const ENDS: [&str; 34] = [
     "sum of counts 2^48",
     "size 1",
     "size 65,535",
+    "plain",
+    "calm and active",
+    "inactive",
 ];
 
 /// Where the tables are whole pages: guarded memory then ends right beside both of their ends.
@@ -157,11 +164,12 @@ pub fn found(before: &Side, call: &Call, after: &Side, hits: &mut Vec<(usize, us
     let mut events = Vec::new();
     let mut singles = Vec::new();
     match call {
-        Call::Fresh { .. } if accepted => events.push((true, 0)),
+        Call::Fresh(_) if accepted => events.push((true, 0)),
         Call::Arrival { packet, .. } if accepted => {
+            let begun = model::begun(&before.state);
             arrival(&before.state, &after.state, &mut events);
-            early(&before.state, packet, after, &mut events, hits);
-            sums(&before.state, packet, after, hits);
+            early(&begun, packet, after, &mut events, hits);
+            sums(&begun, packet, after, hits);
         }
         Call::Departure { .. } if accepted => {
             if let Some(label) = measurement(&before.state, &after.state) {
@@ -172,10 +180,12 @@ pub fn found(before: &Side, call: &Call, after: &Side, hits: &mut Vec<(usize, us
             departed(&after.state, &mut singles);
         }
         Call::Departure { .. } if after.answer == 109 => wrong_head(before, &mut singles),
-        Call::Tick { .. } if accepted => tick(&before.state, &after.state, &mut events),
+        Call::Tick { .. } if accepted && before.state.active != 0 => {
+            tick(&before.state, &after.state, &mut events)
+        }
         _ => {}
     }
-    let fresh = matches!(call, Call::Fresh { .. });
+    let fresh = matches!(call, Call::Fresh(_));
     if accepted && !fresh {
         let odd = before.state.measuring > 1;
         singles.push((odd && after.state.measuring == before.state.measuring, 1));
@@ -343,7 +353,7 @@ fn wrong_head(before: &Side, singles: &mut Found) {
 
 fn tick(before: &State, after: &State, events: &mut Found) {
     let delay = model::queueing_delay(before);
-    let p = before.probability as i64 + model::step(before, delay);
+    let p = before.probability as i64 + model::step_taken(before, delay);
     let fell = before.allowance >= 15_000 && after.allowance == before.allowance - 15_000;
     events.push((fell, 1));
     events.push((before.allowance == 0 && after.allowance == 0, 2));
@@ -383,6 +393,7 @@ fn ends(s: &State, call: &Call, hits: &mut Vec<(usize, usize)>) {
         runs && s.counted == 0, runs && s.counted == 16_383,
         model::verdict_sum(s) == 0, model::verdict_sum(s) == 1 << 48,
         size == 1, size == 65_535,
+        s.profile == 0, s.profile == 1 && s.active != 0, s.active == 0,
     ];
     hits.extend(at.iter().enumerate().filter(|(_, &at)| at).map(|(label, _)| (4, label)));
 }

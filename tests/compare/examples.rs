@@ -1,8 +1,8 @@
 //! The figures of the document, run on both sides. The figures themselves are checked as well, so
 //! a misreading that model and library share would show here.
 
-use crate::shared::pair::{Pair, Failure};
 use crate::model::{Arriving, State, WHOLE};
+use crate::shared::pair::{Failure, Pair};
 use crate::side::{Call, Lender, Lent, Side};
 
 const SLOTS: usize = 8;
@@ -61,6 +61,24 @@ const SUMS: [(u64, u64, u32, bool, u64, u64); 12] = [
     (0, 858_993_460, 0, false, 0, 858_993_460),
 ];
 
+/// Profile, probability and the two delays before a tick, and the probability after it: the calm
+/// profile's step is at most 85,899,345 where the probability is at least 429,496,730.
+const CAPS: [(u64, u64, u64, u64, u64); 8] = [
+    (1, 429_496_730, 25_000, 10_000, 515_396_075), // step 85,899,345
+    (1, 429_496_730, 25_001, 10_001, 515_396_075), // step 85,899,882
+    (0, 429_496_730, 25_001, 10_001, 515_396_612),
+    (1, 429_496_729, 45_000, 10_000, 531_502_202), // step 102,005,473
+    (0, 429_496_729, 45_000, 10_000, 531_502_202),
+    (1, 429_496_730, 10_000_000, 0, 515_396_075),
+    (1, WHOLE - 85_899_346, 10_000_000, 0, WHOLE - 1),
+    (1, WHOLE - 85_899_345, 10_000_000, 0, WHOLE),
+];
+
+/// Buffer of a calm, inactive queue with 16,384 bytes, and whether an arrival turns it active; also
+/// whether a tick that meets rule 8 leaves it active.
+const THIRDS: [(u64, bool); 4] =
+    [(49_151, true), (49_152, false), (49_153, false), (16_777_216, false)];
+
 fn state() -> State {
     State {
         target: 15_000,
@@ -70,6 +88,7 @@ fn state() -> State {
         count: 2,
         bytes: 16_384,
         accumulated: WHOLE,
+        active: 1,
         ..State::default()
     }
 }
@@ -100,9 +119,43 @@ pub fn run(lender: &mut dyn Lender) -> Result<(), Failure> {
     expect("the delay", one(lender, before, tick)?.state.old_delay, 3_500)?;
     let before = State { allowance: 15_000, probability: 1_000_000, ..state() };
     expect("the allowance", one(lender, before, tick)?.state.allowance, 0)?;
+    for (profile, probability, delay, old_delay, figure) in CAPS {
+        let before = State { profile, probability, old_delay, average: delay, ..state() };
+        let after = one(lender, before, tick)?;
+        expect("the probability after a tick", after.state.probability, figure)?;
+    }
     arrivals(lender)?;
     average(lender)?;
-    last_packet(lender)
+    last_packet(lender)?;
+    thirds(lender)
+}
+
+/// An inactive queue turns active above a third of its buffer and begins anew; an active one turns
+/// inactive at a tick that meets rule 8 with no more than that queued.
+fn thirds(lender: &mut dyn Lender) -> Result<(), Failure> {
+    let lent = Lent { handles: SLOTS, sizes: SLOTS };
+    let packet = Arriving { handle: 7, size: 1_000, ecn: false, u: 0 };
+    for (buffer, above) in THIRDS {
+        let kept = (6_000, 7_000, 0, 5);
+        let inactive = State { profile: 1, active: 0, buffer, accumulated: 5, ..state() };
+        let running = State { measuring: 1, start: 9, counted: 8, ..inactive };
+        let before = State { average: kept.0, old_delay: kept.1, allowance: kept.2, ..running };
+        let after = one(lender, before, Call::Arrival { lent, clock: 1_000_000, packet })?;
+        let s = after.state;
+        expect("the verdict", u64::from(after.answer), 0)?;
+        expect("the activity", s.active, u64::from(above))?;
+        let figures = if above { (0, 0, 150_000, 0) } else { kept };
+        expect("the average", s.average, figures.0)?;
+        expect("the old delay", s.old_delay, figures.1)?;
+        expect("the allowance", s.allowance, figures.2)?;
+        expect("the accumulated probability", s.accumulated, figures.3)?;
+        expect("the measurement", s.measuring, u64::from(!above))?;
+        let before = State { profile: 1, buffer, average: 7_499, old_delay: 7_499, ..state() };
+        let after = one(lender, before, Call::Tick { clock: 1_015_000 })?;
+        expect("the activity", after.state.active, u64::from(above))?;
+        expect("the allowance", after.state.allowance, 150_000)?;
+    }
+    Ok(())
 }
 
 fn arrivals(lender: &mut dyn Lender) -> Result<(), Failure> {

@@ -1,8 +1,8 @@
 //! Lends memory beside pages that nobody may touch. Tables are read-only during a departure, and
 //! the state while it is asked whether it is well formed.
 
-use crate::shared::area::{Area, READ, READ_WRITE};
 use crate::library::{self, Packet, Record};
+use crate::shared::area::{Area, READ, READ_WRITE};
 use crate::side::{handed_back, state_of, words, Call, Lender, Lent, Side, UNWRITTEN};
 use std::mem::size_of;
 use std::slice::{from_raw_parts, from_raw_parts_mut};
@@ -64,9 +64,7 @@ impl Lender for Guarded {
         self.state.access(READ_WRITE);
         side.packet = (0, 0);
         side.answer = match *call {
-            Call::Fresh { target, buffer, slots, clock } => {
-                library::fresh(record, target, buffer, slots, clock)
-            }
+            Call::Fresh(asked) => library::fresh(record, &asked),
             Call::Arrival { .. } => self.arrival(record, side, call),
             Call::Departure { .. } => self.departure(record, side, call),
             Call::Tick { clock } => library::tick(record, clock),

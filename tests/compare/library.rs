@@ -1,15 +1,25 @@
 //! The library under test, through its C interface.
 
+use crate::model::Asked;
 pub use crate::shared::answers::Packet;
 
-/// The state record: its 21 words, in the order of the C header.
+/// How many words the state record has.
+pub const WORDS: usize = 23;
+
+/// The state record: its words, in the order of the C header.
 #[repr(C)]
 #[derive(Clone, Copy, PartialEq, Eq, Debug)]
-pub struct Record(pub [u64; 21]);
+pub struct Record(pub [u64; WORDS]);
 
 extern "C" {
-    fn obikuteru_fresh(state: *mut Record, target: u64, buffer: u64, slots: u64, clock: u64)
-        -> u32;
+    fn obikuteru_fresh(
+        state: *mut Record,
+        target: u64,
+        buffer: u64,
+        slots: u64,
+        profile: u64,
+        clock: u64,
+    ) -> u32;
     fn obikuteru_arrival(
         state: *mut Record,
         handles: *mut u32,
@@ -35,8 +45,9 @@ extern "C" {
     fn obikuteru_well_formed(state: *const Record) -> bool;
 }
 
-pub fn fresh(state: &mut Record, target: u64, buffer: u64, slots: u64, clock: u64) -> u32 {
-    unsafe { obikuteru_fresh(state, target, buffer, slots, clock) }
+pub fn fresh(state: &mut Record, asked: &Asked) -> u32 {
+    let Asked { target, buffer, slots, profile, clock } = *asked;
+    unsafe { obikuteru_fresh(state, target, buffer, slots, profile, clock) }
 }
 
 pub fn arrival(

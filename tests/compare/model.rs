@@ -18,6 +18,11 @@ pub const SMALL_QUEUE: u64 = 3_000;
 pub const TENTH: u64 = 429_496_730;
 /// 8.5: the accumulated probability stays below it, and a sum that reaches it is early.
 pub const FORCED: u64 = 36_507_222_016;
+/// The two profiles.
+pub const PLAIN: u64 = 0;
+pub const CALM: u64 = 1;
+/// The greatest step of the calm profile, from one tenth on.
+pub const CALM_STEP: i64 = 85_899_345;
 
 /// Each band of the drop probability: its last value, and the divisor k.
 pub const BANDS: [(u64, i64); 7] = [
@@ -31,6 +36,7 @@ pub const BANDS: [(u64, i64); 7] = [
 ];
 
 /// The state record. `measuring` is a word: 0 if no measurement runs, any other if one runs.
+/// `active` likewise: 0 if the queue is inactive, any other if it is active.
 #[derive(Clone, Copy, PartialEq, Eq, Default, Debug)]
 pub struct State {
     pub target: u64,
@@ -50,6 +56,8 @@ pub struct State {
     pub bytes: u64,
     pub first: u64,
     pub verdicts: [u64; 5],
+    pub profile: u64,
+    pub active: u64,
 }
 
 /// The arguments of an arrival, without its clock.
@@ -72,7 +80,7 @@ pub const DROPPED_EARLY: usize = 4;
 pub type Refusals = [bool; 10];
 
 /// The conditions that make a state well formed, in the order of `conditions`.
-pub const CONDITIONS: [&str; 21] = [
+pub const CONDITIONS: [&str; 24] = [
     "target in range",
     "buffer in range",
     "slots in range",
@@ -93,6 +101,9 @@ pub const CONDITIONS: [&str; 21] = [
     "counted 0 if none runs",
     "none runs on an empty queue",
     "accumulated < 8.5",
+    "profile 0 or 1",
+    "calm if inactive",
+    "probability 0 if inactive",
     "sum of counts <= 2^48",
 ];
 
@@ -105,8 +116,9 @@ pub fn verdict_sum(s: &State) -> u128 {
 }
 
 /// Whether each of `CONDITIONS` holds.
-pub fn conditions(s: &State) -> [bool; 21] {
+pub fn conditions(s: &State) -> [bool; 24] {
     let runs = s.measuring != 0;
+    let active = s.active != 0;
     [
         within(s.target, TARGET),
         within(s.buffer, BUFFER),
@@ -128,6 +140,9 @@ pub fn conditions(s: &State) -> [bool; 21] {
         runs || s.counted == 0,
         !runs || s.count > 0,
         s.accumulated < FORCED,
+        s.profile == PLAIN || s.profile == CALM,
+        active || s.profile == CALM,
+        active || s.probability == 0,
         verdict_sum(s) <= u128::from(CLOCK_MAX),
     ]
 }
@@ -159,10 +174,23 @@ fn wrong_head(s: &State, sizes: &[u32]) -> bool {
     size == 0 || size > SIZE_MAX || too_few || too_many
 }
 
-pub fn fresh_refusals(target: u64, buffer: u64, slots: u64, clock: u64) -> Refusals {
+/// What a fresh call asks for.
+#[derive(Clone, Copy, Debug)]
+pub struct Asked {
+    pub target: u64,
+    pub buffer: u64,
+    pub slots: u64,
+    pub profile: u64,
+    pub clock: u64,
+}
+
+pub fn fresh_refusals(asked: &Asked) -> Refusals {
     let mut applying = Refusals::default();
-    let in_range = within(target, TARGET) && within(buffer, BUFFER) && within(slots, SLOTS);
-    applying[1] = !in_range || clock > CLOCK_MAX;
+    let in_range = within(asked.target, TARGET)
+        && within(asked.buffer, BUFFER)
+        && within(asked.slots, SLOTS)
+        && (asked.profile == PLAIN || asked.profile == CALM);
+    applying[1] = !in_range || asked.clock > CLOCK_MAX;
     applying
 }
 
@@ -202,17 +230,19 @@ fn lowest(applying: Refusals) -> Result<(), u32> {
     }
 }
 
-/// An accepted call sets the clock. The word `measuring` stays as it is where it says so already.
+/// An accepted call sets the clock. The words `measuring` and `active` stay as they are where they
+/// say so already.
 fn accept(s: &mut State, clock: u64) {
     s.clock = clock;
 }
 
-/// A fresh state, or the number of the refusal and an all-zero record.
-pub fn fresh(target: u64, buffer: u64, slots: u64, clock: u64) -> (Result<(), u32>, State) {
-    let answer = lowest(fresh_refusals(target, buffer, slots, clock));
+/// A fresh state, or the number of the refusal and an all-zero record. A calm queue is inactive.
+pub fn fresh(asked: &Asked) -> (Result<(), u32>, State) {
+    let answer = lowest(fresh_refusals(asked));
     if answer.is_err() {
         return (answer, State::default());
     }
+    let Asked { target, buffer, slots, profile, clock } = *asked;
     let state = State {
         target,
         buffer,
@@ -220,17 +250,37 @@ pub fn fresh(target: u64, buffer: u64, slots: u64, clock: u64) -> (Result<(), u3
         clock,
         last: clock,
         allowance: FULL_ALLOWANCE,
+        profile,
+        active: u64::from(profile == PLAIN),
         ..State::default()
     };
     (answer, state)
 }
 
-/// The rules that decide on an arrival, in their order. The two of the sum stand between the
-/// document's rules 5 and 6.
+/// Whether more than a third of the buffer is queued.
+pub fn above_third(s: &State) -> bool {
+    3 * s.bytes > s.buffer
+}
+
+/// The state in which the rules of an accepted arrival run: an inactive queue above a third of its
+/// buffer turns active and begins anew.
+pub fn begun(s: &State) -> State {
+    if s.active != 0 || !above_third(s) {
+        return *s;
+    }
+    let mut begun = State { active: 1, allowance: FULL_ALLOWANCE, ..*s };
+    (begun.probability, begun.old_delay, begun.average, begun.accumulated) = (0, 0, 0, 0);
+    stop_measurement(&mut begun);
+    begun
+}
+
+/// The rules that decide on an arrival, in their order. An inactive queue has rules 1 and 2 alone;
+/// the two of the sum stand between the document's rules 5 and 6.
 #[derive(Clone, Copy, PartialEq, Eq, PartialOrd, Ord, Debug)]
 pub enum Rule {
     Bytes,
     Slots,
+    Inactive,
     Allowance,
     ShortDelay,
     SmallQueue,
@@ -245,11 +295,12 @@ pub fn sum(s: &State) -> u64 {
     s.accumulated + s.probability
 }
 
-/// The first rule that holds.
+/// The first rule that holds in the state in which they run.
 pub fn deciding_rule(s: &State, packet: &Arriving) -> Rule {
     let rules = [
         (s.bytes + u64::from(packet.size) > s.buffer, Rule::Bytes),
         (s.count == s.slots, Rule::Slots),
+        (s.active == 0, Rule::Inactive),
         (s.allowance > 0, Rule::Allowance),
         (2 * s.old_delay < s.target && 5 * s.probability < WHOLE, Rule::ShortDelay),
         (s.bytes <= SMALL_QUEUE, Rule::SmallQueue),
@@ -271,8 +322,8 @@ fn verdict(rule: Rule, s: &State, packet: &Arriving) -> usize {
     }
 }
 
-/// The accumulated probability after an arrival: as it was where one of rules 1 to 5 decided,
-/// 0 after an early verdict.
+/// The accumulated probability after an arrival: as it was where one of rules 1 to 5 decided or the
+/// queue is inactive, 0 after an early verdict.
 fn accumulate(s: &mut State, rule: Rule, verdict: usize) {
     if rule > Rule::SmallQueue {
         s.accumulated = sum(s);
@@ -292,6 +343,7 @@ pub fn arrival(
 ) -> Result<usize, u32> {
     lowest(arrival_refusals(s, (handles.len(), sizes.len()), clock, packet.size))?;
     accept(s, clock);
+    *s = begun(s);
     let rule = deciding_rule(s, packet);
     let verdict = verdict(rule, s, packet);
     accumulate(s, rule, verdict);
@@ -375,12 +427,31 @@ pub fn step(s: &State, delay: u64) -> i64 {
     x * 8_388_608 / (15_625 * k)
 }
 
+/// Whether the calm profile cuts a step.
+pub fn is_capped(s: &State, step: i64) -> bool {
+    s.profile == CALM && s.probability >= TENTH && step > CALM_STEP
+}
+
+/// Tick rules 2 to 4 with the cap of the calm profile: the step that the drop probability takes.
+pub fn step_taken(s: &State, delay: u64) -> i64 {
+    let step = step(s, delay);
+    if is_capped(s, step) {
+        CALM_STEP
+    } else {
+        step
+    }
+}
+
 /// The periodic update, or the number of the refusal.
 pub fn tick(s: &mut State, clock: u64) -> Result<(), u32> {
     lowest(tick_refusals(s, clock))?;
     accept(s, clock);
+    if s.active == 0 {
+        s.last = clock;
+        return Ok(());
+    }
     let delay = queueing_delay(s); // rule 1
-    let mut p = s.probability as i64 + step(s, delay); // rules 2 to 4
+    let mut p = s.probability as i64 + step_taken(s, delay); // rules 2 to 4
     if delay == 0 && s.old_delay == 0 && p > 0 {
         p -= p / 64; // rule 5
     }
@@ -388,6 +459,9 @@ pub fn tick(s: &mut State, clock: u64) -> Result<(), u32> {
     s.allowance = s.allowance.saturating_sub(TICK_PERIOD); // rule 7
     if s.probability == 0 && 2 * delay < s.target && 2 * s.old_delay < s.target {
         s.allowance = FULL_ALLOWANCE; // rule 8
+        if s.profile == CALM && !above_third(s) {
+            s.active = 0;
+        }
     }
     s.old_delay = delay; // rule 9
     s.last = clock;

@@ -10,6 +10,7 @@ pub struct Plan {
     pub target: u64,
     pub buffer: u64,
     pub slots: u64,
+    pub profile: u64,
     pub clock: u64,
     pub traffic: Traffic,
     /// How many of 100 packets are ECN-capable.
@@ -36,7 +37,7 @@ pub const PHASES: [Phase; 12] = [
 ];
 
 /// How many kinds of plan there are.
-pub const KINDS: u64 = 15;
+pub const KINDS: u64 = 20;
 
 pub fn plan(r: &mut Random, kind: u64) -> Plan {
     let any = r.range(1_000, 100_000);
@@ -44,6 +45,7 @@ pub fn plan(r: &mut Random, kind: u64) -> Plan {
         target: r.pick(&[1_000, 15_000, 15_000, 20_001, 100_000, any]),
         buffer: r.range(60_000, 600_000),
         slots: r.range(50, 500),
+        profile: 0,
         clock: 0,
         traffic: Traffic { ns_per_byte: r.range(300, 5_000), sizes: (0, 0), lucky: false },
         ecn: r.pick(&[0, 50, 100]),
@@ -76,7 +78,31 @@ pub fn plan(r: &mut Random, kind: u64) -> Plan {
             (link.sizes, plan.ecn, plan.calls) = ((40, 1_500), 80, 20_000);
             link.lucky = kind == 11;
         }
+        15.. => calm(r, kind, &mut plan),
         _ => {}
     }
     plan
+}
+
+/// Calm queues: some with a short buffer that a burst fills beyond its third, some with a slow link
+/// whose delay grows by more than the calm profile's step allows for.
+fn calm(r: &mut Random, kind: u64, plan: &mut Plan) {
+    plan.profile = 1;
+    match kind {
+        15 => {
+            (plan.buffer, plan.slots, plan.traffic.sizes) =
+                (r.range(60_000, 90_000), 200, (64, 9_000))
+        }
+        16 => {
+            (plan.target, plan.buffer, plan.slots) = (15_000, r.range(200_000, 600_000), 2_000);
+            (plan.traffic.ns_per_byte, plan.traffic.sizes) =
+                (r.range(2_000, 5_000), (1_000, 1_500));
+            plan.calls = 20_000;
+        }
+        17 => {
+            (plan.slots, plan.traffic.sizes, plan.target) = (r.range(2, 30), (5_000, 30_000), 1_000)
+        }
+        18 => plan.buffer = r.range(1, 40_000),
+        _ => (plan.buffer, plan.traffic.sizes) = (r.range(60_000, 90_000), (1_000, 65_535)),
+    }
 }

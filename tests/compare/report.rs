@@ -1,5 +1,6 @@
 //! Prints a call and what model and library made of it, field by field.
 
+use crate::model::Asked;
 use crate::shared::lines::{answer_name, both, print_places, print_words, table};
 use crate::shared::pair::Difference;
 use crate::side::{words, Call, Side, FIELDS};
@@ -7,9 +8,10 @@ use crate::side::{words, Call, Side, FIELDS};
 /// The call and all its arguments on one line.
 pub fn call_text(call: &Call) -> String {
     match *call {
-        Call::Fresh { target, buffer, slots, clock } => {
-            format!("fresh, target {target}, buffer {buffer}, slots {slots}, clock {clock}")
-        }
+        Call::Fresh(Asked { target, buffer, slots, profile, clock }) => format!(
+            "fresh, target {target}, buffer {buffer}, slots {slots}, profile {profile}, \
+             clock {clock}"
+        ),
         Call::Arrival { lent, clock, packet: p } => format!(
             "arrival, clock {clock}, handle {}, size {}, ecn {}, u {}, tables of {} and {}",
             p.handle, p.size, p.ecn, p.u, lent.handles, lent.sizes

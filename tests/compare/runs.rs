@@ -1,13 +1,13 @@
 //! Long runs from fresh: state and tables go back to each call as the last one left them.
 
-use crate::shared::pair::{Pair, Failure};
 use crate::coverage::Coverage;
-use crate::model::{Arriving, CLOCK_MAX};
-use crate::shared::numbers::{split, Lent};
+use crate::model::{Arriving, Asked, CLOCK_MAX};
 use crate::plans::{self, Phase, Plan};
-use crate::shared::random::Random;
 use crate::report::call_text;
 use crate::shadow::Shadow;
+use crate::shared::numbers::{split, Lent};
+use crate::shared::pair::{Failure, Pair};
+use crate::shared::random::Random;
 use crate::side::{Call, Lender, Side};
 
 struct Run<'a> {
@@ -44,8 +44,7 @@ pub fn run(
     let (phase, tick_at) = (Phase::Balanced, plan.clock + 15_000);
     let (arrival_at, departure_at) = (Some(plan.clock), None);
     let calls = plan.calls;
-    let mut run =
-        Run { r, plan, phase, pair, shadow, coverage, arrival_at, departure_at, tick_at };
+    let mut run = Run { r, plan, phase, pair, shadow, coverage, arrival_at, departure_at, tick_at };
     let mut done = 0;
     while done < calls {
         done += run.phase()?;
@@ -53,7 +52,7 @@ pub fn run(
     Ok(())
 }
 
-/// A refused fresh, then an accepted one. Runs with few arrivals left then go on from a record
+/// Two refused calls of fresh, then an accepted one. Runs with few arrivals left then go on from a record
 /// with large counts, as if it were restored after 2^48 arrivals less those.
 fn begin(
     r: &mut Random,
@@ -61,9 +60,9 @@ fn begin(
     pair: &mut Pair,
     coverage: &mut Coverage,
 ) -> Result<(), Failure> {
-    let Plan { target, buffer, slots, clock, .. } = *plan;
-    for target in [999, target] {
-        let call = Call::Fresh { target, buffer, slots, clock };
+    let Plan { target, buffer, slots, profile, clock, .. } = *plan;
+    for (target, profile) in [(999, profile), (target, 2), (target, profile)] {
+        let call = Call::Fresh(Asked { target, buffer, slots, profile, clock });
         pair.call(&call)?;
         coverage.note(&pair.before, &call, &pair.library);
     }
@@ -115,8 +114,15 @@ impl Run<'_> {
             Call::Arrival { .. } => {
                 if after.answer < 100 && clock < quiet {
                     self.coverage.note_run_event(0);
+                    if before.state.active == 0 {
+                        self.coverage.note_run_event(1);
+                    }
                 }
-                self.arrival_at = self.plan.traffic.arrival_gap(self.r, self.phase).map(|gap| clock + gap);
+                if before.state.active == 0 && self.shadow.activations == 2 {
+                    self.coverage.note_run_event(2);
+                }
+                self.arrival_at =
+                    self.plan.traffic.arrival_gap(self.r, self.phase).map(|gap| clock + gap);
             }
             Call::Departure { .. } if after.answer < 100 => self.departure_at = None,
             Call::Tick { .. } if after.answer < 100 => {
@@ -175,7 +181,8 @@ impl Run<'_> {
     /// A call with one argument wrong, or at a time when it is refused or seldom comes.
     fn odd_call(&mut self) -> Call {
         let state = self.pair.model.state;
-        let (lent, wrong, mut packet) = (self.lent(), Lent::wrong(self.r, self.plan.slots as usize), self.packet());
+        let (lent, wrong, mut packet) =
+            (self.lent(), Lent::wrong(self.r, self.plan.slots as usize), self.packet());
         let clock = state.clock;
         let bad_clock = self.r.pick(&[clock.wrapping_sub(1), CLOCK_MAX + 1, u64::MAX]);
         let early = clock.max(state.last + self.r.pick(&[0, 1, 14_999]));

@@ -9,8 +9,12 @@ pub struct Shadow {
     packets: Packets,
     verdicts: [u64; 5],
     clock: u64,
-    /// The probabilities added up after the last early verdict.
+    /// The probabilities added up after the last early verdict, or after the queue turned active.
     accumulated: u64,
+    /// How often the queue turned active, and the end of the time after it in which nothing is
+    /// dropped early.
+    pub activations: u64,
+    grace_until: u64,
     /// Accepted ticks in succession, up to now, that found the queue empty.
     empty_ticks: u64,
     /// The end of the time in which nothing is dropped early, after 1,000 of those.
@@ -24,6 +28,8 @@ impl Shadow {
             verdicts: start.verdicts,
             clock: start.clock,
             accumulated: 0,
+            activations: 0,
+            grace_until: 0,
             empty_ticks: 0,
             quiet_until: 0,
         }
@@ -47,6 +53,7 @@ impl Shadow {
         match *call {
             Call::Arrival { clock, packet, .. } => {
                 self.clock = clock;
+                self.activity(before, after)?;
                 self.arrived(packet.handle, packet.size, before, after.answer as usize)?;
             }
             Call::Departure { clock, .. } => {
@@ -55,11 +62,30 @@ impl Shadow {
             }
             Call::Tick { clock } => {
                 self.clock = clock;
-                self.ticked(after)?;
+                self.ticked(before, after)?;
             }
-            Call::Fresh { .. } => {}
+            Call::Fresh(_) => {}
         }
         self.agrees(&after.state)
+    }
+
+    /// An arrival turns a queue active exactly where it finds it inactive with more than a third of
+    /// the buffer queued. Inactive, and for 150 ms after it turned active, nothing is early.
+    fn activity(&mut self, before: &State, after: &Side) -> Result<(), String> {
+        let turns = before.active == 0 && before.bytes > before.buffer / 3;
+        if turns {
+            self.activations += 1;
+            self.grace_until = self.clock + 150_000;
+            self.accumulated = 0;
+        }
+        if (after.state.active != 0) != (turns || before.active != 0) {
+            return Err("an arrival turned the queue active wrongly, or did not".into());
+        }
+        let early = after.answer == 1 || after.answer == 4;
+        if early && (after.state.active == 0 || self.clock < self.grace_until) {
+            return Err("early at an inactive queue or within 150 ms after it turned active".into());
+        }
+        Ok(())
     }
 
     fn arrived(
@@ -104,7 +130,11 @@ impl Shadow {
         Ok(())
     }
 
-    fn ticked(&mut self, after: &Side) -> Result<(), String> {
+    fn ticked(&mut self, before: &State, after: &Side) -> Result<(), String> {
+        let same = State { clock: self.clock, last: self.clock, ..*before };
+        if before.active == 0 && after.state != same {
+            return Err("a tick of an inactive queue changed more than clock and last tick".into());
+        }
         self.empty_ticks = if self.packets.count() == 0 { self.empty_ticks + 1 } else { 0 };
         if self.empty_ticks >= 1_000 {
             self.quiet_until = self.clock + 150_000;
@@ -121,7 +151,8 @@ impl Shadow {
             && state.bytes == bytes
             && state.clock == self.clock
             && state.accumulated == self.accumulated
-            && state.verdicts == self.verdicts;
+            && state.verdicts == self.verdicts
+            && (state.active != 0 || state.profile == 1);
         if same {
             return Ok(());
         }

@@ -1,14 +1,14 @@
 //! One side of the comparison: a state, two tables, and what the last call gave.
 
-use crate::library::{self, Packet, Record};
+use crate::library::{self, Packet, Record, WORDS};
+use crate::model::{self, Arriving, Asked, State};
 pub use crate::shared::answers::UNWRITTEN;
 use crate::shared::answers::{model_answer, STOPPED};
-use crate::model::{self, Arriving, State};
 pub use crate::shared::numbers::Lent;
 
 #[derive(Clone, Copy, Debug)]
 pub enum Call {
-    Fresh { target: u64, buffer: u64, slots: u64, clock: u64 },
+    Fresh(Asked),
     Arrival { lent: Lent, clock: u64, packet: Arriving },
     Departure { lent: Lent, clock: u64 },
     Tick { clock: u64 },
@@ -54,8 +54,8 @@ impl Side {
     fn model_answer(&mut self, call: &Call) -> Result<u32, u32> {
         let state = &mut self.state;
         match *call {
-            Call::Fresh { target, buffer, slots, clock } => {
-                let (answer, fresh) = model::fresh(target, buffer, slots, clock);
+            Call::Fresh(asked) => {
+                let (answer, fresh) = model::fresh(&asked);
                 *state = fresh;
                 answer.map(|()| 0)
             }
@@ -91,9 +91,7 @@ impl Lender for Direct {
         side.well_formed = library::well_formed(&record);
         let state = &mut record;
         side.answer = match *call {
-            Call::Fresh { target, buffer, slots, clock } => {
-                library::fresh(state, target, buffer, slots, clock)
-            }
+            Call::Fresh(asked) => library::fresh(state, &asked),
             Call::Arrival { lent, clock, packet: p } => {
                 let handles = &mut side.handles[..lent.handles];
                 let sizes = &mut side.sizes[..lent.sizes];
@@ -119,8 +117,8 @@ pub fn handed_back(call: &Call, packet: Packet) -> (u32, u32) {
     }
 }
 
-/// The names of the 21 words, in the order of the C header.
-pub const FIELDS: [&str; 21] = [
+/// The names of the words, in the order of the C header.
+pub const FIELDS: [&str; WORDS] = [
     "target",
     "buffer",
     "slots",
@@ -142,10 +140,12 @@ pub const FIELDS: [&str; 21] = [
     "verdicts[2]",
     "verdicts[3]",
     "verdicts[4]",
+    "profile",
+    "active",
 ];
 
 #[rustfmt::skip]
-pub fn words(s: &State) -> [u64; 21] {
+pub fn words(s: &State) -> [u64; WORDS] {
     let [v0, v1, v2, v3, v4] = s.verdicts;
     [
         s.target, s.buffer, s.slots, s.clock, s.last,
@@ -153,17 +153,19 @@ pub fn words(s: &State) -> [u64; 21] {
         s.average, s.measuring, s.start, s.counted,
         s.count, s.bytes, s.first,
         v0, v1, v2, v3, v4,
+        s.profile, s.active,
     ]
 }
 
 #[rustfmt::skip]
-pub fn state_of(words: &[u64; 21]) -> State {
+pub fn state_of(words: &[u64; WORDS]) -> State {
     let [
         target, buffer, slots, clock, last,
         probability, old_delay, allowance, accumulated,
         average, measuring, start, counted,
         count, bytes, first,
         v0, v1, v2, v3, v4,
+        profile, active,
     ] = *words;
     State {
         target, buffer, slots, clock, last,
@@ -171,5 +173,6 @@ pub fn state_of(words: &[u64; 21]) -> State {
         average, measuring, start, counted,
         count, bytes, first,
         verdicts: [v0, v1, v2, v3, v4],
+        profile, active,
     }
 }

@@ -1,9 +1,9 @@
 //! Single calls on random states: accepted ones, and ones to which chosen refusals apply.
 
-use crate::shared::pair::{Pair, Failure};
 use crate::coverage::Coverage;
-use crate::model::{Arriving, Refusals, State, CLOCK_MAX};
+use crate::model::{Arriving, Asked, Refusals, State, CLOCK_MAX};
 use crate::shared::numbers::{self, Lent};
+use crate::shared::pair::{Failure, Pair};
 use crate::shared::random::Random;
 use crate::side::{Call, Lender, Side};
 use crate::states;
@@ -47,17 +47,20 @@ pub fn fresh_calls(lender: &mut dyn Lender, coverage: &mut Coverage) -> Result<(
     let with_far = |ends: &[u64]| [ends, &far].concat();
     let mut dirty = State { verdicts: [7; 5], ..State::default() };
     (dirty.measuring, dirty.first, dirty.probability) = (1, 3, 9);
-    dirty.accumulated = 5;
+    (dirty.accumulated, dirty.profile, dirty.active) = (5, 6, 7);
+    let profiles = with_far(&[0, 1, 2]);
     for target in with_far(&[0, 999, 1_000, 1_001, 15_000, 99_999, 100_000, 100_001]) {
         for buffer in with_far(&[0, 1, 2, 16_777_215, 16_777_216, 16_777_217]) {
             for slots in with_far(&[0, 1, 2, 65_535, 65_536, 65_537]) {
                 for clock in with_far(&[0, 1, CLOCK_MAX - 1, CLOCK_MAX, CLOCK_MAX + 1]) {
-                    let side = Side::new(dirty, Vec::new(), Vec::new());
-                    let mut pair = Pair::new(&side, lender);
-                    let fresh = Call::Fresh { target, buffer, slots, clock };
-                    for call in [fresh, Call::Tick { clock }] {
-                        pair.call(&call)?;
-                        coverage.note(&pair.before, &call, &pair.library);
+                    for &profile in &profiles {
+                        let side = Side::new(dirty, Vec::new(), Vec::new());
+                        let mut pair = Pair::new(&side, lender);
+                        let asked = Asked { target, buffer, slots, profile, clock };
+                        for call in [Call::Fresh(asked), Call::Tick { clock }] {
+                            pair.call(&call)?;
+                            coverage.note(&pair.before, &call, &pair.library);
+                        }
                     }
                 }
             }
@@ -88,8 +91,10 @@ fn case(r: &mut Random) -> (Side, Call) {
     match kind {
         Kind::Arrival if r.one_in(3) => states::aim_at_late_rules(r, &mut s),
         Kind::Arrival if r.one_in(3) => states::aim_at_early_verdicts(r, &mut s),
+        Kind::Arrival if r.one_in(3) => states::aim_at_activation(r, &mut s),
         Kind::Departure if r.one_in(4) => states::aim_at_last_packet(r, &mut s),
         Kind::Tick if r.one_in(3) => states::aim_at_refill(r, &mut s),
+        Kind::Tick if r.one_in(4) => states::aim_at_cap(r, &mut s),
         _ => {}
     }
     if wanted[5] {
@@ -111,7 +116,7 @@ fn case(r: &mut Random) -> (Side, Call) {
     if wanted[2] && r.one_in(6) {
         states::scramble(r, &mut s);
     } else if wanted[2] {
-        let last = if wanted[8] { 19 } else { 20 };
+        let last = if wanted[8] { 22 } else { 23 };
         let condition = r.range(0, last) as usize;
         states::break_one(r, &mut s, condition);
     }

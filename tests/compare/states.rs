@@ -1,5 +1,6 @@
 //! Random states: well formed, near the ends of every range, or with one condition broken.
 
+use crate::library::WORDS;
 use crate::model::{self, State, BANDS, CLOCK_MAX, FORCED, TENTH, TIME_MAX, WHOLE};
 use crate::shared::numbers::{above, outside, split, too_many, wild};
 use crate::shared::random::Random;
@@ -15,7 +16,22 @@ pub fn well_formed(r: &mut Random) -> State {
     measurement(r, &mut s);
     let sum = r.pick(&[0, 1, 5, CLOCK_MAX - 1, 1_000_000, CLOCK_MAX / 2]);
     s.verdicts = split(r, sum);
+    activity(r, &mut s);
     s
+}
+
+/// Plain and active, or calm and active, or calm and inactive with the probability 0.
+fn activity(r: &mut Random, s: &mut State) {
+    s.profile = r.range(0, 1);
+    s.active = r.pick(&[1, 1, 1, 1, 2, 256, 1 << 32, 1 << 63, u64::MAX]);
+    if s.profile == 1 && r.one_in(2) {
+        (s.active, s.probability) = (0, 0);
+    }
+}
+
+/// Makes an inactive queue active.
+fn activate(s: &mut State) {
+    s.active = s.active.max(1);
 }
 
 fn settings(r: &mut Random, s: &mut State) {
@@ -111,6 +127,7 @@ pub fn aim_at_late_rules(r: &mut Random, s: &mut State) {
     (s.slots, s.buffer) = (s.slots.max(2), model::BUFFER.1);
     (s.count, s.bytes) = (1, r.pick(&[2_999, 3_000, 3_001, 3_001, 60_000]));
     s.allowance = 0;
+    activate(s);
     s.old_delay = s.target / 2 - 1 + r.range(0, 3);
     let any = probability(r);
     s.probability = r.pick(&[858_993_458, 858_993_459, 858_993_460, any, any]);
@@ -125,6 +142,7 @@ pub fn aim_at_early_verdicts(r: &mut Random, s: &mut State) {
     (s.slots, s.buffer) = (s.slots.max(2), model::BUFFER.1);
     (s.count, s.bytes) = (1, r.pick(&[3_001, 3_001, 60_000]));
     s.allowance = 0;
+    activate(s);
     s.old_delay = s.target.div_ceil(2) + r.pick(&[0, 0, 1, TIME_MAX / 2]);
     let any = probability(r);
     s.probability = r.pick(&[TENTH - 1, TENTH - 1, TENTH, TENTH, TENTH - 2, TENTH + 1, any, any]);
@@ -168,17 +186,53 @@ pub fn aim_at_refill(r: &mut Random, s: &mut State) {
     s.old_delay = half - 1 + r.range(0, 2);
     s.allowance = r.range(0, 149_999);
     s.probability = 0;
+    activate(s);
     let loss = -model::step(s, s.average);
     if r.one_in(2) && (0..4_290).contains(&loss) {
         s.probability = loss as u64 + r.range(0, 2);
+    }
+    if r.one_in(2) {
+        s.buffer = 3 * s.bytes - 1 + r.range(0, 1);
+    }
+}
+
+/// Changes a well-formed state so that it is inactive with about a third of its buffer queued, or
+/// with all of it, and all its slots taken or not.
+pub fn aim_at_activation(r: &mut Random, s: &mut State) {
+    (s.profile, s.active, s.probability) = (1, 0, 0);
+    s.count = r.pick(&[1, s.slots.min(85), s.slots.min(85), s.count.max(1)]);
+    let most = (65_535 * s.count).min(model::BUFFER.1 / 3);
+    let any = r.spread(s.count, most);
+    s.bytes = r.pick(&[s.count, 3_001, any, any]).clamp(s.count, most);
+    s.buffer = r.pick(&[3 * s.bytes - 1, 3 * s.bytes, 3 * s.bytes + 1, s.bytes, s.bytes + 1]);
+    s.accumulated = r.pick(&[0, 1, WHOLE, FORCED - 1]);
+    s.old_delay = r.pick(&[0, 1, s.target, TIME_MAX]);
+    s.allowance = r.pick(&[0, 0, 1, 149_999, 150_000]);
+}
+
+/// Changes a well-formed state so that a tick's step is about the greatest of the calm profile,
+/// with a probability about one tenth or near the whole.
+pub fn aim_at_cap(r: &mut Random, s: &mut State) {
+    activate(s);
+    s.probability = r.pick(&[TENTH - 1, TENTH, TENTH, TENTH + 1, WHOLE - 1, WHOLE - 85_899_345]);
+    s.buffer = model::BUFFER.1;
+    (s.count, s.bytes) = (1, 16_384); // the delay is the average
+    s.average = r.range(20_000, 150_000);
+    let x = r.pick(&[159_999, 160_000, 160_000, 160_001, 160_001, 320_001, 320_002, 800_000]);
+    // x = (delay - target) + 10 x (delay - old delay); the target takes what 10 does not divide.
+    s.target = 15_000 + (11 * s.average + 1_000_000 - x) % 10;
+    let wanted = (11 * s.average).checked_sub(s.target + x);
+    s.old_delay = wanted.map_or(0, |ten_times| ten_times / 10);
+    if r.one_in(8) {
+        s.old_delay = TIME_MAX;
     }
 }
 
 /// Puts wild numbers into a few words of the state, whatever that breaks.
 pub fn scramble(r: &mut Random, s: &mut State) {
     let mut words = words(s);
-    for _ in 0..r.pick(&[1, 1, 2, 3, 21]) {
-        let place = r.range(0, 20) as usize;
+    for _ in 0..r.pick(&[1, 1, 2, 3, WORDS]) {
+        let place = r.range(0, WORDS as u64 - 1) as usize;
         words[place] = wild(r, words[place]);
     }
     *s = state_of(&words);
@@ -192,7 +246,10 @@ pub fn break_one(r: &mut Random, s: &mut State, condition: usize) {
         2 => s.slots = outside(r, s.slots, model::SLOTS),
         3 => s.last = above(r, s.last, s.clock),
         4 => s.clock = above(r, s.clock, CLOCK_MAX),
-        5 => s.probability = above(r, s.probability, WHOLE),
+        5 => {
+            activate(s);
+            s.probability = above(r, s.probability, WHOLE);
+        }
         6 => s.old_delay = above(r, s.old_delay, TIME_MAX),
         7 => s.allowance = above(r, s.allowance, 150_000),
         8 => s.average = above(r, s.average, TIME_MAX),
@@ -200,6 +257,16 @@ pub fn break_one(r: &mut Random, s: &mut State, condition: usize) {
         10..=13 => break_queue(r, s, condition),
         14..=18 => break_measurement(r, s, condition),
         19 => s.accumulated = above(r, s.accumulated, FORCED - 1),
+        20 => {
+            activate(s);
+            s.profile = above(r, s.profile, 1);
+        }
+        21 => (s.profile, s.active, s.probability) = (0, 0, 0),
+        22 => {
+            let any = probability(r).max(1);
+            (s.profile, s.active) = (1, 0);
+            s.probability = r.pick(&[1, WHOLE, any]);
+        }
         _ => s.verdicts = too_many(r),
     }
     if condition == 1 && r.one_in(4) {

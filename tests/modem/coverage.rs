@@ -9,11 +9,11 @@
 
 use crate::call::{Call, Kind, KINDS};
 use crate::edges::{arrival, departure, ends, tick, Found};
-use crate::shared::groups::{owned, Groups};
 use crate::model::numbers::BANDS;
 use crate::model::{self, Refusals, CONDITIONS};
-use crate::shared::lines::VERDICTS;
 use crate::sample;
+use crate::shared::groups::{owned, Groups};
+use crate::shared::lines::VERDICTS;
 use crate::side::Side;
 
 pub struct Coverage {

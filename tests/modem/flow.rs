@@ -5,8 +5,8 @@ use crate::call::{Call, Kind, Lent};
 use crate::model::numbers::{CLOCK_MAX, TICK_PERIOD};
 use crate::model::Arriving;
 use crate::plans::{self, Phase, Plan};
-use crate::shared::random::Random;
 use crate::shadow::Shadow;
+use crate::shared::random::Random;
 use crate::side::Side;
 
 pub struct Flow {
@@ -74,7 +74,8 @@ impl Flow {
         let (clock, accepted) = (self.model.state.clock, self.model.answer < 100);
         match call.kind {
             Kind::Arrival { .. } => {
-                self.arrival_at = self.plan.traffic.arrival_gap(r, self.phase).map(|gap| clock + gap);
+                self.arrival_at =
+                    self.plan.traffic.arrival_gap(r, self.phase).map(|gap| clock + gap);
             }
             Kind::Departure { .. } if accepted => self.departure_at = None,
             Kind::Tick { .. } if accepted => {
@@ -84,7 +85,8 @@ impl Flow {
             Kind::Fresh { .. } if accepted => {
                 self.tick_at = clock + TICK_PERIOD;
                 self.departure_at = None;
-                self.arrival_at = self.plan.traffic.arrival_gap(r, self.phase).map(|gap| clock + gap);
+                self.arrival_at =
+                    self.plan.traffic.arrival_gap(r, self.phase).map(|gap| clock + gap);
             }
             _ => {}
         }

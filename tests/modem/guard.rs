@@ -6,10 +6,10 @@
 //! across the edge of a guarded page: the rows after the call's, or those before it, lie on the
 //! page that nobody may touch; of a flow that has no row, all of them do.
 
-use crate::shared::area::{Area, READ, READ_WRITE};
 use crate::call::{Call, Kind, Lent};
 use crate::library::{Memory, Packet, Record};
 use crate::model::{Counts, Row};
+use crate::shared::area::{Area, READ, READ_WRITE};
 use crate::side::{handed_back, Lender, Side, UNWRITTEN};
 use crate::words::{settings_words, state_of, words};
 use std::mem::size_of;

@@ -6,11 +6,11 @@ use crate::coverage::Coverage;
 use crate::flow::Flow;
 use crate::model::numbers::COUNTS_MAX;
 use crate::model::{Counts, State};
+use crate::plans;
+use crate::report::call_text;
 use crate::shared::numbers::split;
 use crate::shared::pair::{Failure, Pair};
-use crate::plans;
 use crate::shared::random::Random;
-use crate::report::call_text;
 use crate::side::{Lender, Side};
 use std::mem::swap;
 

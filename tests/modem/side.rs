@@ -4,9 +4,9 @@
 pub use crate::call::Call;
 use crate::call::Kind;
 use crate::library::{Memory, Packet, Record};
+use crate::model::{self, Counts, State};
 pub use crate::shared::answers::UNWRITTEN;
 use crate::shared::answers::{model_answer, STOPPED};
-use crate::model::{self, Counts, State};
 use crate::words::{settings_words, state_of, words};
 
 #[derive(Clone, PartialEq, Eq)]

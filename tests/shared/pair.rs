@@ -1,8 +1,8 @@
 //! Model and library side by side: each call runs on both, and everything is compared.
 
+use super::stop;
 use crate::report;
 use crate::side::{Call, Direct, Lender, Side};
-use super::stop;
 use crate::NAME;
 
 /// A call on which model and library differ, with all its inputs.

@@ -1,13 +1,13 @@
 //! The program of a comparison: single calls, long runs and the papers' figures, on the fixed seed, on
 //! new seeds, or in guarded memory.
 
-use crate::coverage::Coverage;
-use crate::guard::Guarded;
 use super::pair::Failure;
 use super::random::Random;
 use super::rounds;
-use crate::side::{Direct, Lender};
 use super::stop;
+use crate::coverage::Coverage;
+use crate::guard::Guarded;
+use crate::side::{Direct, Lender};
 use crate::{runs, single, NAME};
 use std::process::exit;
 

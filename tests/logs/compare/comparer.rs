@@ -96,7 +96,7 @@ impl Comparer<'_> {
 
     /// One of the settings is another in range.
     fn settings(&mut self, r: &mut Random, parts: &Parts) -> Result<(), Failure> {
-        for field in 0..4 {
+        for field in 0..5 {
             for (value, _) in settings_edges(field).into_iter().filter(|edge| edge.1) {
                 let mut other = parts.clone();
                 set_settings(&mut other.settings, field, value);

@@ -37,7 +37,8 @@ const ANSWER_LABELS: [&str; 9] = [
 /// For each pair of refusals, the first log's and the second's; 0: none.
 const REFUSALS: [u32; 4] = [0, 111, 112, 113];
 
-const SETTINGS_LABELS: [&str; 4] = ["target alone", "buffer alone", "slots alone", "clock alone"];
+const SETTINGS_LABELS: [&str; 5] =
+    ["target alone", "buffer alone", "slots alone", "clock alone", "profile alone"];
 
 const NOTE_LABELS: [&str; 7] = [
     "the first byte alone",
@@ -137,8 +138,13 @@ fn note_answer(coverage: &mut Coverage, c: &Comparison, a: &Whole) {
 
 fn note_settings(coverage: &mut Coverage, a: &Whole, b: &Whole) {
     let (a, b) = (&a.settings, &b.settings);
-    let differ =
-        [a.target != b.target, a.buffer != b.buffer, a.slots != b.slots, a.clock != b.clock];
+    let differ = [
+        a.target != b.target,
+        a.buffer != b.buffer,
+        a.slots != b.slots,
+        a.clock != b.clock,
+        a.profile != b.profile,
+    ];
     coverage.hit_alone(SETTINGS, &differ);
 }
 

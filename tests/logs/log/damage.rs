@@ -6,7 +6,8 @@ use super::types::{Record, Settings, State};
 use crate::shared::random::Random;
 
 /// Where the fields of settings, record and trailer begin, and their widths.
-pub const SETTINGS_FIELDS: [(usize, usize); 5] = [(0, 8), (8, 4), (12, 4), (16, 8), (24, 8)];
+pub const SETTINGS_FIELDS: [(usize, usize); 6] =
+    [(0, 8), (8, 4), (12, 4), (16, 8), (24, 1), (25, 7)];
 pub const RECORD_FIELDS: [(usize, usize); 10] =
     [(0, 1), (1, 1), (2, 2), (4, 4), (8, 8), (16, 4), (20, 4), (24, 4), (28, 4), (32, 8)];
 pub const TRAILER_FIELDS: [(usize, usize); 4] = [(0, 4), (4, 4), (8, 4), (12, 4)];

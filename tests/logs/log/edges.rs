@@ -28,7 +28,7 @@ fn any_number() -> Vec<Edge> {
     vec![(0, true), (1, true), (1 << 31, true), (U32, true)]
 }
 
-/// The edges of the settings' fields: target, buffer, slots, clock, unused.
+/// The edges of the settings' fields: target, buffer, slots, clock, profile, unused.
 pub fn settings_edges(field: usize) -> Vec<Edge> {
     match field {
         0 => {
@@ -39,7 +39,8 @@ pub fn settings_edges(field: usize) -> Vec<Edge> {
         1 => range(1, 16_777_216, U32),
         2 => range(1, 65_536, U32),
         3 => range(0, 1 << 48, u64::MAX),
-        _ => unused(64),
+        4 => (0..256).map(|profile| (profile, profile < 2)).collect(),
+        _ => unused(56),
     }
 }
 
@@ -49,7 +50,8 @@ pub fn set_settings(settings: &mut Settings, field: usize, value: u64) {
         1 => settings.buffer = value as u32,
         2 => settings.slots = value as u32,
         3 => settings.clock = value,
-        _ => settings.unused = value.to_le_bytes(),
+        4 => settings.profile = value as u8,
+        _ => settings.unused.copy_from_slice(&value.to_le_bytes()[..7]),
     }
 }
 

@@ -12,7 +12,8 @@ pub fn settings(r: &mut Random) -> Settings {
         buffer: r.range(1, 16_777_216) as u32,
         slots: r.range(1, 65_536) as u32,
         clock: r.spread(0, 1 << 48),
-        unused: [0; 8],
+        profile: r.range(0, 1) as u8,
+        unused: [0; 7],
     };
     for field in 0..4 {
         if r.one_in(4) {
@@ -71,7 +72,7 @@ pub fn break_record(r: &mut Random, record: &mut Record) {
 }
 
 pub fn break_settings(r: &mut Random, settings: &mut Settings) {
-    let field = r.range(0, 4) as usize;
+    let field = r.range(0, 5) as usize;
     let edges = settings_edges(field);
     let wrong: Vec<u64> = edges.iter().filter(|edge| !edge.1).map(|edge| edge.0).collect();
     set_settings(settings, field, r.pick(&wrong));
@@ -114,7 +115,7 @@ pub fn any_log(r: &mut Random, count: usize) -> Vec<u8> {
 
 /// The log of the page docs/LOG.md.
 pub fn worked() -> (Settings, &'static [u8], Vec<Record>) {
-    let settings = Settings { target: 15_000, buffer: 64_000, slots: 4, clock: 0, unused: [0; 8] };
+    let settings = Settings { target: 15_000, buffer: 64_000, slots: 4, ..Settings::default() };
     let records = vec![
         Record { kind: b'a', handle: 7, size: 1_000, bytes: 1_000, ..Record::default() },
         Record { kind: b't', clock: 15_000, bytes: 1_000, ..Record::default() },

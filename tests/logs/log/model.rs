@@ -1,4 +1,5 @@
-//! A plain model of the log's writer and reader, written from docs/LOG.md and ticket Q-1 alone.
+//! A plain model of the log's writer and reader, written from docs/LOG.md and the tickets Q-1 and
+//! Q-12 alone.
 //!
 //! Lengths are computed with wide arithmetic. A refused call changes nothing.
 
@@ -16,6 +17,7 @@ pub const TARGET: (u64, u64) = (1_000, 100_000);
 pub const BUFFER: (u32, u32) = (1, 16_777_216);
 pub const SLOTS: (u32, u32) = (1, 65_536);
 pub const CLOCK_MAX: u64 = 1 << 48;
+pub const PROFILE_MAX: u8 = 1;
 pub const SIZE: (u32, u32) = (1, 65_535);
 pub const VERDICT_MAX: u32 = 4;
 pub const BYTES_MAX: u32 = 16_777_216;
@@ -36,16 +38,17 @@ fn within<T: PartialOrd>(value: T, (least, most): (T, T)) -> bool {
     least <= value && value <= most
 }
 
-pub const SETTINGS_FIELDS: [&str; 5] = ["target", "buffer", "slots", "clock", "unused"];
+pub const SETTINGS_FIELDS: [&str; 6] = ["target", "buffer", "slots", "clock", "profile", "unused"];
 
 /// Which of `SETTINGS_FIELDS` are at fault.
-pub fn settings_faults(s: &Settings) -> [bool; 5] {
+pub fn settings_faults(s: &Settings) -> [bool; 6] {
     [
         !within(s.target, TARGET),
         !within(s.buffer, BUFFER),
         !within(s.slots, SLOTS),
         s.clock > CLOCK_MAX,
-        s.unused != [0; 8],
+        s.profile > PROFILE_MAX,
+        s.unused != [0; 7],
     ]
 }
 
@@ -81,7 +84,8 @@ pub fn settings_bytes(s: &Settings) -> [u8; SETTINGS] {
     bytes[8..12].copy_from_slice(&s.buffer.to_le_bytes());
     bytes[12..16].copy_from_slice(&s.slots.to_le_bytes());
     bytes[16..24].copy_from_slice(&s.clock.to_le_bytes());
-    bytes[24..32].copy_from_slice(&s.unused);
+    bytes[24] = s.profile;
+    bytes[25..32].copy_from_slice(&s.unused);
     bytes
 }
 
@@ -115,13 +119,14 @@ fn number(bytes: &[u8]) -> u64 {
 }
 
 fn settings_of(log: &[u8]) -> Settings {
-    let mut unused = [0; 8];
-    unused.copy_from_slice(&log[24..32]);
+    let mut unused = [0; 7];
+    unused.copy_from_slice(&log[25..32]);
     Settings {
         target: number(&log[0..8]),
         buffer: number(&log[8..12]) as u32,
         slots: number(&log[12..16]) as u32,
         clock: number(&log[16..24]),
+        profile: log[24],
         unused,
     }
 }

@@ -9,7 +9,8 @@ pub struct Settings {
     pub buffer: u32,
     pub slots: u32,
     pub clock: u64,
-    pub unused: [u8; 8],
+    pub profile: u8,
+    pub unused: [u8; 7],
 }
 
 #[repr(C)]

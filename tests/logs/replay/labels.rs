@@ -13,6 +13,7 @@ const BESIDE: usize = 3;
 const REFUSALS: usize = 4;
 const ORDERS: usize = 5;
 const TABLES: usize = 6;
+const PROFILES: usize = 7;
 
 const ANSWER_LABELS: [&str; 8] = [
     "accepted",
@@ -103,6 +104,15 @@ const TABLE_LABELS: [&str; 8] = [
     "no sizes",
 ];
 
+const PROFILE_LABELS: [&str; 6] = [
+    "calm: accepted, with an early verdict",
+    "calm: accepted, probability 0 after one above 0",
+    "calm run, the log says plain: accepted",
+    "calm run, the log says plain: disagrees",
+    "plain run, the log says calm: accepted",
+    "plain run, the log says calm: disagrees",
+];
+
 pub fn coverage() -> Coverage {
     Coverage::new(vec![
         ("answer", owned(&ANSWER_LABELS)),
@@ -112,6 +122,7 @@ pub fn coverage() -> Coverage {
         ("call that the rules refuse", owned(&REFUSAL_LABELS)),
         ("order", owned(&ORDER_LABELS)),
         ("tables of other lengths", owned(&TABLE_LABELS)),
+        ("profile", owned(&PROFILE_LABELS)),
     ])
 }
 
@@ -155,6 +166,13 @@ pub fn note_faults(coverage: &mut Coverage, label: usize) {
     coverage.hit(ORDERS, label);
 }
 
+/// A run in one profile was replayed in the other.
+pub fn note_other_profile(coverage: &mut Coverage, run_in: u8, answer: u32) {
+    let (calm, accepted) = (run_in == 1, answer == 0);
+    let at = [calm && accepted, calm && !accepted, !calm && accepted, !calm && !accepted];
+    coverage.hits(PROFILES, &[false, false, at[0], at[1], at[2], at[3]]);
+}
+
 fn note_accepted(coverage: &mut Coverage, replay: &Replay, whole: &Whole) {
     let records = &whole.records;
     let any = |holds: &dyn Fn(&Record) -> bool| records.iter().any(holds);
@@ -185,6 +203,10 @@ fn note_accepted(coverage: &mut Coverage, replay: &Replay, whole: &Whole) {
             replay.untouched && !records.is_empty(),
         ],
     );
+    let calm = whole.settings.profile == 1;
+    let back = replay.found.probability == 0 && any(&|r: &Record| r.probability > 0);
+    let early = verdict(1) || verdict(4);
+    coverage.hits(PROFILES, &[calm && early, calm && back, false, false, false, false]);
 }
 
 fn note_field(coverage: &mut Coverage, replay: &Replay, whole: &Whole) {

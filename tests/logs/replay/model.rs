@@ -5,7 +5,7 @@ use crate::log::model::{lowest, Refusals};
 use crate::log::types::{Record, Settings, ARRIVAL, DEPARTURE};
 use crate::log::whole;
 use crate::memory::Plain;
-use crate::model::{self as queue, Arriving, State};
+use crate::model::{self as queue, Arriving, Asked, State};
 
 /// What a replay found, in the order of the C header.
 #[repr(C)]
@@ -45,6 +45,17 @@ fn refusal(mut applying: Refusals) -> u32 {
     }
 }
 
+/// The fresh call that settings stand for.
+pub fn asked(s: &Settings) -> Asked {
+    Asked {
+        target: s.target,
+        buffer: u64::from(s.buffer),
+        slots: u64::from(s.slots),
+        profile: u64::from(s.profile),
+        clock: s.clock,
+    }
+}
+
 /// The queue that the rules run on.
 pub struct Queue<'a> {
     pub state: State,
@@ -54,8 +65,7 @@ pub struct Queue<'a> {
 
 impl Queue<'_> {
     pub fn new<'a>(s: &Settings, handles: &'a mut [u32], sizes: &'a mut [u32]) -> Queue<'a> {
-        let (buffer, slots) = (u64::from(s.buffer), u64::from(s.slots));
-        let (_, state) = queue::fresh(s.target, buffer, slots, s.clock);
+        let (_, state) = queue::fresh(&asked(s));
         Queue { state, handles, sizes }
     }
 

@@ -2,7 +2,7 @@
 //! accepts the log, whatever the tables hold.
 
 use super::lender::Lender;
-use super::model::Replayed;
+use super::model::{asked, Replayed};
 use super::runs::{self, Run};
 use crate::failure::{expect, Failure};
 use crate::library::{self, Packet};
@@ -22,10 +22,9 @@ const BYTES: usize = 14;
 
 impl Queue {
     fn new(r: &mut Random, s: &Settings) -> Queue {
-        let mut state = library::Record([0; 21]);
-        let (buffer, slots) = (u64::from(s.buffer), u64::from(s.slots));
-        library::fresh(&mut state, s.target, buffer, slots, s.clock);
-        let mut table = || (0..slots).map(|_| r.number() as u32).collect();
+        let mut state = library::Record([0; library::WORDS]);
+        library::fresh(&mut state, &asked(s));
+        let mut table = || (0..s.slots).map(|_| r.number() as u32).collect();
         Queue { state, handles: table(), sizes: table() }
     }
 

@@ -9,6 +9,7 @@ use crate::coverage::Coverage;
 use crate::failure::{expect, same, same_content, Failure};
 use crate::log::lender::Lender as Writer;
 use crate::log::reader::text;
+use crate::log::types::Settings;
 use crate::log::{damage, makers, whole};
 use crate::shared::random::Random;
 
@@ -45,7 +46,7 @@ pub fn round(r: &mut Random, at_end: bool, coverage: &mut Coverage) -> Result<()
     player.tables(r)?;
     player.orders(r)?;
     player.damaged(r)?;
-    let kind = r.pick(&[9, 10, 12, 13]);
+    let kind = r.pick(&[9, 10, 12, 13, 16]);
     for run in [runs::run(r, kind, 100_000), runs::flood(r)] {
         player.large(r, run)?;
     }
@@ -86,6 +87,10 @@ impl Player<'_> {
         if self.replay(r, &log, (slots, slots))? != 0 {
             return Err(Failure("the log of a run is not accepted".to_string()));
         }
+        let other = Settings { profile: 1 - settings.profile, ..settings };
+        let log = makers::log(&other, &note, &records);
+        let answer = self.replay(r, &log, (slots, slots))?;
+        labels::note_other_profile(self.coverage, settings.profile, answer);
         for i in 0..if records.is_empty() { 0 } else { most } {
             let mut changed = records.clone();
             let last = records.len() as u64 - 1;

@@ -15,8 +15,9 @@ pub struct Run {
 pub const KINDS: u64 = plans::KINDS + 3;
 
 fn plan(r: &mut Random, kind: u64) -> Plan {
-    let mut plan = plans::plan(r, kind.min(plans::KINDS - 1));
-    match kind.saturating_sub(plans::KINDS - 1) {
+    let of_plans = kind < plans::KINDS;
+    let mut plan = plans::plan(r, if of_plans { kind } else { 13 });
+    match (kind + 1).saturating_sub(plans::KINDS) {
         1 => (plan.buffer, plan.traffic.sizes) = (1, (1, 2)),
         2 => (plan.clock, plan.traffic.ns_per_byte) = (CLOCK_MAX - 100_000, 300),
         3 => (plan.slots, plan.buffer) = (65_536, r.range(3_000, 100_000)),
@@ -33,7 +34,8 @@ pub fn run(r: &mut Random, kind: u64, calls: usize) -> Run {
         buffer: plan.buffer as u32,
         slots: plan.slots as u32,
         clock: plan.clock,
-        unused: [0; 8],
+        profile: plan.profile as u8,
+        unused: [0; 7],
     };
     let (mut handles, mut sizes) = (vec![0; plan.slots as usize], vec![0; plan.slots as usize]);
     let queue = Queue::new(&settings, &mut handles, &mut sizes);
@@ -60,7 +62,7 @@ pub fn run(r: &mut Random, kind: u64, calls: usize) -> Run {
 /// that the ring goes round.
 pub fn flood(r: &mut Random) -> Run {
     let (target, buffer, clock) = (15_000, 16_777_216, r.range(0, 1 << 40));
-    let settings = Settings { target, buffer, slots: 65_536, clock, unused: [0; 8] };
+    let settings = Settings { target, buffer, slots: 65_536, clock, ..Settings::default() };
     let (mut handles, mut sizes) = (vec![0; 65_536], vec![0; 65_536]);
     let mut queue = Queue::new(&settings, &mut handles, &mut sizes);
     let mut records = Vec::new();
