@@ -52,7 +52,7 @@ probability-held : (words : List ℕ) → (stateOf words) .pie .prob .0 ≡ prob
 unfolding stateOf
 probability-held w = refl
 
-c-recovers : (ticks : ℕ) (words : List ℕ) → RecoversAfter ticks (stateOf words) → CRecoversAfter ticks words
+pub c-recovers : (ticks : ℕ) (words : List ℕ) → RecoversAfter ticks (stateOf words) → CRecoversAfter ticks words
 c-recovers ticks w recovers calls before e later q =
     let n = countIn w in
     let known : RecoveredAfter ticks n (map entryOf before) (entryOf e) (map entryOf later)

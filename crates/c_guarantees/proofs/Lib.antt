@@ -7,5 +7,6 @@ pub mod RunsJoined
 pub mod CTraces
 pub mod CGrace
 pub mod CRecovery
+pub mod CRecoveryByTarget
 pub mod CFirstInFirstOut
 pub mod CConservation

@@ -3,6 +3,9 @@ use mathlib.Core.List.{List}
 use Prim.Native.Nat.{ℕ, _+_}
 use lib.ListN.{getD}
 
+abbrev pub targetIn : (words : List ℕ) → ℕ
+targetIn w = getD w 0 0
+
 abbrev pub bufferIn : (words : List ℕ) → ℕ
 bufferIn w = getD w 1 0
 

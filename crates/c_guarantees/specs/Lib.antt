@@ -5,6 +5,7 @@
 --   TracesJoined       each call given the words that the last one left: numbers, packets and words are those of the trace over states
 --   RunsJoined         with words and tables handed back from a fresh record: words, tables, numbers and packets are those of the run
 --   CRecovery          demand 3 and question 4, in words and numbers
+--   CRecoveryByTarget  the same by the target (Q-13)
 --   CGrace             question 2
 --   CFirstInFirstOut   demand 2 over lists of calls
 --   CConservation      question 3
@@ -16,5 +17,6 @@ pub mod TracesJoined
 pub mod RunsJoined
 pub mod CGrace
 pub mod CRecovery
+pub mod CRecoveryByTarget
 pub mod CFirstInFirstOut
 pub mod CConservation

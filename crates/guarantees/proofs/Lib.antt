@@ -6,6 +6,8 @@ pub mod RingSheds
 pub mod AllowanceLasts
 pub mod Grace
 pub mod Recovery
+pub mod RecoveryByTarget
+pub mod ShorterRecovery
 pub mod Moves
 pub mod Answers
 pub mod NeverRefused

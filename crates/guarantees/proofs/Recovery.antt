@@ -4,10 +4,10 @@ use mathlib.Core.Bool.{true}
 use mathlib.Core.List.{List, [], _∷_, _++_, foldl}
 use Prim.Native.Nat.{ℕ, _≤_}
 use native.Mathlib.Omega.{arith}
-use Rattle.pie.specs.Update.{divisorOf, lookup}
-use Rattle.pie.proofs.IdleStep.{fall}
+use Rattle.pie.specs.Update.{capped, decayed, divisorOf, errorOf, limited, lookup, nextProb, stepOf}
 use Rattle.pie_guarantees.specs.Recovery as general
-use Rattle.pie_guarantees.proofs.Bound.{bound, floor, worst}
+use Rattle.pie_guarantees.specs.TicksToRecover.{mostLeft, rowBefore}
+use Rattle.pie_guarantees.proofs.Bound.{bound}
 use Rattle.pie_guarantees.proofs.Recovery as proved
 use Rattle.queue.specs.Answer.{Answer, departed, made, refused, ticked, verdict}
 use Rattle.queue.specs.State.{wellFormed}
@@ -68,5 +68,5 @@ recovers-after ticks least reached start w h calls before e later q =
     (proved.recovers-after ringShedding ring-sheds ticks least reached start w h calls before e later q)
 
 pub recovery : Recovery
-unfolding bound divisorOf fall floor lookup worst
+unfolding bound capped decayed divisorOf errorOf limited lookup mostLeft nextProb rowBefore stepOf
 recovery start w = recovers-after _ 1000 refl start w (facts start w .target-low)

@@ -8,6 +8,8 @@
 --   question 2   Grace             so a full one lasts 150 ms: after a tick that fills it, and after fresh
 --   question 3   Conservation      queued bytes = bytes admitted − bytes departed; refusals 2 and 9 are never given
 --   question 4   Recovery          how long the queue goes on dropping once a crowd has left
+--   Q-13         RecoveryByTarget  as many ticks suffice as `ticksToRecover` says of the target
+--   Q-13         ShorterRecovery   300 suffice at a target of 15,000 or more
 --   Q-3          Spacing           early verdicts stand at least 0.85 and less than 8.5 of added probability apart
 --   Q-6          MeasuredWhileQueued   wherever a measurement runs, a packet is queued
 --   Q-6          NeverGivenUp      from fresh, a measurement ends before the queue empties, or as it does
@@ -24,6 +26,8 @@ pub mod WhichVerdict
 pub mod AllowanceLasts
 pub mod Grace
 pub mod Recovery
+pub mod RecoveryByTarget
+pub mod ShorterRecovery
 pub mod FirstInFirstOut
 pub mod Conservation
 pub mod MeasuredWhileQueued

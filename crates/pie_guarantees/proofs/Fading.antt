@@ -6,12 +6,12 @@ use native.Mathlib.Nat.{zero-mul}
 use native.Mathlib.Omega.{arith}
 use Rattle.units.specs.Kinds.{whole}
 use Rattle.pie.specs.Start.{restarted}
-use Rattle.pie.specs.Update.{delayOf, divisorOf, lookup, nextProb, updated}
+use Rattle.pie.specs.Update.{capped, decayed, delayOf, divisorOf, errorOf, limited, lookup, nextProb, stepOf, updated}
 use Rattle.pie.specs.declared.Pie.{Pie}
 use Rattle.pie.proofs.Ranges.{next-prob-le}
 use Rattle.pie_guarantees.specs.Fading.{Fading, FadesWithin, times}
-use Rattle.pie_guarantees.proofs.Bound.{bound, bound-next, bound-stays, floor, worst}
-use Rattle.pie.proofs.IdleStep.{fall}
+use Rattle.pie_guarantees.specs.TicksToRecover.{mostLeft, rowBefore}
+use Rattle.pie_guarantees.proofs.Bound.{bound, bound-next, bound-stays}
 
 -- after n ticks in succession that each found the queue empty
 pub record Within (least n : ℕ) (pie : Pie) : Type 0 where
@@ -74,5 +74,5 @@ fades-within ticks least e pie calm target h l =
     faded least ticks ticks (times ticks (λ q. updated q calm target 0) pie) e (omega arith) (all-within calm least target ticks pie l h)
 
 pub fading : Fading
-unfolding bound divisorOf fall floor lookup worst
+unfolding bound capped decayed divisorOf errorOf limited lookup mostLeft nextProb rowBefore stepOf
 fading = fades-within _ _ refl

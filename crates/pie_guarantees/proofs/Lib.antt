@@ -7,6 +7,9 @@ pub mod Bound
 pub mod Fading
 pub mod Tallies
 pub mod Recovery
+pub mod TicksToRecover
+pub mod RecoveryByTarget
+pub mod ShorterRecovery
 pub mod Spacing
 pub mod MeasuredWhileQueued
 pub mod NeverGivenUp

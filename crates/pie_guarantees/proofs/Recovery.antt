@@ -7,16 +7,16 @@ use native.Mathlib.Omega.{arith}
 use borrow.Author.Tests.{lt-ltb}
 use Rattle.units.specs.Kinds.{none}
 use Rattle.pie.specs.Constants.{fullAllowance}
-use Rattle.pie.specs.Update.{divisorOf, lookup, nextAllowance, updated}
+use Rattle.pie.specs.Update.{capped, decayed, divisorOf, errorOf, limited, lookup, nextAllowance, nextProb, stepOf, updated}
 use Rattle.pie.specs.declared.Pie.{Pie}
-use Rattle.pie.proofs.IdleStep.{fall}
 use Rattle.calls.specs.Traces.{Entry, entry}
 use Rattle.calls.proofs.Traces.{cut}
 use Rattle.pie_guarantees.specs.Recovery.{Recovery, RecoversAfter, Tally, noted, nothingYet, tally}
 use Rattle.pie_guarantees.specs.Shedding.{Shedding, Sheds, Ticked, ticked}
+use Rattle.pie_guarantees.specs.TicksToRecover.{mostLeft, rowBefore}
 use Rattle.pie_guarantees.proofs.AllowanceLasts.{allowed, allowed-low, inactive-allowed, ticked-by-limits}
 use Rattle.pie_guarantees.proofs.AtTold.{active-ticked, at-told, inactive-ticked}
-use Rattle.pie_guarantees.proofs.Bound.{bound, floor, worst}
+use Rattle.pie_guarantees.proofs.Bound.{bound}
 use Rattle.pie_guarantees.proofs.Fading.{faded, no-delay, two-or-more}
 use Rattle.pie_guarantees.proofs.Tallies.{Tallied, at-start, counted-empty, next-tallied, ticked-within}
 
@@ -96,5 +96,5 @@ recovers-after k sheds ticks least reached start f h calls before e later q =
     }
 
 pub recovery : Recovery
-unfolding bound divisorOf fall floor lookup worst
+unfolding bound capped decayed divisorOf errorOf limited lookup mostLeft nextProb rowBefore stepOf
 recovery k sheds start f h = recovers-after k sheds _ 1000 refl start f h

@@ -5,6 +5,9 @@
 --   AllowanceLasts        an allowance lasts its tick periods, rounded up, from the last tick on, whatever ticks are tried
 --   Fading                ticks on an empty queue bring the probability to 0
 --   Recovery              1,000 ticks on an empty queue: probability 0, and 150 ms with no early verdict
+--   TicksToRecover        how many ticks on an empty queue suffice at a given target: a number that computes
+--   RecoveryByTarget      that many suffice, at every target in range
+--   ShorterRecovery       300 suffice at a target of 15,000 or more
 --   Spacing               early verdicts stand at least 0.85 and less than 8.5 of added probability apart
 --   MeasuredWhileQueued   wherever a measurement runs, a packet is queued
 --   NeverGivenUp          a measurement that starts ends before the queue empties, or as it does
@@ -12,6 +15,9 @@ pub mod Shedding
 pub mod AllowanceLasts
 pub mod Fading
 pub mod Recovery
+pub mod TicksToRecover
+pub mod RecoveryByTarget
+pub mod ShorterRecovery
 pub mod Spacing
 pub mod MeasuredWhileQueued
 pub mod NeverGivenUp
