@@ -4,6 +4,7 @@
  */
 #include "shared/call_text.h"
 #include "shared/log_file.h"
+#include "shared/progress.h"
 #include "shared/say.h"
 
 #include <inttypes.h>
@@ -72,6 +73,7 @@ static int replay(void)
 
     if (!obikuteru_refused(answer))
         answer = obikuteru_replay(file.bytes, file.length, handles, settings.slots, sizes, settings.slots, &found);
+    clear_progress();
     if (obikuteru_refused(answer)) {
         begin_line("refused");
         printf("%" PRIu32 "\n", answer - 100);
@@ -94,8 +96,10 @@ int main(int argc, char **argv)
         int status = FAILED;
 
         name = argc > 2 ? argv[i] : NULL;
-        if (read_log(argv[i], &file))
+        if (read_log(argv[i], &file)) {
+            show_progress("replay: log", i, argc - 1);
             status = replay();
+        }
         greatest = status > greatest ? status : greatest;
     }
     return finish(greatest);

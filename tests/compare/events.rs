@@ -347,8 +347,8 @@ fn wrong_head(before: &Side, singles: &mut Found) {
     singles.push((size == 0, 2));
     singles.push((size > 65_535, 3));
     singles.push((plain && left.is_none(), 4));
-    singles.push((plain && left.is_some_and(|bytes| bytes < count), 5));
-    singles.push((plain && left.is_some_and(|bytes| bytes > 65_535 * count), 6));
+    singles.push((plain && left.map_or(false, |bytes| bytes < count), 5));
+    singles.push((plain && left.map_or(false, |bytes| bytes > 65_535 * count), 6));
 }
 
 fn tick(before: &State, after: &State, events: &mut Found) {

@@ -3,15 +3,29 @@
 use super::random::Random;
 use std::time::{Duration, Instant, SystemTime, UNIX_EPOCH};
 
+extern "C" {
+    fn isatty(descriptor: i32) -> i32;
+}
+
+/// On a terminal, how far a soak is.
+fn tell(begin: Instant, seconds: u64) {
+    // Safety: it reads nothing but what stands behind the descriptor of standard error.
+    if unsafe { isatty(2) } != 0 {
+        eprintln!("{} of {seconds} seconds", begin.elapsed().as_secs());
+    }
+}
+
 /// Whole rounds, each on a new seed, until the time is over.
 pub fn soak(seconds: u64, mut round: impl FnMut(u64)) {
-    let end = Instant::now() + Duration::from_secs(seconds);
+    let begin = Instant::now();
+    let end = begin + Duration::from_secs(seconds);
     let now = SystemTime::now().duration_since(UNIX_EPOCH).unwrap_or_default();
     let mut seeds = Random::new(now.as_nanos() as u64);
     while Instant::now() < end {
         let seed = seeds.number() >> 16;
         println!("seed {seed}");
         round(seed);
+        tell(begin, seconds);
     }
 }
 

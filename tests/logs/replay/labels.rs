@@ -145,7 +145,7 @@ pub fn note(coverage: &mut Coverage, replay: &Replay) {
 fn note_order(coverage: &mut Coverage, replay: &Replay) {
     let applying = model::refusals(replay.log, replay.tables.0, replay.tables.1);
     let answer = replay.answer;
-    let empty = whole::read(replay.log).is_ok_and(|whole| whole.records.is_empty());
+    let empty = whole::read(replay.log).map_or(false, |whole| whole.records.is_empty());
     coverage.hits(
         ORDERS,
         &[

@@ -38,10 +38,10 @@ pub fn wrong_head(before: &Side) -> Found {
         ("head of size 65,536", size == 65_536),
         ("head above 65,536", size > 65_536),
         ("bytes would be below 0", plain && left.is_none()),
-        ("bytes would be below count", plain && left.is_some_and(|bytes| bytes < count)),
+        ("bytes would be below count", plain && left.map_or(false, |bytes| bytes < count)),
         (
             "bytes would be above 65,535 x count",
-            plain && left.is_some_and(|bytes| bytes > 65_535 * count),
+            plain && left.map_or(false, |bytes| bytes > 65_535 * count),
         ),
     ]
 }

@@ -21,7 +21,7 @@ const SLOTS: u64 = 256;
 const FLOW: u32 = 9;
 
 /// Runs single calls and checks what the page says of them.
-struct Worked<'a> {
+pub struct Worked<'a> {
     lender: &'a mut dyn Lender,
     /// The number on the page.
     name: &'static str,

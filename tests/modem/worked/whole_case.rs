@@ -67,7 +67,7 @@ pub fn run(worked: &mut Worked) -> Result<(), Failure> {
             pair.call(&call)?;
             let found = &pair.library;
             let same = found.answer == answer && found.packet == packet;
-            if !same || after.is_some_and(|after| after != seen(&found.state)) {
+            if !same || after.map_or(false, |after| after != seen(&found.state)) {
                 let text = crate::report::call_text(&call);
                 let state = seen(&found.state);
                 return Err(Failure::Broken(format!("the whole case: {text}: {state:?}")));
