@@ -1,0 +1,1 @@
+-- Laws about the store's definitions.
