@@ -59,3 +59,5 @@ pub struct Departed {
     pub size: u32,
     pub state: State,
 }
+
+pub use well_formed::measurement_fits;

@@ -35,7 +35,7 @@ impl Settings {
 }
 
 // The measurement: start and counted bytes are 0 if none runs, and none runs on an empty queue.
-fn measurement_fits(rate: Rate, clock: Micros, count: u64) -> bool
+pub fn measurement_fits(rate: Rate, clock: Micros, count: u64) -> bool
     ensures { λ r. ⌜ r ≡ (leb (rate .start .0) (clock .0) && ltb (rate .counted .0) threshold
         && (rate .measuring || eqb (rate .start .0) 0) && (rate .measuring || eqb (rate .counted .0) 0)
         && not (rate .measuring && eqb count 0)) ⌝ }
