@@ -22,7 +22,7 @@ use Rattle.guarantees.specs.Conservation.{isVerdict}
 use Rattle.guarantees.proofs.Replies.{at-reply}
 
 -- the counts after this answer
-abbrev countedBy : Answer → List ℕ → List ℕ
+abbrev pub countedBy : Answer → List ℕ → List ℕ
 countedBy (refused number) counts = counts
 countedBy made counts = counts
 countedBy (verdict v) counts = raised counts v
@@ -51,7 +51,7 @@ raised-at counts v w five = go (eqb (placeOf v) (placeOf w)) refl
     go false e =
         getD-set-other counts (placeOf w) (placeOf v) (getD counts (placeOf w) 0 + 1) 0 (eqb-false (placeOf v) (placeOf w) e) ∙ omega arith
 
-counted-at : (counts : List ℕ) (a : Answer) (v : Verdict) → length counts ≡ 5 →
+pub counted-at : (counts : List ℕ) (a : Answer) (v : Verdict) → length counts ≡ 5 →
     getD (countedBy a counts) (placeOf v) 0 ≡ getD counts (placeOf v) 0 + cond (isVerdict v a) 1 0
 counted-at counts (refused number) v five = omega arith
 counted-at counts made v five = omega arith
@@ -59,7 +59,7 @@ counted-at counts (verdict w) v five = raised-at counts v w five
 counted-at counts (departed handle size) v five = omega arith
 counted-at counts ticked v five = omega arith
 
-length-counted : (counts : List ℕ) (a : Answer) → length (countedBy a counts) ≡ length counts
+pub length-counted : (counts : List ℕ) (a : Answer) → length (countedBy a counts) ≡ length counts
 length-counted counts (refused number) = refl
 length-counted counts made = refl
 length-counted counts (verdict v) = length-raised counts v
