@@ -38,11 +38,11 @@ fn configure(reader: Reader) -> Command
     if reader.count != 2 {
         return Command::Bad;
     }
-    let fits = (reader.fourth <= WORD) & (reader.fifth <= WORD) & (reader.value <= 4096);
+    let fits = (reader.fifth <= WORD) & (reader.sixth <= WORD) & (reader.value <= 4096);
     if fits {
         return Command::Configure {
-            target: reader.fourth as u32,
-            buffer: reader.fifth as u32,
+            target: reader.fifth as u32,
+            buffer: reader.sixth as u32,
             slots: reader.value as u32,
         };
     }
@@ -56,16 +56,16 @@ fn arrival(reader: Reader) -> Command
     if reader.count != 4 {
         return Command::Bad;
     }
-    let fits = (reader.third <= WORD)
-        & (reader.fourth <= WORD)
-        & (reader.fifth <= 1)
+    let fits = (reader.fourth <= WORD)
+        & (reader.fifth <= WORD)
+        & (reader.sixth <= 1)
         & (reader.value <= WORD);
     if fits {
         return Command::Arrival {
-            clock: reader.second,
-            handle: reader.third as u32,
-            size: reader.fourth as u32,
-            ecn: reader.fifth == 1,
+            clock: reader.third,
+            handle: reader.fourth as u32,
+            size: reader.fifth as u32,
+            ecn: reader.sixth == 1,
             u: reader.value as u32,
         };
     }

@@ -17,15 +17,15 @@ Touched r = isEmpty (r .phase) ≡ false
 
 in-phase : (p : Phase) (r : Reader) (byte : ℕ) → r .phase ≡ p → Touched (inPhase p r byte)
 unfolding afterDigits afterGap afterLetter afterStart
-in-phase Start r byte e = either Touched (eqb byte 32) (spoiled r) (reader Letter byte 0 0 0 0 0 0 0) refl refl
+in-phase Start r byte e = either Touched (eqb byte 32) (spoiled r) (reader Letter byte 0 0 0 0 0 0 0 0) refl refl
 in-phase Letter r byte e = either Touched (eqb byte 32) (moved r Gap (r .value)) (spoiled r) refl refl
 in-phase Gap r byte e = either Touched (isDigit byte) (moved r Digits (extended 0 byte)) (spoiled r) refl refl
 in-phase Digits r byte e =
     let number = extended (r .value) byte in
-    let next = reader Gap (r .letter) (r .count + 1) 0 (r .second) (r .third) (r .fourth) (r .fifth) (r .value) in
+    let next = reader Gap (r .letter) (r .count + 1) 0 (r .second) (r .third) (r .fourth) (r .fifth) (r .sixth) (r .value) in
     either Touched (isDigit byte) (digitRead r number) (cond (eqb byte 32) (fieldRead r) (spoiled r))
     (either Touched (leb number doubleWord) (moved r Digits number) (spoiled r) refl refl)
-    (either Touched (eqb byte 32) (fieldRead r) (spoiled r) (either Touched (ltb (r .count) 5) next (spoiled r) refl refl) refl)
+    (either Touched (eqb byte 32) (fieldRead r) (spoiled r) (either Touched (ltb (r .count) 6) next (spoiled r) refl refl) refl)
 in-phase Spoiled r byte e = ap isEmpty e
 
 touches : (r : Reader) (byte : ℕ) → Touched (pushed r byte)

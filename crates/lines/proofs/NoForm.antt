@@ -17,7 +17,7 @@ both-same t x y a p q = either (λ c. c ≡ a) t x y p q
 -- what a kind of queue makes no command of
 pub record Rejects {Command : Type 0} (bad : Command) (make : ℕ → List ℕ → Command) : Type 0 where
   pub few : (letter : ℕ) → make letter [] ≡ bad
-  pub many : (letter : ℕ) (numbers : List ℕ) → 6 < length numbers → make letter numbers ≡ bad
+  pub many : (letter : ℕ) (numbers : List ℕ) → 7 < length numbers → make letter numbers ≡ bad
   pub large : (letter : ℕ) (before after : List ℕ) (n : ℕ) → doubleWord < n → make letter (before ++ (n ∷ after)) ≡ bad
 
 -- ── the rows of a table ──
@@ -35,17 +35,17 @@ bounded (m ∷ most) e =
 
 record Row (most : List ℕ) : Type 0 where
   some : 1 ≤ length most
-  few : length most ≤ 6
+  few : length most ≤ 7
   within : Bounded most
 
 row : (most : List ℕ) → readableFields most ≡ true → Row most
 row most e =
     let some = leb 1 (length most) in
-    let few = leb (length most) 6 in
+    let few = leb (length most) 7 in
     let both = and-left (some && few) (withinDoubleWords most) e in
     record {
       some = leb-true 1 (length most) (and-left some few both);
-      few = leb-true (length most) 6 (and-right some few both);
+      few = leb-true (length most) 7 (and-right some few both);
       within = bounded most (and-right (some && few) (withinDoubleWords most) e);
     }
 

@@ -36,14 +36,14 @@ formed bad (form ∷ rest) letter numbers =
     cond (eqb letter (form .letter)) (cond (fits (form .most) numbers) (form .make numbers) bad)
     (formed bad rest letter numbers)
 
--- ── tables that the reader serves: each form has one to six fields, of 64 bits at most ──
+-- ── tables that the reader serves: each form has one to seven fields, of 64 bits at most ──
 
 abbrev pub withinDoubleWords : (most : List ℕ) → Bool
 withinDoubleWords [] = true
 withinDoubleWords (m ∷ most) = leb m doubleWord && withinDoubleWords most
 
 abbrev pub readableFields : (most : List ℕ) → Bool
-readableFields most = leb 1 (length most) && leb (length most) 6 && withinDoubleWords most
+readableFields most = leb 1 (length most) && leb (length most) 7 && withinDoubleWords most
 
 abbrev pub readable : {Command : Type 0} → List (Form Command) → Bool
 readable [] = true

@@ -11,8 +11,8 @@ use Rattle.lines.specs.declared.Phase.{Phase}
 use Rattle.lines.specs.declared.Phase.the-variants.{Start, Letter, Gap, Digits, Spoiled}
 use Rattle.lines.specs.declared.Reader.{Reader}
 
-abbrev pub reader : Phase → (letter count value first second third fourth fifth : ℕ) → Reader
-reader phase letter count value first second third fourth fifth =
+abbrev pub reader : Phase → (letter count value first second third fourth fifth sixth : ℕ) → Reader
+reader phase letter count value first second third fourth fifth sixth =
     record {
       phase = phase;
       letter = letter;
@@ -23,15 +23,17 @@ reader phase letter count value first second third fourth fifth =
       third = third;
       fourth = fourth;
       fifth = fifth;
+      sixth = sixth;
     }
 
 -- nothing is read
 abbrev pub begun : Reader
-begun = reader Start 0 0 0 0 0 0 0 0
+begun = reader Start 0 0 0 0 0 0 0 0 0
 
 -- in another phase, with another value
 abbrev pub moved : Reader → Phase → (value : ℕ) → Reader
-moved r phase value = reader phase (r .letter) (r .count) value (r .first) (r .second) (r .third) (r .fourth) (r .fifth)
+moved r phase value =
+    reader phase (r .letter) (r .count) value (r .first) (r .second) (r .third) (r .fourth) (r .fifth) (r .sixth)
 
 -- no command begins like this
 abbrev pub spoiled : Reader → Reader
@@ -39,7 +41,7 @@ spoiled r = moved r Spoiled (r .value)
 
 -- the letter
 unfoldable pub afterStart : Reader → (byte : ℕ) → Reader
-afterStart r byte = cond (eqb byte 32) (spoiled r) (reader Letter byte 0 0 0 0 0 0 0)
+afterStart r byte = cond (eqb byte 32) (spoiled r) (reader Letter byte 0 0 0 0 0 0 0 0)
 
 -- the space behind the letter
 unfoldable pub afterLetter : Reader → (byte : ℕ) → Reader
@@ -53,11 +55,11 @@ afterGap r byte = cond (isDigit byte) (moved r Digits (extended 0 byte)) (spoile
 abbrev pub digitRead : Reader → (number : ℕ) → Reader
 digitRead r number = cond (leb number doubleWord) (moved r Digits number) (spoiled r)
 
--- the space behind a field, unless it is the sixth
+-- the space behind a field, unless it is the seventh
 abbrev pub fieldRead : Reader → Reader
 fieldRead r =
-    cond (ltb (r .count) 5)
-    (reader Gap (r .letter) (r .count + 1) 0 (r .second) (r .third) (r .fourth) (r .fifth) (r .value))
+    cond (ltb (r .count) 6)
+    (reader Gap (r .letter) (r .count + 1) 0 (r .second) (r .third) (r .fourth) (r .fifth) (r .sixth) (r .value))
     (spoiled r)
 
 unfoldable pub afterDigits : Reader → (byte : ℕ) → Reader
@@ -83,9 +85,9 @@ isEmpty Gap = false
 isEmpty Digits = false
 isEmpty Spoiled = false
 
--- the fields before the value, of which it keeps the last five, and the value
+-- the fields before the value, of which it keeps the last six, and the value
 abbrev pub numbersIn : Reader → List ℕ
-numbersIn r = drop (5 - r .count) (r .first ∷ r .second ∷ r .third ∷ r .fourth ∷ r .fifth ∷ r .value ∷ [])
+numbersIn r = drop (6 - r .count) (r .first ∷ r .second ∷ r .third ∷ r .fourth ∷ r .fifth ∷ r .sixth ∷ r .value ∷ [])
 
 abbrev pub commandIn : {Command : Type 0} → (bad : Command) (make : ℕ → List ℕ → Command) → Phase → Reader → Command
 commandIn bad make Start r = bad

@@ -1,4 +1,4 @@
-// A line of a script, read byte by byte: a letter and up to six numbers.
+// A line of a script, read byte by byte: a letter and up to seven numbers.
 mod push;
 mod scanning;
 
@@ -20,13 +20,14 @@ pub enum Phase {
 pub struct Reader {
     pub phase: Phase,
     pub letter: u8,
-    // The fields before the one that is read, and the last five of them.
+    // The fields before the one that is read, and the last six of them.
     pub count: u64,
     pub first: u64,
     pub second: u64,
     pub third: u64,
     pub fourth: u64,
     pub fifth: u64,
+    pub sixth: u64,
     // The field that is read.
     pub value: u64,
 }

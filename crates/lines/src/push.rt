@@ -20,6 +20,7 @@ impl Reader {
             third: 0,
             fourth: 0,
             fifth: 0,
+            sixth: 0,
             value: 0,
         }
     }
@@ -49,6 +50,7 @@ impl Reader {
             third: 0,
             fourth: 0,
             fifth: 0,
+            sixth: 0,
             value: 0,
         }
     }
@@ -98,11 +100,11 @@ impl Reader {
         self.spoil()
     }
 
-    // The field is whole, and another one follows: six are the most.
+    // The field is whole, and another one follows: seven are the most.
     fn field(self) -> Reader
         ensures { λ r. ⌜ r ≡ fieldRead self ⌝ }
     {
-        let another = self.count < 5;
+        let another = self.count < 6;
         if another {
             return Reader {
                 phase: Phase::Gap, // another field follows
@@ -112,7 +114,8 @@ impl Reader {
                 second: self.third,
                 third: self.fourth,
                 fourth: self.fifth,
-                fifth: self.value,
+                fifth: self.sixth,
+                sixth: self.value,
                 value: 0,
             };
         }

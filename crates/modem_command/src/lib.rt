@@ -41,22 +41,22 @@ const WORD: u64 = 4_294_967_295;
 fn configure(reader: Reader) -> Command
     ensures { λ r. ⌜ r ≡ commandOf 99 (numbersIn reader) ⌝ }
 {
-    if reader.count < 5 {
+    if reader.count != 5 {
         return Command::Bad;
     }
-    let fits = (reader.first <= WORD)
-        & (reader.second <= WORD)
+    let fits = (reader.second <= WORD)
         & (reader.third <= WORD)
-        & (reader.fourth <= 4096)
-        & (reader.fifth <= WORD)
+        & (reader.fourth <= WORD)
+        & (reader.fifth <= 4096)
+        & (reader.sixth <= WORD)
         & (reader.value <= WORD);
     if fits {
         return Command::Configure {
-            flow: reader.first as u32,
-            target: reader.second as u32,
-            buffer: reader.third as u32,
-            slots: reader.fourth as u32,
-            peak: reader.fifth as u32,
+            flow: reader.second as u32,
+            target: reader.third as u32,
+            buffer: reader.fourth as u32,
+            slots: reader.fifth as u32,
+            peak: reader.sixth as u32,
             sustained: reader.value as u32,
         };
     }
@@ -70,16 +70,16 @@ fn arrival(reader: Reader) -> Command
     if reader.count != 4 {
         return Command::Bad;
     }
-    let fits = (reader.second <= WORD)
-        & (reader.fourth <= WORD)
+    let fits = (reader.third <= WORD)
         & (reader.fifth <= WORD)
+        & (reader.sixth <= WORD)
         & (reader.value <= WORD);
     if fits {
         return Command::Arrival {
-            flow: reader.second as u32,
-            clock: reader.third,
-            handle: reader.fourth as u32,
-            size: reader.fifth as u32,
+            flow: reader.third as u32,
+            clock: reader.fourth,
+            handle: reader.fifth as u32,
+            size: reader.sixth as u32,
             u: reader.value as u32,
         };
     }
@@ -93,10 +93,10 @@ fn departure(reader: Reader) -> Command
     if reader.count != 1 {
         return Command::Bad;
     }
-    let fits = reader.fifth <= WORD;
+    let fits = reader.sixth <= WORD;
     if fits {
         return Command::Departure {
-            flow: reader.fifth as u32,
+            flow: reader.sixth as u32,
             clock: reader.value,
         };
     }
@@ -110,11 +110,11 @@ fn tick(reader: Reader) -> Command
     if reader.count != 2 {
         return Command::Bad;
     }
-    let fits = (reader.fourth <= WORD) & (reader.value <= WORD);
+    let fits = (reader.fifth <= WORD) & (reader.value <= WORD);
     if fits {
         return Command::Tick {
-            flow: reader.fourth as u32,
-            clock: reader.fifth,
+            flow: reader.fifth as u32,
+            clock: reader.sixth,
             credits: reader.value as u32,
         };
     }

@@ -24,13 +24,13 @@ returns-2 : tie.Need-returns-2
 unfolding commandOf
 returns-2 c =
     let k = c .before .before .before .before .before .before .before .before .before in
-    rw (k .if1 .left, le-leb (k .before .before .args .reader .second) 18446744073709551615 (omega arith), c .before .before .before .before .if2 .taken)
+    rw (k .if1 .left, le-leb (k .before .before .args .reader .third) 18446744073709551615 (omega arith), c .before .before .before .before .if2 .taken)
 
 returns-3 : tie.Need-returns-3
 unfolding commandOf
 returns-3 c =
     let k = c .before .before .before .before .before in
-    rw (k .if1 .left, le-leb (k .before .before .args .reader .second) 18446744073709551615 (omega arith), c .if2 .left)
+    rw (k .if1 .left, le-leb (k .before .before .args .reader .third) 18446744073709551615 (omega arith), c .if2 .left)
 
 pub arrival-spec : {M : Type 1} → statement M
 arrival-spec = tie.close (tie.spec returns cast-t9 cast-t10 cast-t12 returns-2 returns-3)

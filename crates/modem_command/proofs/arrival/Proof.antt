@@ -17,39 +17,39 @@ cast-t9 : tie.Need-cast-t9
 cast-t9 c =
     let k = c .before in
     let r = k .before .before .before .before .before .before .before .args .reader in
-    omega (arith, four-fit (r .second) (r .fourth) (r .fifth) (r .value) 4294967295 4294967295 4294967295 4294967295 (k .if2 .taken) .0)
+    omega (arith, four-fit (r .third) (r .fifth) (r .sixth) (r .value) 4294967295 4294967295 4294967295 4294967295 (k .if2 .taken) .0)
 
 cast-t10 : tie.Need-cast-t10
 cast-t10 c =
     let k = c .before .before in
     let r = k .before .before .before .before .before .before .before .args .reader in
-    omega (arith, four-fit (r .second) (r .fourth) (r .fifth) (r .value) 4294967295 4294967295 4294967295 4294967295 (k .if2 .taken) .1)
+    omega (arith, four-fit (r .third) (r .fifth) (r .sixth) (r .value) 4294967295 4294967295 4294967295 4294967295 (k .if2 .taken) .1)
 
 cast-t11 : tie.Need-cast-t11
 cast-t11 c =
     let k = c .before .before .before in
     let r = k .before .before .before .before .before .before .before .args .reader in
-    omega (arith, four-fit (r .second) (r .fourth) (r .fifth) (r .value) 4294967295 4294967295 4294967295 4294967295 (k .if2 .taken) .2)
+    omega (arith, four-fit (r .third) (r .fifth) (r .sixth) (r .value) 4294967295 4294967295 4294967295 4294967295 (k .if2 .taken) .2)
 
 cast-t12 : tie.Need-cast-t12
 cast-t12 c =
     let k = c .before .before .before .before in
     let r = k .before .before .before .before .before .before .before .args .reader in
-    omega (arith, four-fit (r .second) (r .fourth) (r .fifth) (r .value) 4294967295 4294967295 4294967295 4294967295 (k .if2 .taken) .3)
+    omega (arith, four-fit (r .third) (r .fifth) (r .sixth) (r .value) 4294967295 4294967295 4294967295 4294967295 (k .if2 .taken) .3)
 
 returns-2 : tie.Need-returns-2
 unfolding commandOf
 returns-2 c =
     let i = c .before .before .before .before .before .before .before .before .before in
     let r = i .before .before .args .reader in
-    rw (i .if1 .left, le-leb (r .third) 18446744073709551615 (omega arith), and-true (leb (r .second) 4294967295), c .before .before .before .before .if2 .taken)
+    rw (i .if1 .left, le-leb (r .fourth) 18446744073709551615 (omega arith), and-true (leb (r .third) 4294967295), c .before .before .before .before .if2 .taken)
 
 returns-3 : tie.Need-returns-3
 unfolding commandOf
 returns-3 c =
     let i = c .before .before .before .before .before in
     let r = i .before .before .args .reader in
-    rw (i .if1 .left, le-leb (r .third) 18446744073709551615 (omega arith), and-true (leb (r .second) 4294967295), c .if2 .left)
+    rw (i .if1 .left, le-leb (r .fourth) 18446744073709551615 (omega arith), and-true (leb (r .third) 4294967295), c .if2 .left)
 
 pub arrival-spec : {M : Type 1} → statement M
 arrival-spec = tie.close (tie.spec returns cast-t9 cast-t10 cast-t11 cast-t12 returns-2 returns-3)

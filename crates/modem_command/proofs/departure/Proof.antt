@@ -16,21 +16,21 @@ cast-t4 : tie.Need-cast-t4
 cast-t4 c =
     let k = c .before in
     let r = k .before .before .before .before .args .reader in
-    omega (arith, leb-true (r .fifth) 4294967295 (k .if2 .taken))
+    omega (arith, leb-true (r .sixth) 4294967295 (k .if2 .taken))
 
 returns-2 : tie.Need-returns-2
 unfolding commandOf
 returns-2 c =
     let i = c .before .before .before in
     let r = i .before .before .args .reader in
-    rw (i .if1 .left, le-leb (r .value) 18446744073709551615 (omega arith), and-true (leb (r .fifth) 4294967295), c .before .if2 .taken)
+    rw (i .if1 .left, le-leb (r .value) 18446744073709551615 (omega (arith, i .before .before .good)), and-true (leb (r .sixth) 4294967295), c .before .if2 .taken)
 
 returns-3 : tie.Need-returns-3
 unfolding commandOf
 returns-3 c =
     let i = c .before .before in
     let r = i .before .before .args .reader in
-    rw (i .if1 .left, le-leb (r .value) 18446744073709551615 (omega arith), and-true (leb (r .fifth) 4294967295), c .if2 .left)
+    rw (i .if1 .left, le-leb (r .value) 18446744073709551615 (omega arith), and-true (leb (r .sixth) 4294967295), c .if2 .left)
 
 pub departure-spec : {M : Type 1} → statement M
 departure-spec = tie.close (tie.spec returns cast-t4 returns-2 returns-3)

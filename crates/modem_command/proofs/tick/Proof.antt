@@ -17,27 +17,27 @@ cast-t5 : tie.Need-cast-t5
 cast-t5 c =
     let k = c .before in
     let r = k .before .before .before .before .before .args .reader in
-    omega (arith, two-fit (r .fourth) (r .value) 4294967295 4294967295 (k .if2 .taken) .0)
+    omega (arith, two-fit (r .fifth) (r .value) 4294967295 4294967295 (k .if2 .taken) .0)
 
 cast-t6 : tie.Need-cast-t6
 cast-t6 c =
     let k = c .before .before in
     let r = k .before .before .before .before .before .args .reader in
-    omega (arith, two-fit (r .fourth) (r .value) 4294967295 4294967295 (k .if2 .taken) .1)
+    omega (arith, two-fit (r .fifth) (r .value) 4294967295 4294967295 (k .if2 .taken) .1)
 
 returns-2 : tie.Need-returns-2
 unfolding commandOf
 returns-2 c =
     let i = c .before .before .before .before .before in
     let r = i .before .before .args .reader in
-    rw (i .if1 .left, le-leb (r .fifth) 18446744073709551615 (omega arith), and-true (leb (r .fourth) 4294967295), c .before .before .if2 .taken)
+    rw (i .if1 .left, le-leb (r .sixth) 18446744073709551615 (omega (arith, i .before .before .good)), and-true (leb (r .fifth) 4294967295), c .before .before .if2 .taken)
 
 returns-3 : tie.Need-returns-3
 unfolding commandOf
 returns-3 c =
     let i = c .before .before .before in
     let r = i .before .before .args .reader in
-    rw (i .if1 .left, le-leb (r .fifth) 18446744073709551615 (omega arith), and-true (leb (r .fourth) 4294967295), c .if2 .left)
+    rw (i .if1 .left, le-leb (r .sixth) 18446744073709551615 (omega arith), and-true (leb (r .fifth) 4294967295), c .if2 .left)
 
 pub tick-spec : {M : Type 1} → statement M
 tick-spec = tie.close (tie.spec returns cast-t5 cast-t6 returns-2 returns-3)

@@ -1,0 +1,24 @@
+-- `put_departed`: the word, and the numbers behind it.
+use native.Mathlib.Omega.{arith}
+use Rattle.answers.proofs.Joins.{then}
+use borrow.Author.Needs.{needs}
+use Rattle.pair_answers.proofs.writing.put_departed.Statement.{statement}
+use Rattle.pair_answers.proofs.writing.put_departed.Tie as tie
+
+put-departure-requires : tie.Need-put-departure-requires
+put-departure-requires c κs = search needs
+
+put-queue-requires : tie.Need-put-queue-requires
+put-queue-requires c κs = search needs
+
+same-length : tie.Need-same-length
+same-length c = search needs
+
+returns : tie.Need-returns
+returns c =
+    let n = c .before .before .put-queue in
+    let w = c .before .before .before .before .before .before .put-departure in
+    (then _ _ _ _ _ _ _ _ (w .ensures .0 _) (n .ensures .0), omega arith)
+
+pub put-departed-spec : {M : Type 1} → statement M
+put-departed-spec = tie.close (tie.spec put-departure-requires put-queue-requires same-length returns)

@@ -1,0 +1,24 @@
+-- `put_ticked`: the word, and the numbers behind it.
+use native.Mathlib.Omega.{arith}
+use Rattle.answers.proofs.Joins.{then}
+use borrow.Author.Needs.{needs}
+use Rattle.pair_answers.proofs.writing.put_ticked.Statement.{statement}
+use Rattle.pair_answers.proofs.writing.put_ticked.Tie as tie
+
+put-tick-requires : tie.Need-put-tick-requires
+put-tick-requires c κs = search needs
+
+put-queue-requires : tie.Need-put-queue-requires
+put-queue-requires c κs = search needs
+
+same-length : tie.Need-same-length
+same-length c = search needs
+
+returns : tie.Need-returns
+returns c =
+    let n = c .before .before .put-queue in
+    let w = c .before .before .before .before .before .before .put-tick in
+    (then _ _ _ _ _ _ _ _ (w .ensures .0) (n .ensures .0), omega arith)
+
+pub put-ticked-spec : {M : Type 1} → statement M
+put-ticked-spec = tie.close (tie.spec put-tick-requires put-queue-requires same-length returns)

@@ -1,0 +1,3 @@
+-- The queue that a line names, and the text of a line.
+pub mod Named
+pub mod Output

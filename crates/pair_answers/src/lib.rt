@@ -1,0 +1,31 @@
+// One line of a script of two queues answered: the calls, and the text of their answers.
+use pair_state::Pair;
+
+mod answering;
+mod calling;
+mod queues;
+mod writing;
+
+pub use answering::answer;
+pub use queues::none;
+
+// A packet that arrives, and its random number.
+pub struct Packet {
+    pub handle: u32,
+    pub size: u32,
+    pub ecn: bool,
+    pub u: u32,
+}
+
+// The queues after a line, and where its output ends.
+pub struct Called {
+    pub queues: Pair,
+    pub end: usize,
+}
+
+// The same, and whether the line was bad, which ends the run.
+pub struct Answered {
+    pub bad: bool,
+    pub queues: Pair,
+    pub end: usize,
+}
