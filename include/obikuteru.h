@@ -10,7 +10,8 @@
  * The packets themselves stay with the caller. The queue keeps a handle (any 32-bit number that
  * names the packet to the caller) and a size for each.
  *
- * A second kind of queue, for the sixteen flows of a cable modem, stands at the end.
+ * A second kind of queue, for the sixteen flows of a cable modem, stands further down; at the end,
+ * two queues that share one pair of tables.
  *
  * Units: times are microseconds, sizes bytes, probabilities whole units of 1/2^32.
  *
@@ -428,6 +429,165 @@ uint32_t obikuteru_modem_tick(struct obikuteru_modem_state *state, uint64_t coun
  */
 bool obikuteru_modem_well_formed(const struct obikuteru_modem_state *state,
                                  uint64_t counts[16][5], uint32_t flow);
+
+/*
+ * The pair: two queues in one pair of tables. docs/SHARED-TABLES.md has its rules. Queue 0 is the
+ * intercom, queue 1 the passengers; each sheds load by itself, as a queue of obikuteru_fresh does.
+ * A pair is five things that the caller owns and lends to each call:
+ *
+ *   - a shared record, struct obikuteru_shared;
+ *   - a record of each queue, struct obikuteru_pair_queue: the intercom's, then the passengers';
+ *   - a table of handles and a table of sizes, each of exactly `slots` 32-bit numbers.
+ *
+ * Each queue has a reserve of slots, which the other cannot take. What both reserves leave of the
+ * slots is common: a queue takes from it where its count is at or above its reserve, first come,
+ * first served. So a queue that never has more packets than its reserve is answered alike whatever
+ * the other one does; only the places of its packets in the tables may differ.
+ *
+ * The slots are no ring: packets of both queues stand anywhere in the tables, each with a link to
+ * the next one of its queue. A word of the table of sizes is a size in its low 16 bits and a link
+ * above, and means nothing to the caller. A departure writes to that table too.
+ *
+ * What is said of the queue holds here too (units, memory, clock, ticks, random numbers, what a
+ * refused call leaves), but for this:
+ *   - All three records are lent to every call, apart from each other. A call changes the called
+ *     queue's record and, where a packet enters or leaves, the shared one; never the other
+ *     queue's. The whole pair belongs to one thread at a time.
+ *   - Each queue has its own clock and its own ticks, due at its `last` + OBIKUTERU_TICK_PERIOD.
+ *     The two clocks are never compared.
+ *   - Neither queue can be made afresh alone: it would lose the slots that it holds.
+ *   - A link is checked where it is followed: one that leads to no slot is refused. Damage that
+ *     leads to another slot is not seen there, and may mix the queues.
+ *   - Save the three records and both tables together, with OBIKUTERU_PAIR_VERSION and the sizes of
+ *     both structs.
+ *   - After 108 let both queues run empty, then start afresh. After 109 the handles of a queue
+ *     stand in the table at `head` and then, `count` of them in all, each at the link of the one
+ *     before, sizes[place] >> 16; what damaged one link may have damaged others. After 102, as for
+ *     the queue, only the caller's own books can say what is queued.
+ */
+struct obikuteru_shared {
+    uint64_t slots;      /* slots of the tables, 1 to 65,536 */
+    uint64_t reserve[2]; /* slots reserved for each queue; together at most `slots` */
+    uint64_t used;       /* slots from this place on were never taken */
+    uint64_t freed;      /* the first of the freed slots, if there is one */
+    uint64_t spare;      /* how many slots are freed; with both counts they make `used` */
+};
+
+struct obikuteru_pair_queue {
+    uint64_t target;      /* target delay, 1,000 to 100,000 microseconds */
+    uint64_t buffer;      /* most bytes that may be queued, 1 to 16,777,216 */
+    uint64_t clock;       /* clock of this queue's last accepted call, at most 2^48 */
+    uint64_t last;        /* clock of its last accepted tick, or of fresh */
+    uint64_t probability; /* drop probability, 0 to 2^32 */
+    uint64_t old_delay;   /* queueing delay at the last tick, at most 10,000,000 */
+    uint64_t allowance;   /* burst allowance that is left, at most 150,000 */
+    uint64_t accumulated; /* probabilities since the last early verdict, below 36,507,222,016 */
+    uint64_t average;     /* average time for 16,384 bytes to leave; 0: none measured yet */
+    uint64_t measuring;   /* not 0: a measurement of the departure rate runs; 0 where count is 0 */
+    uint64_t start;       /* clock at which it started; 0 if none runs */
+    uint64_t counted;     /* bytes that have left since, below 16,384; 0 if none runs */
+    uint64_t count;       /* packets queued */
+    uint64_t bytes;       /* bytes queued */
+    uint64_t head;        /* place of the first packet, if there is one */
+    uint64_t tail;        /* place of the last packet, if there is one */
+    uint64_t verdicts[5]; /* arrivals answered 0 to 4; their sum is at most 2^48 */
+};
+
+/* Raised whenever the layout or the meaning of one of the pair's records changes. */
+#define OBIKUTERU_PAIR_VERSION 1u
+
+/* Which queue a call is for: its argument `second`. */
+#define OBIKUTERU_INTERCOM false
+#define OBIKUTERU_PASSENGERS true
+
+/*
+ * A call of the pair answers as the queue's does, with these readings: 101 covers both queues'
+ * settings, and reserves that sum above the slots; 102 covers all three records, whichever queue
+ * is called; 103 reads the shared slots; 104, 105, 106 and 108 read the called queue; 109 covers a
+ * link that leads to no slot too. Where several apply, the lowest is given. A refused call changes
+ * nothing, but that the packet of a refused departure is {0, 0} and a refused fresh writes three
+ * all-zero records, which every call refuses.
+ */
+
+/*
+ * A fresh pair: slots, then target, buffer, reserve and clock of the intercom, and of the
+ * passengers. A reserve may be 0, or all the slots. Answers ACCEPTED or 101. The tables need no
+ * preparation.
+ */
+uint32_t obikuteru_pair_fresh(struct obikuteru_shared *shared,
+                              struct obikuteru_pair_queue *intercom,
+                              struct obikuteru_pair_queue *passengers, uint64_t slots,
+                              uint64_t target0, uint64_t buffer0, uint64_t reserve0,
+                              uint64_t clock0, uint64_t target1, uint64_t buffer1,
+                              uint64_t reserve1, uint64_t clock1);
+
+/*
+ * The library's own entries for a call on one queue: they take the called queue's record and then
+ * the other one's, which is only read. Call them by the three functions below, which pick the two.
+ */
+uint32_t obikuteru_pair_arrival_of(struct obikuteru_shared *shared,
+                                   struct obikuteru_pair_queue *own,
+                                   const struct obikuteru_pair_queue *other, bool second,
+                                   uint32_t *handles, size_t handles_len, uint32_t *sizes,
+                                   size_t sizes_len, uint64_t clock, uint32_t handle,
+                                   uint32_t size, bool ecn, uint32_t u);
+uint32_t obikuteru_pair_departure_of(struct obikuteru_shared *shared,
+                                     struct obikuteru_pair_queue *own,
+                                     const struct obikuteru_pair_queue *other, bool second,
+                                     const uint32_t *handles, size_t handles_len, uint32_t *sizes,
+                                     size_t sizes_len, uint64_t clock,
+                                     struct obikuteru_packet *packet);
+uint32_t obikuteru_pair_tick_of(const struct obikuteru_shared *shared,
+                                struct obikuteru_pair_queue *own,
+                                const struct obikuteru_pair_queue *other, bool second,
+                                uint64_t clock);
+
+/*
+ * A packet of `size` bytes arrives at a queue. Answers a verdict, or 102, 103, 104, 107, 108 or
+ * 109, the last only for a packet that would be enqueued or marked. DROPPED_SLOTS: the queue's
+ * reserve and the common slots are taken. Where the answer is ENQUEUED or MARKED, one element of
+ * handles was written and one of sizes, or two where a packet was queued before it.
+ */
+static inline uint32_t obikuteru_pair_arrival(
+    struct obikuteru_shared *shared, struct obikuteru_pair_queue *intercom,
+    struct obikuteru_pair_queue *passengers, bool second, uint32_t *handles, size_t handles_len,
+    uint32_t *sizes, size_t sizes_len, uint64_t clock, uint32_t handle, uint32_t size, bool ecn,
+    uint32_t u)
+{
+    return obikuteru_pair_arrival_of(shared, second ? passengers : intercom,
+                                     second ? intercom : passengers, second, handles, handles_len,
+                                     sizes, sizes_len, clock, handle, size, ecn, u);
+}
+
+/*
+ * The head of a queue leaves: its handle and size are written to `packet`. Answers ACCEPTED or 102,
+ * 103, 104, 106, 109. Handles are only read; one element of sizes was written where it is accepted.
+ */
+static inline uint32_t obikuteru_pair_departure(
+    struct obikuteru_shared *shared, struct obikuteru_pair_queue *intercom,
+    struct obikuteru_pair_queue *passengers, bool second, const uint32_t *handles,
+    size_t handles_len, uint32_t *sizes, size_t sizes_len, uint64_t clock,
+    struct obikuteru_packet *packet)
+{
+    return obikuteru_pair_departure_of(shared, second ? passengers : intercom,
+                                       second ? intercom : passengers, second, handles,
+                                       handles_len, sizes, sizes_len, clock, packet);
+}
+
+/* The periodic update of one queue. Answers ACCEPTED or 102, 104, 105. The shared record is only read. */
+static inline uint32_t obikuteru_pair_tick(const struct obikuteru_shared *shared,
+                                           struct obikuteru_pair_queue *intercom,
+                                           struct obikuteru_pair_queue *passengers, bool second,
+                                           uint64_t clock)
+{
+    return obikuteru_pair_tick_of(shared, second ? passengers : intercom,
+                                  second ? intercom : passengers, second, clock);
+}
+
+/* Whether the three records are ones that the calls accept (not refusal 2). */
+bool obikuteru_pair_well_formed(const struct obikuteru_shared *shared,
+                                const struct obikuteru_pair_queue *intercom,
+                                const struct obikuteru_pair_queue *passengers);
 
 #ifdef __cplusplus
 }
