@@ -4,6 +4,7 @@
 #   verdicts STREAM ENQUEUED MARKED BYTES SLOTS EARLY
 #   activity STREAM INACTIVE QUIESCENT ACTIVE      calls that met a flow so, of a modem's stream
 #   inactive STREAM N                              events that met the queue so, of a calm stream
+#   intercom STREAM CALLS                          calls of a pair's first queue
 #   rounds STREAM N                                once for each process
 #   time STREAM WHAT SIDE MEDIAN LEAST GREATEST    ratios to plain C, once for each process
 #   count STREAM WHAT SIDE INSTRUCTIONS            per call, per line of a script, or per record of a log
@@ -21,6 +22,7 @@ $1 == "events" {
 $1 == "verdicts" { for (i = 1; i <= 5; i++) verdict[$2, i] = $(i + 2) }
 $1 == "activity" { for (i = 1; i <= 3; i++) activity[$2, i] = $(i + 2); modem[$2] = 1 }
 $1 == "inactive" { inactive[$2] = $3 }
+$1 == "intercom" { intercom[$2] = $3; beside[$2] = $2 == "pair" ? "varied" : "full" }
 $1 == "rounds" { rounds = $3; processes[$2]++ }
 $1 == "time" { add_time($2 SUBSEP $3 SUBSEP $4, $5, $6, $7) }
 $1 == "count" { count[$2, $3, $4] = $5 }
@@ -77,21 +79,31 @@ function by_clang(s, what) {
     return sprintf("%s %.2f and %s", what, median[s, what, "clang"], count_ratio(s, what, "clang"))
 }
 
-# What is asked of a row: at most so many times plain C in time, and in instructions.
+# What is asked of a row: at most so many times plain C in time, and in instructions (0: not asked).
 function miss(s, what, most, most_counted) {
     if (median[s, what, "library"] > most)
         missed = missed sprintf(", %s of %s in time (%.3f)", what, s, median[s, what, "library"])
-    if (count[s, what, "library"] > most_counted * count[s, what, "plain"])
+    if (most_counted > 0 && count[s, what, "library"] > most_counted * count[s, what, "plain"])
         missed = missed sprintf(", %s of %s in instructions (%.3f)", what, s,
             count[s, what, "library"] / count[s, what, "plain"])
 }
 
 function miss_entries(s,    most, most_counted) {
-    most = s in modem ? 1.1 : 1.05
-    most_counted = s in modem ? 1.1 : 1.0
+    most = s in modem || s in intercom ? 1.1 : 1.05
+    most_counted = s in modem ? 1.1 : s in intercom ? 0 : 1.0
     miss(s, "arrival", most, most_counted)
     miss(s, "departure", most, most_counted)
     miss(s, "tick", most, most_counted)
+}
+
+# A pair's entry to the queue's of a like stream, in the library's instructions.
+function to_queue(s, what,    of) {
+    of = beside[s]
+    if (!((s, what, "library") in count) || !((of, what, "library") in count))
+        return what " -"
+    if (count[s, what, "library"] > 1.6 * count[of, what, "library"])
+        missed = missed sprintf(", %s of %s beside the queue's", what, s)
+    return sprintf("%s %.2f", what, count[s, what, "library"] / count[of, what, "library"])
 }
 
 function share(n, of) {
@@ -111,6 +123,8 @@ function print_stream(s) {
             share(activity[s, 3], all[s])
     if (s in inactive)
         printf "a calm queue, met inactive by %s of them; ", share(inactive[s], all[s])
+    if (s in intercom)
+        printf "2 queues, %s of the calls for the first; ", share(intercom[s], all[s])
     printf "%d slots; %d processes of %d rounds.\n", slots[s], processes[s], rounds
 }
 
@@ -133,12 +147,15 @@ END {
                 by_clang(s, "departure"), by_clang(s, "tick")
         if (s in inactive) # measured beside the plain ones; nothing is asked of it
             continue
+        if (s in intercom)
+            printf "The pair's entries to the queue's, stream %s to %s, instructions of the library: %s; %s; %s.\n", s,
+                beside[s], to_queue(s, "arrival"), to_queue(s, "departure"), to_queue(s, "tick")
         miss_entries(s)
         miss(s, "add", 1.1, 1.1)
         miss(s, "replay", 1.1, 1.1)
         miss(s, "compare", 1.5, 1.5)
     }
     printf "Asked, of plain queues: the queue's entries at most 1.05 times plain C in time and 1.0 in instructions; in both, the modem's entries 1.1, "
-    printf "add and replay 1.1, compare 1.5: "
+    printf "add and replay 1.1, compare 1.5; the pair's entries 1.1 in time, and 1.6 times the queue's in instructions: "
     print missed == "" ? "reached." : "missed by " substr(missed, 3) "."
 }

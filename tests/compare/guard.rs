@@ -64,7 +64,9 @@ impl Lender for Guarded {
         self.state.access(READ_WRITE);
         side.packet = (0, 0);
         side.answer = match *call {
-            Call::Fresh(asked) => library::fresh(record, &asked),
+            Call::Fresh(a) => {
+                library::fresh(record, a.target, a.buffer, a.slots, a.profile, a.clock)
+            }
             Call::Arrival { .. } => self.arrival(record, side, call),
             Call::Departure { .. } => self.departure(record, side, call),
             Call::Tick { clock } => library::tick(record, clock),

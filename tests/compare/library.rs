@@ -1,6 +1,5 @@
 //! The library under test, through its C interface.
 
-use crate::model::Asked;
 pub use crate::shared::answers::Packet;
 
 /// How many words the state record has.
@@ -45,8 +44,14 @@ extern "C" {
     fn obikuteru_well_formed(state: *const Record) -> bool;
 }
 
-pub fn fresh(state: &mut Record, asked: &Asked) -> u32 {
-    let Asked { target, buffer, slots, profile, clock } = *asked;
+pub fn fresh(
+    state: &mut Record,
+    target: u64,
+    buffer: u64,
+    slots: u64,
+    profile: u64,
+    clock: u64,
+) -> u32 {
     unsafe { obikuteru_fresh(state, target, buffer, slots, profile, clock) }
 }
 

@@ -91,7 +91,9 @@ impl Lender for Direct {
         side.well_formed = library::well_formed(&record);
         let state = &mut record;
         side.answer = match *call {
-            Call::Fresh(asked) => library::fresh(state, &asked),
+            Call::Fresh(a) => {
+                library::fresh(state, a.target, a.buffer, a.slots, a.profile, a.clock)
+            }
             Call::Arrival { lent, clock, packet: p } => {
                 let handles = &mut side.handles[..lent.handles];
                 let sizes = &mut side.sizes[..lent.sizes];

@@ -23,7 +23,8 @@ const BYTES: usize = 14;
 impl Queue {
     fn new(r: &mut Random, s: &Settings) -> Queue {
         let mut state = library::Record([0; library::WORDS]);
-        library::fresh(&mut state, &asked(s));
+        let a = asked(s);
+        library::fresh(&mut state, a.target, a.buffer, a.slots, a.profile, a.clock);
         let mut table = || (0..s.slots).map(|_| r.number() as u32).collect();
         Queue { state, handles: table(), sizes: table() }
     }

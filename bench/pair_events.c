@@ -1,0 +1,145 @@
+/*
+ * Two streams of events for a pair of queues. One clock goes on by a random gap from event to event, and
+ * a queue ticks as soon as its period has passed. A link sends only what is queued: the queues are
+ * followed in plain C, and few departures find one empty.
+ *   pair       the intercom steady, the passengers from light to overload: every verdict occurs.
+ *   pair-full  few slots before a fast link, nearly always all in use: a third of the arrivals find no
+ *              slot or no room.
+ */
+#include "pair_events.h"
+
+#include <string.h>
+
+#define PERIOD 15000u
+
+/* Of 100 events that are no ticks, how many are the intercom's; of 100 packet events of the intercom
+ * and of the passengers, how many are arrivals; the longest gap between two events; the least and
+ * largest size; of 100 packets, how many are ECN-capable; how many events the phase lasts. */
+struct pair_phase {
+    uint32_t intercom;
+    uint32_t arrivals[2];
+    uint32_t gap;
+    uint32_t least;
+    uint32_t largest;
+    uint32_t ecn;
+    uint32_t length;
+};
+
+static const struct pair_phase pair[] = {
+    {30, {50, 80}, 200, 64, 600, 90, 2500},   /* the passengers flood by small packets */
+    {30, {50, 35}, 1000, 64, 1500, 80, 3000}, /* draining */
+    {50, {40, 30}, 4000, 64, 1500, 50, 2500}, /* idle */
+    {40, {50, 50}, 1000, 64, 1500, 90, 9000}, /* balanced */
+    {50, {60, 50}, 400, 64, 900, 90, 4000},   /* the intercom floods too */
+    {50, {30, 30}, 4000, 64, 1500, 50, 2500}, /* idle */
+    {30, {50, 80}, 200, 900, 1500, 90, 2500}, /* the passengers flood by large packets */
+    {30, {45, 35}, 1000, 64, 1500, 80, 3000}, /* draining */
+};
+
+static const struct pair_phase full[] = {
+    {40, {55, 62}, 300, 64, 600, 50, 4000},   /* full of small packets: no slot is left */
+    {40, {55, 62}, 300, 900, 1500, 50, 4000}, /* full of large packets: no room is left */
+    {40, {52, 55}, 1400, 64, 1500, 50, 3000}, /* a slower link */
+};
+
+#define COUNT(phases) (sizeof(phases) / sizeof *(phases))
+
+static const struct pair_stream streams[] = {
+    {"pair", 15000, 100000, MOST_PAIR_SLOTS, {48, 32}, 80337, pair, COUNT(pair)},
+    {"pair-full", 100000, 30000, 64, {16, 8}, 80338, full, COUNT(full)},
+};
+
+struct generator {
+    const struct pair_stream *stream;
+    uint64_t seed;
+    uint64_t clock;
+    struct plain_pair pair;
+    uint32_t handles[MOST_PAIR_SLOTS];
+    uint32_t sizes[MOST_PAIR_SLOTS];
+};
+
+/* splitmix64 */
+static uint64_t next_random(struct generator *g)
+{
+    uint64_t z = g->seed += UINT64_C(0x9e3779b97f4a7c15);
+    z = (z ^ (z >> 30)) * UINT64_C(0xbf58476d1ce4e5b9);
+    z = (z ^ (z >> 27)) * UINT64_C(0x94d049bb133111eb);
+    return z ^ (z >> 31);
+}
+
+/* A number from 0 to n - 1. */
+static uint32_t below(struct generator *g, uint32_t n)
+{
+    return (uint32_t)((next_random(g) >> 32) * n >> 32);
+}
+
+/* Of 100 departures that would find the queue empty, 70 become arrivals. */
+static bool arrives(struct generator *g, const struct pair_phase *phase, bool second)
+{
+    if (below(g, 100) < phase->arrivals[second])
+        return true;
+    return g->pair.queues[second].count == 0 && below(g, 100) < 70;
+}
+
+static struct pair_event next_event(struct generator *g, const struct pair_phase *phase)
+{
+    struct pair_event e = {.clock = g->clock, .kind = DEPARTURE};
+    for (int q = 0; q < 2; q++)
+        if (PERIOD <= g->clock - g->pair.queues[q].last) {
+            e.kind = TICK;
+            e.second = q == 1;
+            return e;
+        }
+    e.second = phase->intercom <= below(g, 100);
+    if (arrives(g, phase, e.second)) {
+        e.kind = ARRIVAL;
+        e.handle = (uint32_t)next_random(g);
+        e.u = (uint32_t)next_random(g);
+        e.size = (uint16_t)(phase->least + below(g, phase->largest - phase->least + 1));
+        e.ecn = below(g, 100) < phase->ecn;
+    }
+    return e;
+}
+
+static void follow(struct generator *g, const struct pair_event *e)
+{
+    struct plain_packet packet;
+    struct plain_pair *p = &g->pair;
+    size_t slots = g->stream->slots;
+    if (e->kind == ARRIVAL)
+        plain_pair_arrival(&p->shared, &p->queues[0], &p->queues[1], e->second, g->handles, slots,
+                           g->sizes, slots, e->clock, e->handle, e->size, e->ecn, e->u);
+    else if (e->kind == DEPARTURE)
+        plain_pair_departure(&p->shared, &p->queues[0], &p->queues[1], e->second, g->handles,
+                             slots, g->sizes, slots, e->clock, &packet);
+    else
+        plain_pair_tick(&p->shared, &p->queues[0], &p->queues[1], e->second, e->clock);
+}
+
+const struct pair_stream *find_pair_stream(const char *name)
+{
+    for (size_t i = 0; i < COUNT(streams); i++)
+        if (strcmp(streams[i].name, name) == 0)
+            return &streams[i];
+    return NULL;
+}
+
+void make_pair_events(const struct pair_stream *stream, struct pair_event *events, size_t n)
+{
+    static struct generator g;
+    size_t at = 0, place = 0;
+    g.stream = stream;
+    g.seed = stream->seed;
+    g.clock = 0;
+    plain_pair_fresh(&g.pair.shared, &g.pair.queues[0], &g.pair.queues[1], stream->slots,
+                     stream->target, stream->buffer, stream->reserve[0], 0, stream->target,
+                     stream->buffer, stream->reserve[1], 0);
+    while (at < n) {
+        const struct pair_phase *phase = &stream->phases[place++ % stream->phase_count];
+        for (size_t end = at + phase->length; at < end && at < n; at++) {
+            g.clock += below(&g, phase->gap + 1);
+            events[at] = next_event(&g, phase);
+            follow(&g, &events[at]);
+        }
+    }
+}

@@ -1,0 +1,300 @@
+/*
+ * The header's pair against the page. The numbers stand here a second time, by hand, from
+ * docs/SHARED-TABLES.md. Then the library runs, and each field must hold what the page gives for it,
+ * and each constant must be the answer of a call that deserves it.
+ * It prints each mistake and ends with 1 if there is any.
+ */
+#include <obikuteru.h>
+
+#include <string.h>
+
+#include "layout.h"
+
+enum { SLOTS = 6 };
+
+#define WORD(record, field, place)                                                                  \
+    expect("the place of " #field, offsetof(struct record, field), 8 * (place));                   \
+    expect("the length of " #field, sizeof((struct record *)0)->field, 8)
+
+#define SHARED(field, place) WORD(obikuteru_shared, field, place)
+#define QUEUE(field, place) WORD(obikuteru_pair_queue, field, place)
+
+static void shared_record(void)
+{
+    struct before_shared { char byte; struct obikuteru_shared shared; };
+
+    SHARED(slots, 0);
+    SHARED(reserve[0], 1);
+    SHARED(reserve[1], 2);
+    SHARED(used, 3);
+    SHARED(freed, 4);
+    SHARED(spare, 5);
+    expect("the size of the shared record", sizeof(struct obikuteru_shared), 48);
+    expect("the alignment of the shared record", offsetof(struct before_shared, shared), 8);
+}
+
+static void queue_record(void)
+{
+    struct before_queue { char byte; struct obikuteru_pair_queue queue; };
+
+    QUEUE(target, 0);
+    QUEUE(buffer, 1);
+    QUEUE(clock, 2);
+    QUEUE(last, 3);
+    QUEUE(probability, 4);
+    QUEUE(old_delay, 5);
+    QUEUE(allowance, 6);
+    QUEUE(accumulated, 7);
+    QUEUE(average, 8);
+    QUEUE(measuring, 9);
+    QUEUE(start, 10);
+    QUEUE(counted, 11);
+    QUEUE(count, 12);
+    QUEUE(bytes, 13);
+    QUEUE(head, 14);
+    QUEUE(tail, 15);
+    QUEUE(verdicts[0], 16);
+    QUEUE(verdicts[4], 20);
+    expect("the size of a queue's record", sizeof(struct obikuteru_pair_queue), 168);
+    expect("the alignment of a queue's record", offsetof(struct before_queue, queue), 8);
+}
+
+static void constants(void)
+{
+    expect("PAIR_VERSION", OBIKUTERU_PAIR_VERSION, 1);
+    expect("INTERCOM", OBIKUTERU_INTERCOM, 0);
+    expect("PASSENGERS", OBIKUTERU_PASSENGERS, 1);
+}
+
+/* Well-formed records, no two fields of a queue alike. The intercom's packets stand at the places 1,
+ * 3 and 0, the passengers' at 2; 4 is freed, and 5 was never taken. */
+static const struct obikuteru_shared start_shared = {
+    .slots = SLOTS, .reserve = {2, 1}, .used = 5, .freed = 4, .spare = 1,
+};
+
+static const struct obikuteru_pair_queue start_queues[2] = {
+    {.target = 20000, .buffer = 60000, .clock = 1000000, .last = 984000, .probability = 400000000,
+     .old_delay = 12000, .allowance = 30000, .accumulated = 4294967296, .average = 16384,
+     .measuring = 1, .start = 970000, .counted = 5001, .count = 3, .bytes = 20001, .head = 1,
+     .tail = 0, .verdicts = {11, 22, 33, 44, 55}},
+    {.target = 15000, .buffer = 64000, .clock = 500000, .last = 490000, .probability = 7,
+     .old_delay = 8, .allowance = 150000, .accumulated = 9, .average = 10, .count = 1,
+     .bytes = 400, .head = 2, .tail = 2, .verdicts = {66, 77, 88, 99, 111}},
+};
+
+static struct obikuteru_shared shared;
+static struct obikuteru_pair_queue queues[2];
+static uint32_t handles[SLOTS], sizes[SLOTS];
+
+#define AT(size, link) ((size) + 65536u * (link))
+
+/* Links that nobody follows lead nowhere. */
+static void restore(void)
+{
+    static const uint32_t queued_handles[SLOTS] = {72, 70, 90, 71, 5, 6};
+    static const uint32_t queued_sizes[SLOTS] = {AT(9001, 77), AT(5000, 3), AT(400, 78),
+                                                 AT(6000, 0), AT(0, 79), AT(3, 80)};
+
+    shared = start_shared;
+    memcpy(queues, start_queues, sizeof queues);
+    memcpy(handles, queued_handles, sizeof handles);
+    memcpy(sizes, queued_sizes, sizeof sizes);
+}
+
+static uint32_t arrive(bool second, uint64_t clock, uint32_t handle, uint32_t size, bool ecn)
+{
+    return obikuteru_pair_arrival(&shared, &queues[0], &queues[1], second, handles, SLOTS, sizes,
+                                  SLOTS, clock, handle, size, ecn, 0);
+}
+
+static uint32_t depart(bool second, uint64_t clock, struct obikuteru_packet *packet)
+{
+    return obikuteru_pair_departure(&shared, &queues[0], &queues[1], second, handles, SLOTS, sizes,
+                                    SLOTS, clock, packet);
+}
+
+static uint32_t tick(bool second, uint64_t clock)
+{
+    return obikuteru_pair_tick(&shared, &queues[0], &queues[1], second, clock);
+}
+
+static void expect_shared(uint64_t used, uint64_t freed, uint64_t spare)
+{
+    expect("slots", shared.slots, SLOTS);
+    expect("reserve[0]", shared.reserve[0], 2);
+    expect("reserve[1]", shared.reserve[1], 1);
+    expect("used", shared.used, used);
+    expect("freed", shared.freed, freed);
+    expect("spare", shared.spare, spare);
+}
+
+/* Every field of a queue, by name. */
+static void expect_queue(const struct obikuteru_pair_queue *q, const struct obikuteru_pair_queue *wanted)
+{
+    expect("target", q->target, wanted->target);
+    expect("buffer", q->buffer, wanted->buffer);
+    expect("clock", q->clock, wanted->clock);
+    expect("last", q->last, wanted->last);
+    expect("probability", q->probability, wanted->probability);
+    expect("old_delay", q->old_delay, wanted->old_delay);
+    expect("allowance", q->allowance, wanted->allowance);
+    expect("accumulated", q->accumulated, wanted->accumulated);
+    expect("average", q->average, wanted->average);
+    expect("measuring", q->measuring, wanted->measuring);
+    expect("start", q->start, wanted->start);
+    expect("counted", q->counted, wanted->counted);
+    expect("count", q->count, wanted->count);
+    expect("bytes", q->bytes, wanted->bytes);
+    expect("head", q->head, wanted->head);
+    expect("tail", q->tail, wanted->tail);
+    for (int v = 0; v < 5; v++)
+        expect("a count", q->verdicts[v], wanted->verdicts[v]);
+}
+
+static void run_fresh(void)
+{
+    struct obikuteru_pair_queue wanted[2] = {
+        {.target = 15001, .buffer = 64001, .clock = 99, .last = 99, .allowance = 150000},
+        {.target = 15002, .buffer = 64002, .clock = 98, .last = 98, .allowance = 150000}};
+
+    restore();
+    expect("fresh", obikuteru_pair_fresh(&shared, &queues[0], &queues[1], SLOTS, 15001, 64001, 2, 99, 15002, 64002, 1, 98),
+           OBIKUTERU_ACCEPTED);
+    expect_shared(0, 0, 0);
+    expect_queue(&queues[0], &wanted[0]);
+    expect_queue(&queues[1], &wanted[1]);
+}
+
+/* Delay 20,001 x 16,384 / 16,384; x = 1 + 10 x 8,001 = 80,011; k = 2; step 80,011 x 8,388,608 / 31,250
+ * = 21,477,789. */
+static void run_tick(void)
+{
+    struct obikuteru_pair_queue wanted = start_queues[0];
+
+    wanted.clock = wanted.last = 1000001;
+    wanted.old_delay = 20001;
+    wanted.probability = 421477789;
+    wanted.allowance = 30000 - OBIKUTERU_TICK_PERIOD;
+    restore();
+    expect("a tick", tick(OBIKUTERU_INTERCOM, 1000001), OBIKUTERU_ACCEPTED);
+    expect_shared(5, 4, 1);
+    expect_queue(&queues[0], &wanted);
+    expect_queue(&queues[1], &start_queues[1]);
+}
+
+static void run_departures(void)
+{
+    struct obikuteru_pair_queue wanted = start_queues[0];
+    struct obikuteru_packet packet;
+
+    wanted.clock = 1000100;
+    wanted.counted = 10001;
+    wanted.head = 3;
+    wanted.count = 2;
+    wanted.bytes = 15001;
+    restore();
+    expect("a departure", depart(OBIKUTERU_INTERCOM, 1000100, &packet), OBIKUTERU_ACCEPTED);
+    expect("the handle that departs", packet.handle, 70);
+    expect("the size that departs", packet.size, 5000);
+    expect_shared(5, 1, 2);
+    expect_queue(&queues[0], &wanted);
+    expect_queue(&queues[1], &start_queues[1]);
+    expect("the word that it leaves", sizes[1], AT(0, 4));
+
+    wanted = start_queues[1]; /* the last packet, whose link nobody follows */
+    wanted.count = wanted.bytes = 0;
+    expect("the other's departure", depart(OBIKUTERU_PASSENGERS, 500000, &packet), OBIKUTERU_ACCEPTED);
+    expect("the handle that departs", packet.handle, 90);
+    expect_shared(5, 2, 3);
+    expect_queue(&queues[1], &wanted);
+    expect("the word that it leaves", sizes[2], AT(0, 1));
+}
+
+/* The intercom's packet takes the freed place 4, the passengers' then 5, both behind a tail. */
+static void run_arrivals(void)
+{
+    struct obikuteru_pair_queue wanted[2] = {start_queues[0], start_queues[1]};
+
+    restore();
+    expect("an arrival", arrive(OBIKUTERU_INTERCOM, 1000002, 81, 100, false), OBIKUTERU_ENQUEUED);
+    expect("the other's arrival", arrive(OBIKUTERU_PASSENGERS, 500003, 82, 200, false), OBIKUTERU_ENQUEUED);
+    wanted[0].clock = 1000002;
+    wanted[0].count = 4;
+    wanted[0].bytes = 20101;
+    wanted[0].tail = 4;
+    wanted[0].verdicts[0] = 12;
+    wanted[1].clock = 500003;
+    wanted[1].count = 2;
+    wanted[1].bytes = 600;
+    wanted[1].tail = 5;
+    wanted[1].verdicts[0] = 67;
+    expect_shared(6, 4, 0);
+    expect_queue(&queues[0], &wanted[0]);
+    expect_queue(&queues[1], &wanted[1]);
+    expect("the handle at 4", handles[4], 81);
+    expect("the handle at 5", handles[5], 82);
+    expect("the word at 4", sizes[4], 100);
+    expect("the word at 5", sizes[5], 200);
+    expect("the word of the tail before", sizes[0], AT(9001, 4));
+    expect("the word of the other's tail before", sizes[2], AT(400, 5));
+    expect("no slot", arrive(OBIKUTERU_PASSENGERS, 500003, 83, 1, false), OBIKUTERU_DROPPED_SLOTS);
+    expect("too many bytes", arrive(OBIKUTERU_INTERCOM, 1000002, 84, 40000, false), OBIKUTERU_DROPPED_BYTES);
+
+    restore();
+    queues[0].allowance = 0;
+    expect("a mark", arrive(OBIKUTERU_INTERCOM, 1000000, 85, 1, true), OBIKUTERU_MARKED);
+    queues[0].accumulated = 4294967296;
+    expect("an early drop", arrive(OBIKUTERU_INTERCOM, 1000000, 86, 1, false), OBIKUTERU_DROPPED_EARLY);
+    expect("the sum after it", queues[0].accumulated, 0);
+}
+
+/* Each refusal by a call to which no other applies. */
+static void run_refusals(void)
+{
+    struct obikuteru_packet packet;
+
+    restore();
+    expect("a short table", obikuteru_pair_arrival(&shared, &queues[0], &queues[1], false, handles, SLOTS - 1, sizes, SLOTS,
+                                                   1000000, 1, 1, false, 0), OBIKUTERU_REFUSED_TABLES);
+    expect("a clock that went back", arrive(OBIKUTERU_INTERCOM, 999999, 1, 1, false), OBIKUTERU_REFUSED_CLOCK);
+    expect("a packet of no bytes", arrive(OBIKUTERU_INTERCOM, 1000000, 1, 0, false), OBIKUTERU_REFUSED_SIZE);
+    expect("a tick too soon", tick(OBIKUTERU_PASSENGERS, 504999), OBIKUTERU_REFUSED_TOO_SOON);
+    sizes[1] = AT(5000, SLOTS);
+    expect("a link to no slot", depart(OBIKUTERU_INTERCOM, 1000000, &packet), OBIKUTERU_REFUSED_HEAD);
+    expect("the packet of a refused departure", packet.handle + packet.size, 0);
+    sizes[1] = AT(0, 3);
+    expect("a head of no bytes", depart(OBIKUTERU_INTERCOM, 1000000, &packet), OBIKUTERU_REFUSED_HEAD);
+    expect_shared(5, 4, 1);
+    expect_queue(&queues[0], &start_queues[0]);
+    expect_queue(&queues[1], &start_queues[1]);
+
+    restore();
+    expect("two freed", depart(OBIKUTERU_PASSENGERS, 500000, &packet), OBIKUTERU_ACCEPTED);
+    sizes[2] = AT(0, SLOTS);
+    expect("a freed link to no slot", arrive(OBIKUTERU_PASSENGERS, 500000, 1, 1, false), OBIKUTERU_REFUSED_HEAD);
+    expect("an empty queue", depart(OBIKUTERU_PASSENGERS, 500000, &packet), OBIKUTERU_REFUSED_EMPTY);
+    queues[1].verdicts[4] = (UINT64_C(1) << 48) - 66 - 77 - 88;
+    queues[1].verdicts[3] = 0;
+    expect("2^48 arrivals", arrive(OBIKUTERU_PASSENGERS, 500000, 1, 1, false), OBIKUTERU_REFUSED_COUNTS);
+    expect("the records with them", obikuteru_pair_well_formed(&shared, &queues[0], &queues[1]), true);
+    queues[1].tail = SLOTS;
+    expect("the other's record", tick(OBIKUTERU_INTERCOM, 1000000), OBIKUTERU_REFUSED_STATE);
+    expect("the records then", obikuteru_pair_well_formed(&shared, &queues[0], &queues[1]), false);
+    expect("reserves above the slots", obikuteru_pair_fresh(&shared, &queues[0], &queues[1], SLOTS, 15000, 1, 4, 0, 15000, 1, 3, 0),
+           OBIKUTERU_REFUSED_SETTINGS);
+    expect("records of zeros", shared.slots + queues[0].target + queues[1].target, 0);
+    expect("a call on them", tick(OBIKUTERU_INTERCOM, 15000), OBIKUTERU_REFUSED_STATE);
+}
+
+int main(void)
+{
+    shared_record();
+    queue_record();
+    constants();
+    run_fresh();
+    run_tick();
+    run_departures();
+    run_arrivals();
+    run_refusals();
+    return result();
+}

@@ -1,0 +1,111 @@
+//! Lends memory beside pages that nobody may touch: each record, the packet and both tables stand
+//! for themselves. Handles are read-only during a departure, and the records while they are asked
+//! whether they are well formed.
+
+use crate::shared::area::{Area, READ, READ_WRITE};
+use crate::call::{Call, Kind, Lent};
+use crate::library::{Memory, Packet, QueueRecord, SharedRecord};
+use crate::model::Arriving;
+use crate::side::{handed_back, Lender, Side, UNWRITTEN};
+use std::mem::size_of;
+use std::slice::{from_raw_parts, from_raw_parts_mut};
+
+pub struct Guarded {
+    shared: Area,
+    queues: [Area; 2],
+    packet: Area,
+    handles: Area,
+    sizes: Area,
+}
+
+impl Guarded {
+    pub fn new(at_end: bool) -> Guarded {
+        Guarded {
+            shared: Area::new(1, at_end),
+            queues: [Area::new(1, at_end), Area::new(1, at_end)],
+            packet: Area::new(1, at_end),
+            handles: Area::new(5, at_end),
+            sizes: Area::new(5, at_end),
+        }
+    }
+
+    fn records(&mut self) -> Memory {
+        let shared = self.shared.place(size_of::<SharedRecord>()) as *mut SharedRecord;
+        let [first, second] = &mut self.queues;
+        let place = |area: &mut Area| area.place(size_of::<QueueRecord>()) as *mut QueueRecord;
+        Memory { shared, queues: [place(first), place(second)] }
+    }
+
+    fn well_formed(&mut self, memory: &Memory) -> bool {
+        let [first, second] = &self.queues;
+        for area in [&self.shared, first, second] {
+            area.access(READ);
+        }
+        let well_formed = memory.well_formed();
+        for area in [&self.shared, first, second] {
+            area.access(READ_WRITE);
+        }
+        well_formed
+    }
+
+    /// Runs a call on both tables, which are put into place and fetched back.
+    fn with_tables(
+        &mut self,
+        side: &mut Side,
+        lent: Lent,
+        run: impl FnOnce(&mut Guarded, *mut u32, &mut [u32]) -> u32,
+    ) -> u32 {
+        let h = self.handles.table(&side.handles[..lent.handles]);
+        let s = self.sizes.table(&side.sizes[..lent.sizes]);
+        let s = unsafe { from_raw_parts_mut(s, lent.sizes) };
+        let answer = run(self, h, s);
+        let h = unsafe { from_raw_parts(h, lent.handles) };
+        side.handles[..lent.handles].copy_from_slice(h);
+        side.sizes[..lent.sizes].copy_from_slice(s);
+        answer
+    }
+
+    fn arrival(
+        &mut self,
+        m: &Memory,
+        side: &mut Side,
+        call: &Call,
+        p: &Arriving,
+        lent: Lent,
+    ) -> u32 {
+        self.with_tables(side, lent, |_, h, s| {
+            let h = unsafe { from_raw_parts_mut(h, lent.handles) };
+            m.arrival(call.queue, (h, s), call.clock, p)
+        })
+    }
+
+    fn departure(&mut self, m: &Memory, side: &mut Side, call: &Call, lent: Lent) -> u32 {
+        let packet = unsafe { &mut *(self.packet.place(size_of::<Packet>()) as *mut Packet) };
+        *packet = UNWRITTEN;
+        let answer = self.with_tables(side, lent, |guarded, h, s| {
+            guarded.handles.access(READ);
+            let h = unsafe { from_raw_parts(h, lent.handles) };
+            let answer = m.departure(call.queue, (h, s), call.clock, packet);
+            guarded.handles.access(READ_WRITE);
+            answer
+        });
+        side.packet = handed_back(call, *packet);
+        answer
+    }
+}
+
+impl Lender for Guarded {
+    fn call(&mut self, side: &mut Side, call: &Call) {
+        let memory = self.records();
+        memory.write(&side.records);
+        side.well_formed = self.well_formed(&memory);
+        side.packet = (0, 0);
+        side.answer = match call.kind {
+            Kind::Fresh { slots, settings } => memory.fresh(slots, &settings),
+            Kind::Arrival { lent, packet } => self.arrival(&memory, side, call, &packet, lent),
+            Kind::Departure { lent } => self.departure(&memory, side, call, lent),
+            Kind::Tick => memory.tick(call.queue, call.clock),
+        };
+        side.records = memory.read();
+    }
+}

@@ -1,0 +1,100 @@
+//! Reserves, places and tables for random records.
+
+use crate::model::formed::{common_slots, common_use};
+use crate::model::numbers::*;
+use crate::model::store::word;
+use crate::model::{Queue, Records};
+use crate::shared::random::Random;
+
+/// Gives the records slots enough for their packets and `spare` free slots more, reserves, places,
+/// and tables a little longer than the slots that hold their chains. What no call follows, the link
+/// of a last packet or last free slot, is anything.
+pub fn lay_out(r: &mut Random, records: &mut Records, spare: u64) -> (Vec<u32>, Vec<u32>) {
+    let counts = records.queues.map(|q| q.count);
+    let s = &mut records.shared;
+    s.slots = s.slots.max(counts[0] + counts[1] + spare).max(1);
+    let free = s.slots - counts[0] - counts[1];
+    let any = r.range(0, free);
+    s.spare = r.pick(&[0, 1, 2, 3, free, free, any]).min(free).max(spare);
+    s.used = counts[0] + counts[1] + s.spare;
+    choose_reserves(r, records);
+    let slots = records.shared.slots as usize;
+    let length = slots + r.pick(&[1, 1, 2, 5]);
+    let mut fill = || -> Vec<u32> { (0..length).map(|_| r.number() as u32).collect() };
+    let (handles, mut sizes) = (fill(), fill());
+    let mut places = shuffled(r, records.shared.used as usize);
+    move_ends(r, &mut places, counts);
+    let (first, rest) = places.split_at(counts[0] as usize);
+    let (second, freed) = rest.split_at(counts[1] as usize);
+    for (queue, chain) in [first, second].into_iter().enumerate() {
+        lay_chain(r, &mut records.queues[queue], slots as u64, chain, &mut sizes);
+    }
+    let any = r.range(0, slots as u64 - 1);
+    records.shared.freed = freed.first().map_or(any, |&place| place as u64);
+    let old = r.one_in(3);
+    for pair in freed.windows(2) {
+        let size = if old { sizes[pair[0]] % LINK } else { 0 };
+        sizes[pair[0]] = word(size, pair[1] as u64);
+    }
+    (handles, sizes)
+}
+
+/// The places below `used`, in any order, or in the order of a queue that only grew.
+fn shuffled(r: &mut Random, used: usize) -> Vec<usize> {
+    let mut places: Vec<usize> = (0..used).collect();
+    if !r.one_in(8) {
+        for i in (1..used).rev() {
+            places.swap(i, r.range(0, i as u64) as usize);
+        }
+    }
+    places
+}
+
+/// Often brings the first or the last place to a head, a tail or the first freed slot.
+fn move_ends(r: &mut Random, places: &mut [usize], [first, second]: [u64; 2]) {
+    let both = first + second;
+    let at = r.pick(&[0, first.saturating_sub(1), first, both.saturating_sub(1), both]) as usize;
+    let end = r.pick(&[0, places.len().saturating_sub(1)]);
+    if at < places.len() && r.one_in(2) {
+        let found = places.iter().position(|&place| place == end);
+        places.swap(at, found.unwrap_or(at));
+    }
+}
+
+fn lay_chain(r: &mut Random, q: &mut Queue, slots: u64, chain: &[usize], sizes: &mut [u32]) {
+    (q.head, q.tail) = (r.range(0, slots - 1), r.range(0, slots - 1));
+    let mut bytes = q.bytes;
+    for (i, &place) in chain.iter().enumerate() {
+        let others = (chain.len() - i - 1) as u64;
+        let least = bytes.saturating_sub(SIZE.1 * others).max(1);
+        let most = (bytes - others).min(SIZE.1);
+        let any = r.range(least, most);
+        let size = r.pick(&[least, most, any, any]).clamp(least, most);
+        let link = chain.get(i + 1).map_or(r.range(0, 65_535), |&next| next as u64);
+        sizes[place] = word(size as u32, link);
+        bytes -= size;
+    }
+    if let (Some(&head), Some(&tail)) = (chain.first(), chain.last()) {
+        (q.head, q.tail) = (head as u64, tail as u64);
+    }
+}
+
+/// Reserves beside the counts, at their ends, or any, with which the common slots suffice.
+fn choose_reserves(r: &mut Random, records: &mut Records) {
+    let slots = records.shared.slots;
+    for _ in 0..12 {
+        let [first, second] = records.queues.map(|q| reserve(r, slots, q.count));
+        let second = if r.one_in(4) { slots - first } else { second.min(slots - first) };
+        records.shared.reserve = [first, second];
+        let common = common_slots(&records.shared).map(u128::from);
+        if common.is_some_and(|common| common_use(records) <= common) {
+            return;
+        }
+    }
+    records.shared.reserve = [0, 0];
+}
+
+fn reserve(r: &mut Random, slots: u64, count: u64) -> u64 {
+    let any = r.range(0, slots);
+    r.pick(&[0, count, count, count + 1, count.saturating_sub(1), any, any, slots]).min(slots)
+}

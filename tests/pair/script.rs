@@ -1,0 +1,101 @@
+//! The script program by the model: what `./obikuteru pair` must print.
+
+use crate::call::{Call, Kind, Lent};
+use crate::model::{Arriving, Records, Settings};
+use crate::report::answer_name;
+use crate::side::Side;
+use std::io::{Read, Write};
+
+/// The most slots of a script's pair.
+const SLOTS: u64 = 4_096;
+
+/// Answers the script on standard input.
+pub fn run() {
+    let mut input = Vec::new();
+    std::io::stdin().read_to_end(&mut input).expect("standard input can be read");
+    let output = answers(&input);
+    std::io::stdout().write_all(output.as_bytes()).expect("standard output can be written");
+}
+
+/// All output lines; the last one tells of a bad line, if there is one.
+fn answers(input: &[u8]) -> String {
+    let mut output = String::new();
+    let mut side: Option<Side> = None;
+    let text = input.strip_suffix(b"\n").unwrap_or(input);
+    if input.is_empty() {
+        return output;
+    }
+    for (at, line) in text.split(|&byte| byte == b'\n').enumerate() {
+        match answer(line, &mut side) {
+            Some(line) => output += &(line + "\n"),
+            None => {
+                output += &format!("bad line {}\n", at + 1);
+                break;
+            }
+        }
+    }
+    output
+}
+
+/// The answer to a line, or none if it is bad. The first line makes the pair, and no other may.
+fn answer(line: &[u8], side: &mut Option<Side>) -> Option<String> {
+    let call = call(line)?;
+    if call.is_fresh() != side.is_none() {
+        return None;
+    }
+    let side = side.get_or_insert_with(|| {
+        let table = vec![0; SLOTS as usize];
+        Side::new(Records::default(), table.clone(), table)
+    });
+    side.call_model(&lent(call, side));
+    let q = side.records.queues[call.queue];
+    let word = match (call.kind, side.answer) {
+        (Kind::Fresh { .. }, 0) => "ok".to_string(),
+        (Kind::Departure { .. }, 0) => format!("departed {}", side.packet.0),
+        _ => answer_name(&call, side.answer),
+    };
+    Some(format!("{word} {} {}", q.probability, q.bytes))
+}
+
+/// The call with tables of the slots, which are 0 after a refused fresh.
+fn lent(call: Call, side: &Side) -> Call {
+    let lent = Lent::both(side.records.shared.slots as usize);
+    let kind = match call.kind {
+        Kind::Arrival { packet, .. } => Kind::Arrival { lent, packet },
+        Kind::Departure { .. } => Kind::Departure { lent },
+        other => other,
+    };
+    Call { kind, ..call }
+}
+
+/// A line of one of the four forms: fields one space apart.
+fn call(line: &[u8]) -> Option<Call> {
+    let line = std::str::from_utf8(line).ok()?;
+    let mut words = line.split(' ');
+    let name = words.next()?;
+    let fields: Vec<u64> = words.map(number).collect::<Option<_>>()?;
+    let none = Lent::both(0);
+    match (name, &fields[..]) {
+        ("c", &[slots, t0, b0, r0, t1, b1, r1]) => {
+            let narrow = fields.iter().all(|&field| field <= u64::from(u32::MAX));
+            let settings = |target, buffer, reserve| Settings { target, buffer, reserve, clock: 0 };
+            let pair = [settings(t0, b0, r0), settings(t1, b1, r1)];
+            (narrow && slots <= SLOTS).then(|| Call::fresh(slots, pair))
+        }
+        ("a", &[queue, clock, handle, size, ecn, u]) => {
+            let narrow = [handle, size, u].map(|field| u32::try_from(field).ok());
+            let [Some(handle), Some(size), Some(u)] = narrow else { return None };
+            let packet = Arriving { handle, size, ecn: ecn == 1, u };
+            (queue <= 1 && ecn <= 1).then(|| Call::arrival(queue as usize, none, clock, packet))
+        }
+        ("d", &[queue, clock]) if queue <= 1 => Some(Call::departure(queue as usize, none, clock)),
+        ("t", &[queue, clock]) if queue <= 1 => Some(Call::tick(queue as usize, clock)),
+        _ => None,
+    }
+}
+
+/// A plain decimal number of 64 bits; leading zeros are allowed.
+fn number(word: &str) -> Option<u64> {
+    let digits = !word.is_empty() && word.bytes().all(|byte| byte.is_ascii_digit());
+    digits.then(|| word.parse().ok()).flatten()
+}
