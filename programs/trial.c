@@ -1,8 +1,9 @@
 /*
- * trial QUEUEING RATE DELAY LOG: joins two TUN devices, which it makes, `trial-a` and `trial-b`. What comes from the first goes to the second
- * through the queueing (fifo, ring, calm) at RATE bytes a second; both directions take DELAY microseconds more. It prints `ready` once the
- * devices are there, and at SIGTERM, SIGINT or the end of standard input writes the log and prints what it counted:
- *   packets bytes mean-delay-us early full marked refused
+ * trial QUEUEING RATE DELAY LOG: joins two TUN devices, which it makes, `trial-a` and `trial-b`. What comes from the first goes to
+ * the second through the queueing (fifo, ring, calm, pair) at RATE bytes a second; both directions take DELAY microseconds more. It
+ * prints `ready` once the devices are there, and at SIGTERM, SIGINT or the end of standard input writes the log and prints what it
+ * counted:
+ *   packets bytes mean-delay-us early full marked refused voice-packets voice-mean-delay-us voice-dropped
  */
 #define _GNU_SOURCE
 #include "shared/say.h"
@@ -28,7 +29,7 @@
 static const struct queueing *queueing;
 static uint64_t rate, delay, began;
 static uint64_t free_at; /* the clock at which the bottleneck has sent its last packet */
-static uint64_t sent, sent_bytes, waited;
+static uint64_t sent, sent_bytes, waited, voice_sent, voice_waited;
 static struct line forward, back; /* what is under way after the bottleneck, and the other way */
 static volatile sig_atomic_t ended;
 
@@ -111,6 +112,10 @@ static void send_next(uint64_t clock)
     sent++;
     sent_bytes += packets[number].length;
     waited += clock - packets[number].clock;
+    if (is_voice(number)) {
+        voice_sent++;
+        voice_waited += clock - packets[number].clock;
+    }
     if (!put_on_line(&forward, number, free_at + delay))
         give_back(number);
 }
@@ -166,7 +171,7 @@ static void run(struct pollfd *devices)
 
 static const struct queueing *named(const char *name)
 {
-    const struct queueing *const all[] = {&fifo, &ring, &calm};
+    const struct queueing *const all[] = {&fifo, &ring, &calm, &pair};
 
     for (size_t i = 0; i < sizeof all / sizeof *all; i++)
         if (strcmp(all[i]->name, name) == 0)
@@ -174,12 +179,18 @@ static const struct queueing *named(const char *name)
     return NULL;
 }
 
+static uint64_t mean(uint64_t sum, uint64_t count)
+{
+    return count == 0 ? 0 : sum / count;
+}
+
 static int finish_trial(const char *log)
 {
     if (!write_recording(log))
         return FAILED;
-    printf("%" PRIu64 " %" PRIu64 " %" PRIu64 " %" PRIu64 " %" PRIu64 " %" PRIu64 " %" PRIu64 "\n", sent, sent_bytes, sent == 0 ? 0 : waited / sent,
+    printf("%" PRIu64 " %" PRIu64 " %" PRIu64 " %" PRIu64 " %" PRIu64 " %" PRIu64 " %" PRIu64, sent, sent_bytes, mean(waited, sent),
            outcome.dropped_early, outcome.dropped_full, outcome.marked, outcome.refused);
+    printf(" %" PRIu64 " %" PRIu64 " %" PRIu64 "\n", voice_sent, mean(voice_waited, voice_sent), outcome.voice_dropped);
     return finish(DONE);
 }
 

@@ -11,8 +11,10 @@ bool note_arrival(uint32_t answer, int number)
     outcome.dropped_full += answer == OBIKUTERU_DROPPED_BYTES || answer == OBIKUTERU_DROPPED_SLOTS;
     if (answer == OBIKUTERU_MARKED)
         mark_packet(number);
-    if (answer != OBIKUTERU_ENQUEUED && answer != OBIKUTERU_MARKED)
+    if (answer != OBIKUTERU_ENQUEUED && answer != OBIKUTERU_MARKED) {
+        outcome.voice_dropped += is_voice(number);
         return false;
+    }
     outcome.admitted++;
     return true;
 }

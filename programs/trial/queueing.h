@@ -11,6 +11,7 @@ enum { BUFFER = 256000, SLOTS = 1024, TARGET = 15000 };
 /* What became of the packets, beside what the library counts. */
 struct outcome {
     uint64_t arrived, admitted, marked, dropped_early, dropped_full, refused;
+    uint64_t voice_dropped;
 };
 
 extern struct outcome outcome;
@@ -27,7 +28,7 @@ struct queueing {
     void (*tick)(uint64_t clock);
 };
 
-extern const struct queueing fifo, ring, calm;
+extern const struct queueing fifo, ring, calm, pair;
 
 /* Counts an arrival's answer; whether the packet is admitted. A marked one is marked. */
 bool note_arrival(uint32_t answer, int number);

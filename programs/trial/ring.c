@@ -60,7 +60,8 @@ static void tick(uint64_t clock)
 
     outcome.refused += obikuteru_refused(answer);
     if (!obikuteru_refused(answer))
-        record_call((struct obikuteru_record){.kind = 't', .clock = clock, .bytes = (uint32_t)state.bytes, .probability = state.probability});
+        record_call((struct obikuteru_record){.kind = 't', .clock = clock, .bytes = (uint32_t)state.bytes,
+                                              .probability = state.probability});
 }
 
 const struct queueing ring = {"ring", begin, arrival, departure, due, tick};
