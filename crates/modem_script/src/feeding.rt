@@ -2,8 +2,11 @@
 use lines::Reader;
 use lines::scan;
 use modem_answers::answer;
+ghost use mathlib.Core.Path.{_≡_};
+ghost use mathlib.Core.Bool.{false};
 ghost use Prim.Native.Nat.{_+_, _≤_};
 ghost use lib.ListN.{length};
+ghost use Rattle.lines.specs.Reader.{begun};
 
 pub struct Runner {
     // A bad line has ended the run.
@@ -22,7 +25,9 @@ pub struct Fed {
 }
 
 // A runner at the start of a script.
-pub fn begin() -> Runner {
+pub fn begin() -> Runner
+    ensures { λ r. ⌜ r ≡ record { over = false; line = 1; reader = begun } ⌝ }
+{
     Runner {
         over: false,
         line: 1,

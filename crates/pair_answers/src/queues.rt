@@ -11,7 +11,7 @@ use units::Bytes;
 use units::Micros;
 ghost use mathlib.Core.Path.{_≡_};
 ghost use Prim.Native.Nat.{min};
-ghost use Rattle.pair_state.specs.Fresh.{setupOf};
+ghost use Rattle.pair_state.specs.Fresh.{setupOf, zeroPair};
 ghost use Rattle.pair_state.specs.Queues.{other, own, paired, storing};
 ghost use Rattle.pair_answers.specs.Named.{named};
 
@@ -78,8 +78,10 @@ pub(crate) fn setup(target: u64, buffer: u64, reserve: u64) -> Setup
     }
 }
 
-// Before the first line: no queues.
-pub fn none() -> Pair {
+// Before the first line: no queues. A refused fresh call returns the all-zero records.
+pub fn none() -> Pair
+    ensures { λ r. ⌜ r ≡ zeroPair ⌝ }
+{
     let nothing = setup(0, 0, 0);
     let made = fresh(0, nothing, nothing);
     made.pair

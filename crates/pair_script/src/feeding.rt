@@ -3,8 +3,12 @@ use lines::Reader;
 use lines::scan;
 use pair_answers::answer;
 use pair_state::Pair;
+ghost use mathlib.Core.Path.{_≡_};
+ghost use mathlib.Core.Bool.{false};
 ghost use Prim.Native.Nat.{_+_, _≤_};
 ghost use lib.ListN.{length};
+ghost use Rattle.lines.specs.Reader.{begun};
+ghost use Rattle.pair_state.specs.Fresh.{zeroPair};
 
 pub struct Runner {
     // A bad line has ended the run.
@@ -24,7 +28,9 @@ pub struct Fed {
 }
 
 // A runner at the start of a script.
-pub fn begin() -> Runner {
+pub fn begin() -> Runner
+    ensures { λ r. ⌜ r ≡ record { over = false; line = 1; reader = begun; queues = zeroPair } ⌝ }
+{
     Runner {
         over: false,
         line: 1,
