@@ -11,7 +11,7 @@
  * names the packet to the caller) and a size for each.
  *
  * A second kind of queue, for the sixteen flows of a cable modem, stands further down; at the end,
- * two queues that share one pair of tables.
+ * two queues and then 64 flows that share one pair of tables.
  *
  * Units: times are microseconds, sizes bytes, probabilities whole units of 1/2^32.
  *
@@ -588,6 +588,160 @@ static inline uint32_t obikuteru_pair_tick(const struct obikuteru_shared *shared
 bool obikuteru_pair_well_formed(const struct obikuteru_shared *shared,
                                 const struct obikuteru_pair_queue *intercom,
                                 const struct obikuteru_pair_queue *passengers);
+
+/*
+ * 64 flows in one pair of tables: FQ-PIE. docs/SHARED-TABLES.md has its rules. Each flow sheds load
+ * by itself, with a PIE state of its own, and they are served in turn (deficit round robin, a
+ * quantum of 1,514 bytes), so that one sender's flood is shed from its own flow. A set of flows is
+ * three things that the caller owns and lends to each call:
+ *
+ *   - a record, struct obikuteru_fq;
+ *   - a table of handles and a table of sizes, each of exactly `slots` 32-bit numbers.
+ *
+ * A packet's flow is a hash of its key: 13 bytes, source and destination address, 4 each, source
+ * and destination port, 2 each, and protocol, 1, in whatever order of bytes the caller keeps to.
+ * Draw the salt at random at each start, so that no sender can choose its neighbours.
+ *
+ * What is said of the queue and of the pair's tables holds here too, but for this:
+ *   - One clock and one tick serve all flows. A tick updates all 64.
+ *   - Bytes and slots are shared: rule 1 reads the bytes of all flows, rule 2 the packets of all.
+ *   - A departure chooses the flow; the answer names it.
+ *   - Every call tests the whole record, 64 flows and both lists.
+ *   - Save the record and both tables together, with OBIKUTERU_FQ_VERSION and its size.
+ *   - After 108 let the flows run empty, then start afresh. After 109 the handles of a flow stand
+ *     in the table as those of a pair's queue do.
+ */
+struct obikuteru_flow {
+    uint64_t probability; /* as in struct obikuteru_pair_queue, down to `tail` */
+    uint64_t old_delay;
+    uint64_t allowance;
+    uint64_t accumulated;
+    uint64_t average;
+    uint64_t measuring;
+    uint64_t start;
+    uint64_t counted;
+    uint64_t count; /* packets of this flow */
+    uint64_t bytes; /* bytes of this flow */
+    uint64_t head;
+    uint64_t tail;
+};
+
+struct obikuteru_fq {
+    uint64_t target;      /* target delay, 1,000 to 100,000 microseconds */
+    uint64_t buffer;      /* most bytes that may be queued, 1 to 16,777,216 */
+    uint64_t slots;       /* slots of the tables, 1 to 65,536 */
+    uint64_t salt;        /* added to the hash of a key, below 2^32 */
+    uint64_t clock;       /* clock of the last accepted call, at most 2^48 */
+    uint64_t last;        /* clock of the last accepted tick, or of fresh */
+    uint64_t count;       /* packets of all flows */
+    uint64_t bytes;       /* bytes of all flows */
+    uint64_t used;        /* slots from this place on were never taken */
+    uint64_t freed;       /* the first of the freed slots, if there is one */
+    uint64_t spare;       /* how many slots are freed; with `count` they make `used` */
+    uint64_t verdicts[5]; /* arrivals answered 0 to 4; their sum is at most 2^48 */
+    uint64_t first;       /* place in `order` of the first flow, below 64 */
+    uint64_t old;         /* flows in the old list: at `first` and on, around the end */
+    uint64_t listed;      /* flows in both lists: the new list stands behind the old one */
+    uint64_t order[64];   /* the lists' flows, 0 to 63, each at most once */
+    struct obikuteru_flow flow[64];
+    uint32_t deficits[64]; /* each flow's deficit and 65,535: 0 to 67,049 */
+};
+
+/* Raised whenever the layout or the meaning of the record changes. */
+#define OBIKUTERU_FQ_VERSION 1u
+
+/* What a departure hands out. */
+struct obikuteru_flow_packet {
+    uint32_t flow;
+    uint32_t handle;
+    uint32_t size;
+};
+
+/*
+ * A call answers as the queue's does, with these readings: 102 covers totals, lists and deficits
+ * too; 106 is that no flow holds a packet; 109 covers a link that leads to no slot too, and may
+ * be given to an arrival. A refused call changes nothing, but that the packet of a refused
+ * departure is {0, 0, 0} and a refused fresh writes an all-zero record, which every call refuses.
+ */
+
+/* The flow, 0 to 63, of a packet with this key. */
+uint32_t obikuteru_fq_flow(const uint8_t key[13], uint32_t salt);
+
+/*
+ * The library's own entries: they take the record in its parts, 19 words, the order, the flows'
+ * 768 words and the deficits. Call them by the functions below.
+ */
+uint32_t obikuteru_fq_fresh_of(uint64_t *common, uint64_t *order, uint64_t *flows,
+                               uint32_t *deficits, uint64_t target, uint64_t buffer,
+                               uint64_t slots, uint32_t salt, uint64_t clock);
+uint32_t obikuteru_fq_arrival_of(uint64_t *common, uint64_t *order, uint64_t *flows,
+                                 uint32_t *deficits, uint32_t *handles, size_t handles_len,
+                                 uint32_t *sizes, size_t sizes_len, uint64_t clock,
+                                 const uint8_t *key, uint32_t handle, uint32_t size, bool ecn,
+                                 uint32_t u);
+uint32_t obikuteru_fq_departure_of(uint64_t *common, uint64_t *order, uint64_t *flows,
+                                   uint32_t *deficits, const uint32_t *handles,
+                                   size_t handles_len, uint32_t *sizes, size_t sizes_len,
+                                   uint64_t clock, uint32_t *packet);
+uint32_t obikuteru_fq_tick_of(uint64_t *common, const uint64_t *order, uint64_t *flows,
+                              const uint32_t *deficits, uint64_t clock);
+bool obikuteru_fq_well_formed_of(const uint64_t *common, const uint64_t *order,
+                                 const uint64_t *flows, const uint32_t *deficits);
+
+/*
+ * Fresh flows: nothing queued, every allowance full. The salt is any number of 32 bits. Answers
+ * ACCEPTED or 101. The tables need no preparation.
+ */
+static inline uint32_t obikuteru_fq_fresh(struct obikuteru_fq *fq, uint64_t target,
+                                          uint64_t buffer, uint64_t slots, uint32_t salt,
+                                          uint64_t clock)
+{
+    return obikuteru_fq_fresh_of(&fq->target, fq->order, &fq->flow[0].probability, fq->deficits,
+                                 target, buffer, slots, salt, clock);
+}
+
+/*
+ * A packet with this key, of `size` bytes, arrives. Answers a verdict, or 102, 103, 104, 107, 108
+ * or 109, the last only for a packet that would be enqueued or marked.
+ */
+static inline uint32_t obikuteru_fq_arrival(struct obikuteru_fq *fq, uint32_t *handles,
+                                            size_t handles_len, uint32_t *sizes,
+                                            size_t sizes_len, uint64_t clock,
+                                            const uint8_t key[13], uint32_t handle,
+                                            uint32_t size, bool ecn, uint32_t u)
+{
+    return obikuteru_fq_arrival_of(&fq->target, fq->order, &fq->flow[0].probability, fq->deficits,
+                                   handles, handles_len, sizes, sizes_len, clock, key, handle,
+                                   size, ecn, u);
+}
+
+/*
+ * The packet that is served next leaves: its flow, handle and size are written to `packet`.
+ * Answers ACCEPTED or 102, 103, 104, 106, 109.
+ */
+static inline uint32_t obikuteru_fq_departure(struct obikuteru_fq *fq, const uint32_t *handles,
+                                              size_t handles_len, uint32_t *sizes,
+                                              size_t sizes_len, uint64_t clock,
+                                              struct obikuteru_flow_packet *packet)
+{
+    return obikuteru_fq_departure_of(&fq->target, fq->order, &fq->flow[0].probability,
+                                     fq->deficits, handles, handles_len, sizes, sizes_len, clock,
+                                     &packet->flow);
+}
+
+/* The periodic update of all flows. Answers ACCEPTED or 102, 104, 105. */
+static inline uint32_t obikuteru_fq_tick(struct obikuteru_fq *fq, uint64_t clock)
+{
+    return obikuteru_fq_tick_of(&fq->target, fq->order, &fq->flow[0].probability, fq->deficits,
+                                clock);
+}
+
+/* Whether the record is one that the calls accept (not refusal 2). */
+static inline bool obikuteru_fq_well_formed(const struct obikuteru_fq *fq)
+{
+    return obikuteru_fq_well_formed_of(&fq->target, fq->order, &fq->flow[0].probability,
+                                       fq->deficits);
+}
 
 #ifdef __cplusplus
 }

@@ -1,0 +1,74 @@
+-- 18: a flow is its PIE state, its count and bytes, and the head and tail of its chain.
+use mathlib.Core.Bool.{Bool, cond, not}
+use Prim.Native.Nat.{ℕ}
+use lib.Dec.{eqb}
+use Rattle.units.specs.Kinds.{bytes, micros, prob}
+use Rattle.pie.specs.declared.Backlog.{Backlog}
+use Rattle.pie.specs.declared.Pie.{Pie}
+use Rattle.pie.specs.declared.Rate.{Rate}
+use Rattle.store.specs.declared.Ends.{Ends}
+use Rattle.fq_state.specs.declared.Flow.{Flow}
+
+-- a word that is not 0 says yes
+abbrev pub isSet : (word : ℕ) → Bool
+isSet word = not (eqb word 0)
+
+abbrev pub rateOf : Flow → Rate
+rateOf f =
+    record { average = micros (f .average); measuring = isSet (f .measuring); start = micros (f .start); counted = bytes (f .counted) }
+
+abbrev pub pieOf : Flow → Pie
+pieOf f =
+    record {
+      prob = prob (f .prob);
+      old = micros (f .old);
+      allowance = micros (f .allowance);
+      accumulated = prob (f .accumulated);
+      rate = rateOf f;
+    }
+
+abbrev pub backlogOf : Flow → Backlog
+backlogOf f = record { count = f .count; bytes = bytes (f .bytes) }
+
+abbrev pub endsOf : Flow → Ends
+endsOf f = record { head = f .head; tail = f .tail }
+
+-- the word of the flag `measuring`: left as it is where it says so already, else 1 or 0
+abbrev pub flagWord : (word : ℕ) (said : Bool) → ℕ
+flagWord word said = cond (isSet word) (cond said word 0) (cond said 1 0)
+
+-- a flow with this PIE state, these packets and this chain
+unfoldable pub flowWith : Flow → Pie → Backlog → Ends → Flow
+flowWith f pie backlog ends =
+    record {
+      prob = pie .prob .0;
+      old = pie .old .0;
+      allowance = pie .allowance .0;
+      accumulated = pie .accumulated .0;
+      average = pie .rate .average .0;
+      measuring = flagWord (f .measuring) (pie .rate .measuring);
+      start = pie .rate .start .0;
+      counted = pie .rate .counted .0;
+      count = backlog .count;
+      bytes = backlog .bytes .0;
+      head = ends .head;
+      tail = ends .tail;
+    }
+
+-- nothing queued, nothing measured
+abbrev pub emptyFlow : (allowance : ℕ) → Flow
+emptyFlow allowance =
+    record {
+      prob = 0;
+      old = 0;
+      allowance = allowance;
+      accumulated = 0;
+      average = 0;
+      measuring = 0;
+      start = 0;
+      counted = 0;
+      count = 0;
+      bytes = 0;
+      head = 0;
+      tail = 0;
+    }
