@@ -1,0 +1,32 @@
+-- A look at the ring is a look at its new and its old list, by rule 26's own words; so is choosing, with any number of looks.
+use mathlib.Core.Path.{_≡_}
+use mathlib.Core.Bool.{true}
+use mathlib.Core.List.{List}
+use Prim.Native.Nat.{ℕ}
+use lib.ListN.{length}
+use Rattle.schedule.specs.Choosing.{Choice, Look, chooseIn, look, moves, nobody, serves}
+use Rattle.schedule.specs.Ring.{Schedule, newList, oldList}
+use Rattle.schedule.specs.WellFormed.{wellListed}
+use Rattle.schedule_guarantees.specs.Kept.{Sound}
+use Rattle.schedule_guarantees.specs.TwoLists.{Found, Served, TwoLists, found, goesOn, lists, none, serveIn, servedBy, takes}
+
+abbrev pub twoLists : Schedule → TwoLists
+twoLists s = lists (newList s) (oldList s) (s .deficits)
+
+abbrev pub asFound : Look → Found
+asFound nobody = none
+asFound (serves flow) = takes flow
+asFound (moves next) = goesOn (twoLists next)
+
+abbrev pub AsTwoLists : Type 0
+AsTwoLists =
+    (counts : List ℕ) (s : Schedule) → length (s .order) ≡ 64 → wellListed counts s ≡ true →
+    asFound (look counts s) ≡ found counts (twoLists s)
+
+abbrev pub asServed : Choice → Served
+asServed c = servedBy (c .flow) (twoLists (c .schedule))
+
+abbrev pub ChoosesAsTwoLists : Type 0
+ChoosesAsTwoLists =
+    (looks : ℕ) (counts : List ℕ) (s : Schedule) → Sound counts s →
+    asServed (chooseIn looks counts s) ≡ serveIn looks counts (twoLists s)

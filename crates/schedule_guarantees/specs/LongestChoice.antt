@@ -1,0 +1,26 @@
+-- 26: 2,879 moves do happen. All 64 flows stand in the new list, each with a deficit of −65,535, and only flow 63 has a packet.
+use mathlib.Core.Path.{_≡_}
+use mathlib.Core.List.{List, [], _∷_, _++_}
+use Prim.Native.Nat.{ℕ, zero, suc}
+use lib.ListN.{replicate}
+use Rattle.schedule.specs.Choosing.{choose, chooseIn, mostLooks}
+use Rattle.schedule.specs.Ring.{Schedule, scheduleOf}
+use Rattle.schedule_guarantees.specs.ChoosingEnds.{movesIn}
+
+-- 0, 1, .., n − 1
+abbrev upTo : (n : ℕ) → List ℕ
+upTo zero = []
+upTo (suc n) = upTo n ++ n ∷ []
+
+abbrev pub longest : Schedule
+longest = scheduleOf (record { first = 0; old = 0; listed = 64 }) (upTo 64) (replicate 64 0)
+
+abbrev pub lastOnly : List ℕ
+lastOnly = replicate 63 0 ++ 1 ∷ []
+
+-- with 2,879 looks the flow is not found; with 2,880 it is
+abbrev pub LongestChoice : Type 0
+LongestChoice =
+    (movesIn mostLooks lastOnly longest ≡ 2879)
+    × (chooseIn 2879 lastOnly longest .flow ≡ 0)
+    × (choose lastOnly longest .flow ≡ 63)
