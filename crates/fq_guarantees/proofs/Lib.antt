@@ -1,0 +1,23 @@
+-- The proofs of the claims in specs/, and what they share.
+pub mod Replies
+pub mod Flows
+pub mod Facts
+pub mod WhenAccepted
+pub mod FlowKept
+pub mod OneFlow
+pub mod FreshFormed
+pub mod Sheds
+pub mod Refusals
+pub mod OwnFlowAlone
+pub mod AllowanceLasts
+pub mod Recovery
+pub mod RecoveryByTarget
+pub mod Spacing
+pub mod MeasuredWhileQueued
+pub mod NeverGivenUp
+pub mod PartsKept
+pub mod ArrivalKept
+pub mod DepartureKept
+pub mod Kept
+pub mod NeverMalformed
+pub mod ServesQueued

@@ -1,0 +1,32 @@
+-- What holds of 64 flows over one pair of tables, over lists of calls. Each claim stands in a file of its own; proofs/ proves it.
+--
+--   Calls                 what 64 flows are asked
+--   Acceptance            the number that refuses a call, and the reply where none does
+--   SixtyFour             a record of 64 flows, which every call keeps
+--   Lists                 lists of calls on such a record
+--   Shedding              each flow as a kind of queue that sheds load by PIE
+--   Refusals              demand 1: refused by the lowest number that applies, and then nothing changes
+--   Kept                  23 is kept by every call; refusal 2 is never given from fresh on
+--   ServesQueued          26: where a packet is queued, choosing ends at a listed flow that has one
+--   OwnFlowAlone          a verdict reads the arrival's own flow alone, but for rules 1 and 2
+--   AllowanceLasts        question 2: a flow's allowance lasts its tick periods, whatever ticks are tried; a full one lasts 150 ms
+--   Recovery              demand 3 and question 4: 1,000 ticks on an empty flow, and 150 ms with no early verdict
+--   RecoveryByTarget      Q-13: as many ticks suffice as `ticksToRecover` says of the target
+--   Spacing               Q-3: a flow's early verdicts stand at least 0.85 and less than 8.5 of added probability apart
+--   MeasuredWhileQueued   Q-6: wherever a measurement of a flow runs, a packet of it is queued
+--   NeverGivenUp          Q-6: from fresh, a measurement ends before the flow empties, or as it does
+pub mod Calls
+pub mod Acceptance
+pub mod SixtyFour
+pub mod Lists
+pub mod Shedding
+pub mod Refusals
+pub mod Kept
+pub mod ServesQueued
+pub mod OwnFlowAlone
+pub mod AllowanceLasts
+pub mod Recovery
+pub mod RecoveryByTarget
+pub mod Spacing
+pub mod MeasuredWhileQueued
+pub mod NeverGivenUp
