@@ -76,7 +76,8 @@ counts-fit-requires c κs = search needs
 
 returns : tie.Need-returns
 returns c =
-    let k = c .before in part (k .before .before .args .self) _ _ (λ f. le-leb _ mostVerdicts (f .total-high)) (k .counts-fit .ensures) (c .if1 .taken)
+    let k = c .before in
+    part (k .before .before .args .self) _ _ (λ f. le-leb _ mostVerdicts (f .total-high)) (k .counts-fit .ensures) (c .if1 .taken)
 
 in-range-requires : tie.Need-in-range-requires
 in-range-requires c κs = search needs
