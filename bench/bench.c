@@ -62,4 +62,5 @@ static void print_answers(void)
         printf("inactive %s %zu\n", stream->name, inactive);
 }
 
+#include "ring.h"
 #include "rounds.h"

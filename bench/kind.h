@@ -7,6 +7,8 @@
  *                  its calls, as CALL(..): on the state s, with the table of counts c if it has one,
  *                  of the queue q, for the event e, with tables h and z of `slots`, into the packet p
  *   COUNTED        if it has a table of counts beside its records
+ *   BLOCK          how many situations are timed together, if not 64
+ *   OWN_TABLES     if each call of a block is lent tables of its own
  * and `stream`, the stream whose events run.
  */
 #ifndef KIND_H
@@ -17,12 +19,21 @@
 #include <stdint.h>
 
 /* Situations are timed in blocks of this many, so that their states stay in the nearest cache. */
+#ifndef BLOCK
 #define BLOCK 64
+#endif
 
-/* The tables that every call of a block is lent: an arrival only writes to them, and a departure
- * only reads its head. */
+/* The tables that the calls of a block are lent. In a ring all are lent the same: an arrival only
+ * writes to them, and a departure only reads its head. */
+#ifdef OWN_TABLES
+#define LENT(table, i) ((table)[i])
+static uint32_t block_handles[BLOCK][MOST_SLOTS];
+static uint32_t block_sizes[BLOCK][MOST_SLOTS];
+#else
+#define LENT(table, i) (table)
 static uint32_t block_handles[MOST_SLOTS];
 static uint32_t block_sizes[MOST_SLOTS];
+#endif
 
 struct side {
     const char *name;

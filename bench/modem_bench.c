@@ -56,4 +56,5 @@ static void print_answers(void)
            (unsigned long long)activities[1], (unsigned long long)activities[2]);
 }
 
+#include "ring.h"
 #include "rounds.h"

@@ -1,12 +1,13 @@
 /*
- * The bench of a kind of queue: all sides run the same 1,000,000 events of one stream. First every
+ * The bench of a kind of queue: all sides run the same events of one stream, 1,000,000 of them unless
+ * the kind says EVENTS. First every
  * answer, every packet and every state after it is compared. Then come the timed rounds, each in
  * many short parts; the sides take turns part by part, so that whatever else the machine does falls
  * on all alike.
  *   mix: each side runs all events on queues of its own, 2,000 events to a part.
  *   arrival, departure, tick: calls of one kind, sampled from the mixed run together with the
- *     state that they met there. 64 such states, a part, are copied to the side's own records, and
- *     only the 64 calls are timed.
+ *     state that they met there. A block of such states, a part, is copied to the side's own records,
+ *     and only their calls are timed.
  * How ratios are made of the times: ratios.h. Nothing is allocated or first touched inside a timed
  * part.
  *
@@ -17,6 +18,11 @@
  *   agrees(s, e)   whether what a side counted after an event is what plain C did
  *   agree(s)       the same at the end of the run
  *   print_answers  prints how plain C answered
+ * and what a situation keeps of the tables (ring.h, for a queue in a ring):
+ *   struct elements
+ *   clashes(e, block)     whether a call cannot be in this block, as its tables are another's
+ *   elements_of(e, block) the elements, by plain C's tables before the event
+ *   place(i, s, e, x)     puts those of the i-th call of a block into the tables that it is lent
  */
 #include <stdio.h>
 #include <stdlib.h>
@@ -24,7 +30,9 @@
 
 #include "timer.h"
 
+#ifndef EVENTS
 #define EVENTS 1000000u
+#endif
 #define CHUNK 2000u
 #define PARTS 512u /* the most parts of a round */
 #define SITUATIONS (PARTS * BLOCK)
@@ -37,7 +45,7 @@ struct situations {
     size_t n;
     EVENT event[SITUATIONS];
     RECORD before[SITUATIONS];
-    struct plain_packet head[SITUATIONS];
+    struct elements elements[SITUATIONS];
 };
 
 static EVENT events[EVENTS];
@@ -69,41 +77,33 @@ static void check_mix(void)
             differ(sides[s].name, "the rows after event", EVENTS);
 }
 
-/* Samples each kind evenly over the mixed run. Heads in one block stand at different places. */
+/* Samples each kind evenly over the mixed run. */
 static void collect(void)
 {
-    static size_t taken[MOST_SLOTS]; /* by which block of departures, from 1 */
     size_t total[KINDS] = {0}, seen[KINDS] = {0};
     for (size_t i = 0; i < EVENTS; i++)
         total[events[i].kind]++;
     on_plain_fresh();
     for (size_t i = 0; i < EVENTS; i++) {
-        uint8_t kind = events[i].kind;
-        uint32_t q = QUEUE(&events[i]), first = on_plain_queues[q].first;
-        struct situations *s = &situations[kind];
+        const EVENT *e = &events[i];
+        struct situations *s = &situations[e->kind];
         size_t block = s->n / BLOCK + 1;
-        bool due = s->n < SITUATIONS && s->n * total[kind] <= seen[kind]++ * SITUATIONS;
-        bool clash = kind == DEPARTURE && taken[first] == block;
-        if (due && !clash) {
-            s->event[s->n] = events[i];
-            s->before[s->n] = on_plain_queues[q];
-            s->head[s->n].handle = on_plain_handles[q][first];
-            s->head[s->n].size = on_plain_sizes[q][first];
+        bool due = s->n < SITUATIONS && s->n * total[e->kind] <= seen[e->kind]++ * SITUATIONS;
+        if (due && !clashes(e, block)) {
+            s->event[s->n] = *e;
+            s->before[s->n] = on_plain_queues[QUEUE(e)];
+            s->elements[s->n] = elements_of(e, block);
             s->n++;
-            if (kind == DEPARTURE)
-                taken[first] = block;
         }
-        on_plain_mix(&events[i], 1);
+        on_plain_mix(e, 1);
     }
 }
 
 /* Prepares the tables of a block of situations. */
 static void lend(const struct situations *s, size_t at)
 {
-    for (size_t i = at; i < at + BLOCK; i++) {
-        block_handles[s->before[i].first] = s->head[i].handle;
-        block_sizes[s->before[i].first] = s->head[i].size;
-    }
+    for (size_t i = 0; i < BLOCK; i++)
+        place(i, &s->before[at + i], &s->event[at + i], &s->elements[at + i]);
 }
 
 /* All sides must leave every state of every block as plain C does. */
@@ -115,6 +115,7 @@ static void check_blocks(enum kind kind)
         sides[0].load(&s->before[at]);
         uint64_t sum = sides[0].block[kind](&s->event[at]);
         for (size_t k = 1; k < SIDES; k++) {
+            lend(s, at);
             sides[k].load(&s->before[at]);
             if (sides[k].block[kind](&s->event[at]) != sum)
                 differ(sides[k].name, "a situation from", at);
@@ -145,9 +146,9 @@ static size_t time_blocks(enum kind kind, size_t round)
     const struct situations *c = &situations[kind];
     for (size_t part = 0; part < c->n / BLOCK; part++) {
         size_t at = part * BLOCK;
-        lend(c, at);
         for (size_t turn = 0; turn < SIDES; turn++) {
             size_t s = (turn + part + round) % SIDES;
+            lend(c, at);
             sides[s].load(&c->before[at]);
             uint64_t begin = timer();
             sink += sides[s].block[kind](&c->event[at]);

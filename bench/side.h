@@ -47,7 +47,7 @@ static RECORD SIDE(record)(size_t queue)
 /* The next n events on the queues. */
 static uint64_t SIDE(mix)(const EVENT *e, size_t n)
 {
-    PACKET packet = {0, 0};
+    PACKET packet = {0};
     size_t slots = stream->slots;
     uint64_t sum = 0;
     for (const EVENT *end = e + n; e < end; e++) {
@@ -82,18 +82,19 @@ static uint64_t SIDE(arrivals)(const EVENT *e)
     size_t slots = stream->slots;
     uint64_t sum = 0;
     for (size_t i = 0; i < BLOCK; i++)
-        sum += ARRIVE(&SIDE(states)[i], SIDE(block_counts), &e[i], block_handles, block_sizes);
+        sum += ARRIVE(&SIDE(states)[i], SIDE(block_counts), &e[i], LENT(block_handles, i),
+                      LENT(block_sizes, i));
     return sum;
 }
 
 static uint64_t SIDE(departures)(const EVENT *e)
 {
-    PACKET packet = {0, 0};
+    PACKET packet = {0};
     size_t slots = stream->slots;
     uint64_t sum = 0;
     for (size_t i = 0; i < BLOCK; i++) {
-        sum += DEPART(&SIDE(states)[i], SIDE(block_counts), &e[i], block_handles, block_sizes,
-                      &packet);
+        sum += DEPART(&SIDE(states)[i], SIDE(block_counts), &e[i], LENT(block_handles, i),
+                      LENT(block_sizes, i), &packet);
         sum += packet.handle + (uint64_t)packet.size;
     }
     return sum;

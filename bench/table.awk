@@ -5,6 +5,7 @@
 #   activity STREAM INACTIVE QUIESCENT ACTIVE      calls that met a flow so, of a modem's stream
 #   inactive STREAM N                              events that met the queue so, of a calm stream
 #   intercom STREAM CALLS                          calls of a pair's first queue
+#   flows STREAM LISTED HOLDING                    of 64 flows, on average and in hundredths
 #   rounds STREAM N                                once for each process
 #   time STREAM WHAT SIDE MEDIAN LEAST GREATEST    ratios to plain C, once for each process
 #   count STREAM WHAT SIDE INSTRUCTIONS            per call, per line of a script, or per record of a log
@@ -23,6 +24,7 @@ $1 == "verdicts" { for (i = 1; i <= 5; i++) verdict[$2, i] = $(i + 2) }
 $1 == "activity" { for (i = 1; i <= 3; i++) activity[$2, i] = $(i + 2); modem[$2] = 1 }
 $1 == "inactive" { inactive[$2] = $3 }
 $1 == "intercom" { intercom[$2] = $3; beside[$2] = $2 == "pair" ? "varied" : "full" }
+$1 == "flows" { listed[$2] = $3 / 100; holding[$2] = $4 / 100 }
 $1 == "rounds" { rounds = $3; processes[$2]++ }
 $1 == "time" { add_time($2 SUBSEP $3 SUBSEP $4, $5, $6, $7) }
 $1 == "count" { count[$2, $3, $4] = $5 }
@@ -125,6 +127,8 @@ function print_stream(s) {
         printf "a calm queue, met inactive by %s of them; ", share(inactive[s], all[s])
     if (s in intercom)
         printf "2 queues, %s of the calls for the first; ", share(intercom[s], all[s])
+    if (s in listed)
+        printf "64 flows, of which %.1f were listed and %.1f held packets; ", listed[s], holding[s]
     printf "%d slots; %d processes of %d rounds.\n", slots[s], processes[s], rounds
 }
 
@@ -145,7 +149,7 @@ END {
             printf "Plain C by %s to plain C by gcc, stream %s, time and instructions: %s; %s; %s; %s.\n",
                 tool["clang"], s, by_clang(s, "mix"), by_clang(s, "arrival"),
                 by_clang(s, "departure"), by_clang(s, "tick")
-        if (s in inactive) # measured beside the plain ones; nothing is asked of it
+        if (s in inactive || s in listed) # nothing is asked of it
             continue
         if (s in intercom)
             printf "The pair's entries to the queue's, stream %s to %s, instructions of the library: %s; %s; %s.\n", s,

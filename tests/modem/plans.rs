@@ -3,8 +3,8 @@
 use crate::model::numbers::{CLOCK_MAX, RATE};
 use crate::model::Settings;
 use crate::shared::random::Random;
-pub use crate::shared::traffic::Phase;
 use crate::shared::traffic::Traffic;
+pub use crate::shared::traffic::{Phase, PHASES};
 
 /// What a flow is made of.
 pub struct Plan {
@@ -16,22 +16,6 @@ pub struct Plan {
     /// Of 100 calls of the modem, how many this flow gets, beside the others.
     pub weight: u64,
 }
-
-/// The phases to choose from, some of them more often than others.
-pub const PHASES: [Phase; 12] = [
-    Phase::Overload,
-    Phase::Overload,
-    Phase::Overload,
-    Phase::Idle,
-    Phase::Burst,
-    Phase::Burst,
-    Phase::Balanced,
-    Phase::Balanced,
-    Phase::Light,
-    Phase::Light,
-    Phase::Draining,
-    Phase::Quiet,
-];
 
 /// How many kinds of plan there are: one for each flow of a modem.
 pub const KINDS: u64 = 16;

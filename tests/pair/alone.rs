@@ -49,7 +49,7 @@ impl Alone {
             Kind::Tick => ring::tick(record, call.clock),
             Kind::Fresh { .. } => return Ok(()),
         };
-        let given = crate::library::Packet { handle: packet.handle, size: packet.size };
+        let given = crate::side::Packet { handle: packet.handle, size: packet.size };
         let same = answer == after.answer
             && handed_back(call, given) == after.packet
             && self.is_like(&after.records.queues[call.queue]);

@@ -1,28 +1,12 @@
 //! Records with one condition broken, or many.
 
+use crate::broken_queue::break_queue;
 use crate::model::formed::{common_slots, common_use, CONDITIONS, QUEUE_CONDITIONS};
 use crate::model::numbers::*;
-use crate::model::{Queue, Records};
+use crate::model::Records;
+use crate::shared::numbers::{above, outside, wild};
 use crate::shared::random::Random;
-use crate::states;
 use crate::words::{queue_of, queue_words, shared_of, shared_words};
-
-/// A number far outside most ranges, or one that looks in range if its high bits are lost.
-fn wild(r: &mut Random, value: u64) -> u64 {
-    let any = r.number();
-    let high = r.pick(&[1 << 32, 1 << 40, 1 << 49, 1 << 63]);
-    r.pick(&[u64::MAX, u64::MAX - 1, 1 << 63, (1 << 63) - 1, value | high, value | high, any])
-}
-
-/// A number just outside a range, or far outside.
-fn outside(r: &mut Random, value: u64, (least, most): (u64, u64)) -> u64 {
-    let far = wild(r, value).max(most + 1);
-    r.pick(&[least.saturating_sub(1), most + 1, most + 1, far])
-}
-
-fn above(r: &mut Random, value: u64, most: u64) -> u64 {
-    outside(r, value, (most + 2, most))
-}
 
 /// Puts wild numbers into a few words of one record, whatever that breaks.
 pub fn scramble(r: &mut Random, records: &mut Records) {
@@ -58,7 +42,8 @@ pub fn break_one(r: &mut Random, records: &mut Records, condition: usize) {
         _ => {
             let (queue, place) =
                 ((condition - 4) / QUEUE_CONDITIONS, (condition - 4) % QUEUE_CONDITIONS);
-            break_queue(r, records, queue, place);
+            let slots = records.shared.slots;
+            break_queue(r, &mut records.queues[queue], slots, place);
         }
     }
 }
@@ -103,85 +88,5 @@ fn break_common(r: &mut Random, records: &mut Records) {
         if common.is_some_and(|common| common_use(records) > common) {
             return;
         }
-    }
-}
-
-fn break_queue(r: &mut Random, records: &mut Records, queue: usize, condition: usize) {
-    let slots = records.shared.slots;
-    let q = &mut records.queues[queue];
-    match condition {
-        0 => q.target = outside(r, q.target, TARGET),
-        1 => break_buffer(r, q),
-        2 => q.last = above(r, q.last, q.clock),
-        3 => q.clock = above(r, q.clock, CLOCK_MAX),
-        4 => q.probability = above(r, q.probability, WHOLE),
-        5 => q.old_delay = above(r, q.old_delay, TIME_MAX),
-        6 => q.allowance = above(r, q.allowance, FULL_ALLOWANCE),
-        7 => q.accumulated = above(r, q.accumulated, FORCED - 1),
-        8 => q.average = above(r, q.average, TIME_MAX),
-        9 => q.head = above(r, q.head, slots - 1),
-        10 => q.tail = above(r, q.tail, slots - 1),
-        11 => q.count = above(r, q.count, slots),
-        12..=14 => break_bytes(r, q, condition),
-        15..=19 => break_measurement(r, q, condition),
-        _ => break_counts(r, q),
-    }
-}
-
-fn break_buffer(r: &mut Random, q: &mut Queue) {
-    q.buffer = above(r, q.buffer, BUFFER.1);
-    if q.count == 0 && r.one_in(2) {
-        q.buffer = 0;
-    }
-}
-
-fn break_bytes(r: &mut Random, q: &mut Queue, condition: usize) {
-    if r.one_in(8) {
-        q.bytes = wild(r, q.bytes); // more than one condition may break
-        return;
-    }
-    match condition {
-        12 => q.bytes = q.count.saturating_sub(1),
-        13 => {
-            q.bytes = SIZE.1 * q.count + 1;
-            q.buffer = q.buffer.max(q.bytes);
-        }
-        _ => q.buffer = q.bytes.saturating_sub(1).max(1),
-    }
-}
-
-fn break_measurement(r: &mut Random, q: &mut Queue, condition: usize) {
-    let runs = condition < 17 || condition == 19;
-    q.measuring = u64::from(runs);
-    if !runs {
-        (q.start, q.counted) = (0, 0);
-    }
-    match condition {
-        15 => q.start = above(r, q.start, q.clock),
-        16 => q.counted = above(r, q.counted, RATE_THRESHOLD - 1),
-        17 => {
-            let any = r.spread(1, q.clock);
-            q.start = r.pick(&[1, q.clock, any]).min(q.clock);
-        }
-        18 => q.counted = r.pick(&[1, 16_383, 8_192]),
-        _ => {
-            q.start = r.pick(&[0, q.clock]);
-            q.measuring = r.pick(&[1, 2, 1 << 32, u64::MAX]);
-        }
-    }
-}
-
-fn break_counts(r: &mut Random, q: &mut Queue) {
-    q.verdicts = states::split(r, COUNTS_MAX + 1);
-    let place = r.range(0, 4) as usize;
-    match r.range(0, 3) {
-        0 => q.verdicts[place] = u64::MAX,
-        1 => {
-            // A sum that is small if it wraps round at 2^64.
-            q.verdicts = [1, 0, 2, 0, 0];
-            q.verdicts[place] = u64::MAX - r.range(0, 2);
-        }
-        2 => q.verdicts = [1 << 63, 1 << 63, 0, r.range(0, 9), 0],
-        _ => {}
     }
 }

@@ -1,19 +1,7 @@
 //! A call with all its arguments.
 
 use crate::model::{Arriving, Settings};
-
-/// How many elements of each table are lent to a call.
-#[derive(Clone, Copy, Debug)]
-pub struct Lent {
-    pub handles: usize,
-    pub sizes: usize,
-}
-
-impl Lent {
-    pub fn both(length: usize) -> Lent {
-        Lent { handles: length, sizes: length }
-    }
-}
+pub use crate::shared::numbers::Lent;
 
 #[derive(Clone, Copy, Debug)]
 pub enum Kind {

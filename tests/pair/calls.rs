@@ -4,6 +4,7 @@ use crate::call::{Call, Lent};
 use crate::model::numbers::*;
 use crate::model::refusals::Refusals;
 use crate::model::{Arriving, Queue};
+use crate::shared::numbers::{tick_clock, wrong_clock};
 use crate::shared::random::Random;
 use crate::side::Side;
 
@@ -17,34 +18,16 @@ pub enum What {
 /// A call to which the wanted ones of refusals 3, 4, 5 and 7 apply where they can.
 pub fn next(r: &mut Random, what: What, queue: usize, side: &Side, wanted: &Refusals) -> Call {
     let q = &side.records.queues[queue];
-    let clock = if wanted[4] { wrong_clock(r, q, wanted[5]) } else { right_clock(r, q) };
-    let lent = lent(r, side, wanted[3]);
+    let clock = if wanted[4] { wrong_clock(r, q.clock, wanted[5]) } else { right_clock(r, q) };
+    let lent = Lent::random(r, side.handles.len(), side.records.shared.slots, wanted[3]);
     match what {
         What::Arrival => Call::arrival(queue, lent, clock, packet(r, q, wanted[7])),
         What::Departure => Call::departure(queue, lent, clock),
+        What::Tick if wanted[4] => Call::tick(queue, clock),
         What::Tick => {
-            let clock = if wanted[4] { clock } else { tick_clock(r, q, clock, wanted[5]) };
-            Call::tick(queue, clock)
+            let due = q.last.saturating_add(TICK_PERIOD);
+            Call::tick(queue, tick_clock(r, due, q.clock, clock, wanted[5]))
         }
-    }
-}
-
-/// The lengths lent: the slots, or a wrong length for one table or for both.
-fn lent(r: &mut Random, side: &Side, wrong: bool) -> Lent {
-    let longest = side.handles.len();
-    let slots = side.records.shared.slots.min(longest as u64) as usize;
-    if !wrong {
-        return Lent::both(slots);
-    }
-    let shorter = slots.saturating_sub(1);
-    let longer = (slots + 1).min(longest);
-    let other = r.pick(&[0, shorter, shorter, longer, longer, longest]);
-    let both = r.pick(&[0, shorter, longer]);
-    match r.range(0, 3) {
-        0 => Lent { handles: other, sizes: slots },
-        1 => Lent { handles: slots, sizes: other },
-        2 => Lent::both(both),
-        _ => Lent { handles: shorter, sizes: longer },
     }
 }
 
@@ -55,27 +38,6 @@ fn right_clock(r: &mut Random, q: &Queue) -> u64 {
     let same = q.clock;
     let list = [same, same, same.saturating_add(1), later, later, any, CLOCK_MAX];
     r.pick(&list).max(q.clock).min(CLOCK_MAX)
-}
-
-/// A clock before the record's or above 2^48; if `early`, one that is too soon for a tick as well.
-fn wrong_clock(r: &mut Random, q: &Queue, early: bool) -> u64 {
-    let back = q.clock.wrapping_sub(1);
-    if early {
-        return r.pick(&[back, CLOCK_MAX + 1]);
-    }
-    let any = r.range(0, back.min(CLOCK_MAX));
-    let other = if q.clock > 0 { any } else { u64::MAX };
-    r.pick(&[back, back, other, CLOCK_MAX + 1, CLOCK_MAX + 1, 1 << 63, u64::MAX])
-}
-
-/// The clock of a tick: too soon, exactly when due, or later.
-fn tick_clock(r: &mut Random, q: &Queue, clock: u64, early: bool) -> u64 {
-    let due = q.last.saturating_add(TICK_PERIOD);
-    if early {
-        let any = r.range(q.clock, due - 1);
-        return r.pick(&[due - 1, due - 1, q.clock, any]).max(q.clock).min(CLOCK_MAX);
-    }
-    r.pick(&[due, due, due.saturating_add(1), clock.max(due)]).max(q.clock).min(CLOCK_MAX)
 }
 
 fn packet(r: &mut Random, q: &Queue, wrong: bool) -> Arriving {

@@ -1,9 +1,9 @@
 //! Damaged tables and crossed chains.
 
 use crate::calls::What;
-use crate::model::numbers::*;
-use crate::model::store::{link_of, size_of, word};
-use crate::model::{Queue, Records};
+use crate::links::{relink, wrong_link, wrong_size};
+use crate::model::store::{link_of, word};
+use crate::model::Records;
 use crate::shared::random::Random;
 use crate::side::Side;
 
@@ -30,17 +30,6 @@ pub fn tables(r: &mut Random, what: What, queue: usize, wanted: bool, side: &mut
     }
 }
 
-fn relink(sizes: &mut [u32], place: u64, link: u64) {
-    let at = place as usize;
-    sizes[at] = word(size_of(sizes[at]), link);
-}
-
-/// A link to no slot, or to the last one.
-fn wrong_link(r: &mut Random, slots: u64) -> u64 {
-    let any = r.range(slots.min(65_535), 65_535);
-    r.pick(&[slots, slots, 65_535, any, any, slots - 1]).min(65_535)
-}
-
 /// Chains that no run from fresh gives: a link or a place of the records leads anywhere.
 fn cross(r: &mut Random, side: &mut Side) {
     let slots = side.records.shared.slots;
@@ -57,13 +46,4 @@ fn cross(r: &mut Random, side: &mut Side) {
             _ => relink(&mut side.sizes, queues[queue].head, other.min(65_535)),
         }
     }
-}
-
-/// A stored size that refusal 9 is about, or one beside it.
-fn wrong_size(r: &mut Random, q: &Queue) -> u32 {
-    let others = q.count - 1;
-    let too_large = (q.bytes - others + 1).min(SIZE.1) as u32;
-    let too_small = q.bytes.saturating_sub(SIZE.1 * others + 1).min(SIZE.1) as u32;
-    let below_zero = (q.bytes + 1).min(SIZE.1) as u32;
-    r.pick(&[0, 0, too_large, too_large, too_large - 1, too_small, too_small, below_zero])
 }

@@ -48,7 +48,7 @@ impl Flow {
             _ => r.range(50, 600),
         };
         let clock = q.clock;
-        self.arrival_at = self.plan.arrival_gap(r, self.phase).map(|gap| clock + gap);
+        self.arrival_at = self.plan.traffic.arrival_gap(r, self.phase).map(|gap| clock + gap);
         self.departure_at = None;
         self.schedule_departure(side);
     }
@@ -57,7 +57,7 @@ impl Flow {
         let q = self.state(side);
         if self.departure_at.is_none() && q.count > 0 {
             let size = u64::from(size_of(side.sizes[q.head as usize]));
-            self.departure_at = Some(q.clock + self.plan.departure_gap(size, self.phase));
+            self.departure_at = Some(q.clock + self.plan.traffic.departure_gap(size, self.phase));
         }
     }
 
@@ -66,7 +66,8 @@ impl Flow {
         let (clock, accepted) = (self.state(side).clock, side.answer < 100);
         match call.kind {
             Kind::Arrival { .. } => {
-                self.arrival_at = self.plan.arrival_gap(r, self.phase).map(|gap| clock + gap);
+                self.arrival_at =
+                    self.plan.traffic.arrival_gap(r, self.phase).map(|gap| clock + gap);
             }
             Kind::Departure { .. } if accepted => self.departure_at = None,
             Kind::Tick if accepted => {
@@ -109,25 +110,17 @@ impl Flow {
         Lent::both(self.slots)
     }
 
-    fn wrong_lent(&self, r: &mut Random) -> Lent {
-        let wrong = r.pick(&[0, self.slots - 1, self.slots + 1]);
-        let (handles, sizes) = r.pick(&[(wrong, self.slots), (self.slots, wrong), (wrong, wrong)]);
-        Lent { handles, sizes }
-    }
-
     fn packet(&self, r: &mut Random) -> Arriving {
         let handle = r.number() as u32;
-        let size = r.range(self.plan.sizes.0, self.plan.sizes.1) as u32;
-        let any = r.number() as u32;
-        let u = r.pick(&[any, any, any, any, any, any, any, 0, u32::MAX]);
-        let u = if self.plan.lucky { u32::MAX } else { u };
+        let size = self.plan.traffic.size(r);
+        let u = self.plan.traffic.u(r);
         Arriving { handle, size, ecn: r.one_in(2), u }
     }
 
     /// A call with one argument wrong.
     fn odd_call(&mut self, r: &mut Random, side: &Side) -> Call {
         let (number, q) = (self.number, *self.state(side));
-        let (lent, wrong, mut packet) = (self.lent(), self.wrong_lent(r), self.packet(r));
+        let (lent, wrong, mut packet) = (self.lent(), Lent::wrong(r, self.slots), self.packet(r));
         let clock = q.clock;
         let bad_clock = r.pick(&[clock.wrapping_sub(1), CLOCK_MAX + 1, u64::MAX]);
         let early = clock.max(q.last + r.pick(&[0, 1, 14_999]));

@@ -2,11 +2,11 @@
 //! for themselves. Handles are read-only during a departure, and the records while they are asked
 //! whether they are well formed.
 
-use crate::shared::area::{Area, READ, READ_WRITE};
 use crate::call::{Call, Kind, Lent};
-use crate::library::{Memory, Packet, QueueRecord, SharedRecord};
+use crate::library::{Memory, QueueRecord, SharedRecord};
 use crate::model::Arriving;
-use crate::side::{handed_back, Lender, Side, UNWRITTEN};
+use crate::shared::area::{Area, READ, READ_WRITE};
+use crate::side::{handed_back, Lender, Packet, Side, UNWRITTEN};
 use std::mem::size_of;
 use std::slice::{from_raw_parts, from_raw_parts_mut};
 

@@ -3,34 +3,44 @@
 use crate::model::formed::{common_slots, common_use};
 use crate::model::numbers::*;
 use crate::model::store::word;
-use crate::model::{Queue, Records};
+use crate::model::{Queue, Records, Shared};
 use crate::shared::random::Random;
 
 /// Gives the records slots enough for their packets and `spare` free slots more, reserves, places,
-/// and tables a little longer than the slots that hold their chains. What no call follows, the link
-/// of a last packet or last free slot, is anything.
+/// and tables a little longer than the slots that hold their chains.
 pub fn lay_out(r: &mut Random, records: &mut Records, spare: u64) -> (Vec<u32>, Vec<u32>) {
-    let counts = records.queues.map(|q| q.count);
-    let s = &mut records.shared;
-    s.slots = s.slots.max(counts[0] + counts[1] + spare).max(1);
-    let free = s.slots - counts[0] - counts[1];
+    let [first, second] = records.queues.map(|q| q.count);
+    take_slots(r, &mut records.shared, first + second, spare);
+    choose_reserves(r, records);
+    lay_chains(r, &mut records.shared, &mut records.queues)
+}
+
+/// Slots for so many packets, and what is freed of them.
+pub fn take_slots(r: &mut Random, s: &mut Shared, queued: u64, spare: u64) {
+    s.slots = s.slots.max(queued + spare).max(1);
+    let free = s.slots - queued;
     let any = r.range(0, free);
     s.spare = r.pick(&[0, 1, 2, 3, free, free, any]).min(free).max(spare);
-    s.used = counts[0] + counts[1] + s.spare;
-    choose_reserves(r, records);
-    let slots = records.shared.slots as usize;
+    s.used = queued + s.spare;
+}
+
+/// The chains of all queues and of the freed slots. What no call follows, the link of a last packet or
+/// last free slot, is anything.
+pub fn lay_chains(r: &mut Random, s: &mut Shared, queues: &mut [Queue]) -> (Vec<u32>, Vec<u32>) {
+    let slots = s.slots as usize;
     let length = slots + r.pick(&[1, 1, 2, 5]);
     let mut fill = || -> Vec<u32> { (0..length).map(|_| r.number() as u32).collect() };
     let (handles, mut sizes) = (fill(), fill());
-    let mut places = shuffled(r, records.shared.used as usize);
-    move_ends(r, &mut places, counts);
-    let (first, rest) = places.split_at(counts[0] as usize);
-    let (second, freed) = rest.split_at(counts[1] as usize);
-    for (queue, chain) in [first, second].into_iter().enumerate() {
-        lay_chain(r, &mut records.queues[queue], slots as u64, chain, &mut sizes);
+    let mut places = shuffled(r, s.used as usize);
+    move_ends(r, &mut places, queues);
+    let mut freed = &places[..];
+    for q in queues {
+        let (chain, rest) = freed.split_at(q.count as usize);
+        lay_chain(r, q, slots as u64, chain, &mut sizes);
+        freed = rest;
     }
     let any = r.range(0, slots as u64 - 1);
-    records.shared.freed = freed.first().map_or(any, |&place| place as u64);
+    s.freed = freed.first().map_or(any, |&place| place as u64);
     let old = r.one_in(3);
     for pair in freed.windows(2) {
         let size = if old { sizes[pair[0]] % LINK } else { 0 };
@@ -51,9 +61,13 @@ fn shuffled(r: &mut Random, used: usize) -> Vec<usize> {
 }
 
 /// Often brings the first or the last place to a head, a tail or the first freed slot.
-fn move_ends(r: &mut Random, places: &mut [usize], [first, second]: [u64; 2]) {
-    let both = first + second;
-    let at = r.pick(&[0, first.saturating_sub(1), first, both.saturating_sub(1), both]) as usize;
+fn move_ends(r: &mut Random, places: &mut [usize], queues: &[Queue]) {
+    let (mut ends, mut sum) = (vec![0], 0);
+    for q in queues {
+        sum += q.count as usize;
+        ends.extend([sum.saturating_sub(1), sum]);
+    }
+    let at = r.pick(&ends);
     let end = r.pick(&[0, places.len().saturating_sub(1)]);
     if at < places.len() && r.one_in(2) {
         let found = places.iter().position(|&place| place == end);

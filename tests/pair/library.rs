@@ -1,6 +1,7 @@
 //! The pair's calls of the library under test, through its C interface.
 
 use crate::model::{Arriving, Records, Settings};
+use crate::shared::answers::Packet;
 use crate::words::{queue_of, queue_words, shared_of, shared_words};
 
 /// The shared record: its 6 words, in the order of the C header.
@@ -12,14 +13,6 @@ pub struct SharedRecord(pub [u64; 6]);
 #[repr(C)]
 #[derive(Clone, Copy)]
 pub struct QueueRecord(pub [u64; 21]);
-
-/// What a departure hands back.
-#[repr(C)]
-#[derive(Clone, Copy, PartialEq, Eq, Debug)]
-pub struct Packet {
-    pub handle: u32,
-    pub size: u32,
-}
 
 type Shared = *mut SharedRecord;
 type Queue = *mut QueueRecord;

@@ -13,6 +13,7 @@
 mod aims;
 mod alone;
 mod broken;
+mod broken_queue;
 mod call;
 mod calls;
 mod coverage;
@@ -23,6 +24,7 @@ mod fresh_calls;
 mod guard;
 mod layout;
 mod library;
+mod links;
 mod model;
 mod plans;
 mod report;

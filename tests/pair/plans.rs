@@ -3,17 +3,16 @@
 use crate::model::numbers::{BUFFER, CLOCK_MAX};
 use crate::model::Settings;
 use crate::shared::random::Random;
+pub use crate::shared::traffic::Phase;
+use crate::shared::traffic::{Traffic, EAGER, PHASES};
 
-/// What a queue is made of. Departures take `ns_per_byte` for each byte of the head.
+/// What a queue is made of.
 #[derive(Clone, Copy)]
 pub struct Plan {
     pub settings: Settings,
-    pub ns_per_byte: u64,
-    pub sizes: (u64, u64),
+    pub traffic: Traffic,
     /// If not 0, how many arrivals are left before the counts sum to 2^48.
     pub arrivals_left: u64,
-    /// Whether u is always the greatest: early verdicts then come from the sum alone.
-    pub lucky: bool,
     /// Whether nothing arrives while the count is at the reserve or above.
     pub polite: bool,
     /// Whether more arrives than leaves in nearly all phases.
@@ -21,44 +20,6 @@ pub struct Plan {
     /// How often it is called, beside the other queue.
     pub weight: u64,
 }
-
-#[derive(Clone, Copy, PartialEq)]
-pub enum Phase {
-    /// More arrives than can leave.
-    Overload,
-    /// Nothing arrives.
-    Idle,
-    /// Many packets at one clock, then a pause.
-    Burst,
-    /// About as much arrives as leaves.
-    Balanced,
-    /// Less arrives than can leave: the queue is short, and often empty.
-    Light,
-    /// Nothing arrives and the queue leaves faster.
-    Draining,
-    /// The queue leaves at once, and many ticks find it empty.
-    Quiet,
-}
-
-/// The phases to choose from, some of them more often than others.
-const PHASES: [Phase; 12] = [
-    Phase::Overload,
-    Phase::Overload,
-    Phase::Overload,
-    Phase::Idle,
-    Phase::Burst,
-    Phase::Burst,
-    Phase::Balanced,
-    Phase::Balanced,
-    Phase::Light,
-    Phase::Light,
-    Phase::Draining,
-    Phase::Quiet,
-];
-
-/// The phases of an eager queue.
-const EAGER: [Phase; 5] =
-    [Phase::Overload, Phase::Overload, Phase::Overload, Phase::Burst, Phase::Draining];
 
 /// How many kinds of run there are.
 pub const KINDS: u64 = 14;
@@ -77,14 +38,15 @@ pub fn plans(r: &mut Random, kind: u64) -> (u64, [Plan; 2]) {
         5 => {
             slots = 65_536;
             for plan in &mut plans {
-                (plan.settings.buffer, plan.sizes) = (BUFFER.1, (1, 300));
+                (plan.settings.buffer, plan.traffic.sizes) = (BUFFER.1, (1, 300));
             }
         }
         6 => {
             // Tables of whole pages, all of them taken: packets so small that none is early.
             slots = 1_024;
             for plan in &mut plans {
-                (plan.eager, plan.sizes, plan.ns_per_byte) = (true, (1, 3), 2_000_000);
+                (plan.eager, plan.traffic.sizes, plan.traffic.ns_per_byte) =
+                    (true, (1, 3), 2_000_000);
             }
         }
         7 => plans.iter_mut().for_each(|plan| {
@@ -92,10 +54,11 @@ pub fn plans(r: &mut Random, kind: u64) -> (u64, [Plan; 2]) {
         }),
         8 => plans.iter_mut().for_each(|plan| plan.arrivals_left = r.range(100, 900)),
         9 => plans.iter_mut().for_each(|plan| {
-            (plan.ns_per_byte, plan.lucky) = (r.range(500_000, 900_000), true);
+            (plan.traffic.ns_per_byte, plan.traffic.lucky) = (r.range(500_000, 900_000), true);
         }),
         10 => plans.iter_mut().for_each(|plan| {
-            (plan.settings.buffer, plan.sizes) = (r.range(1_000_000, BUFFER.1), (20_000, 65_535));
+            (plan.settings.buffer, plan.traffic.sizes) =
+                (r.range(1_000_000, BUFFER.1), (20_000, 65_535));
         }),
         12 => plans.iter_mut().for_each(|plan| plan.settings.buffer = r.range(1, 4_000)),
         _ => {}
@@ -114,16 +77,8 @@ fn queue(r: &mut Random) -> Plan {
     };
     let sizes = r.pick(&[(40, 1_500), (1_000, 1_500), (64, 9_000), (1, 1_500)]);
     let (ns_per_byte, lucky) = (r.range(300, 5_000), r.one_in(5));
-    Plan {
-        settings,
-        ns_per_byte,
-        sizes,
-        arrivals_left: 0,
-        lucky,
-        polite: false,
-        eager: false,
-        weight: 1,
-    }
+    let traffic = Traffic { ns_per_byte, sizes, lucky };
+    Plan { settings, traffic, arrivals_left: 0, polite: false, eager: false, weight: 1 }
 }
 
 /// Reserves of many kinds; in kinds 4 and 11 one queue keeps to its own, or both do.
@@ -140,10 +95,10 @@ fn reserve(r: &mut Random, kind: u64, slots: u64, plans: &mut [Plan; 2]) {
     (plans[0].settings.reserve, plans[1].settings.reserve) = (first, second);
     match kind {
         4 | 13 => {
-            (plans[0].polite, plans[0].lucky) = (true, false);
+            (plans[0].polite, plans[0].traffic.lucky) = (true, false);
             plans[1].weight = 3;
         }
-        11 => plans.iter_mut().for_each(|plan| (plan.polite, plan.lucky) = (true, false)),
+        11 => plans.iter_mut().for_each(|plan| (plan.polite, plan.traffic.lucky) = (true, false)),
         _ => {}
     }
 }
@@ -154,29 +109,6 @@ impl Plan {
             _ if self.eager => r.pick(&EAGER),
             Phase::Quiet => r.pick(&[Phase::Burst, Phase::Overload, Phase::Light]),
             _ => r.pick(&PHASES),
-        }
-    }
-
-    /// The time until the next packet arrives; none arrives in three of the phases.
-    pub fn arrival_gap(&self, r: &mut Random, phase: Phase) -> Option<u64> {
-        let mean = (self.sizes.0 + self.sizes.1) / 2 * self.ns_per_byte / 1_000;
-        match phase {
-            Phase::Overload => Some(mean * r.range(10, 70) / 100),
-            Phase::Balanced => Some(mean * r.range(60, 140) / 100),
-            Phase::Light => Some(mean * r.range(150, 1_500) / 100),
-            Phase::Burst if r.one_in(30) => Some(mean * r.range(10, 60)),
-            Phase::Burst => Some(0),
-            Phase::Idle | Phase::Draining | Phase::Quiet => None,
-        }
-    }
-
-    /// The time until the head has left.
-    pub fn departure_gap(&self, size: u64, phase: Phase) -> u64 {
-        let time = size * self.ns_per_byte / 1_000;
-        match phase {
-            Phase::Draining => time / 4,
-            Phase::Quiet => 0,
-            _ => time,
         }
     }
 }

@@ -2,20 +2,15 @@
 
 pub use crate::call::Call;
 use crate::call::Kind;
-use crate::library::{Memory, Packet, QueueRecord, SharedRecord};
+use crate::library::{Memory, QueueRecord, SharedRecord};
 use crate::model::arrival::arrival;
 use crate::model::departure::departure;
 use crate::model::formed::well_formed;
 use crate::model::fresh::fresh;
 use crate::model::tick::tick;
 use crate::model::Records;
-use std::panic::{catch_unwind, AssertUnwindSafe};
-
-/// The answer that stands for a panic of the model.
-pub const STOPPED: u32 = u32::MAX;
-
-/// A packet that no call gives back by chance: it shows that nothing was written.
-pub const UNWRITTEN: Packet = Packet { handle: 0xA5A5_5A5A, size: 0xA5A5_5A5A };
+use crate::shared::answers::model_answer;
+pub use crate::shared::answers::{Packet, STOPPED, UNWRITTEN};
 
 #[derive(Clone, PartialEq, Eq)]
 pub struct Side {
@@ -48,15 +43,10 @@ impl Side {
         self.packet = (0, 0);
         self.answer = STOPPED;
         let side = &mut *self;
-        let answer = catch_unwind(AssertUnwindSafe(|| {
+        self.answer = model_answer(|| {
             side.well_formed = well_formed(&side.records);
             side.model_answer(call)
-        }));
-        self.answer = match answer {
-            Ok(Ok(answer)) => answer,
-            Ok(Err(refusal)) => 100 + refusal,
-            Err(_) => STOPPED,
-        };
+        });
     }
 
     fn model_answer(&mut self, call: &Call) -> Result<u32, u32> {

@@ -12,6 +12,7 @@ use crate::model::formed::CONDITIONS;
 use crate::model::numbers::*;
 use crate::model::refusals::Refusals;
 use crate::model::{Queue, Records};
+use crate::shared::numbers::wanted;
 use crate::shared::pair::{Failure, Pair};
 use crate::shared::random::Random;
 use crate::side::{Lender, Side};
@@ -36,7 +37,7 @@ pub fn run(
                 break;
             }
             let what = what(r);
-            let wanted = if r.one_in(3) { wanted(r, what) } else { Refusals::default() };
+            let wanted = if r.one_in(3) { wanted(r, refusals(what)) } else { Refusals::default() };
             let queue = queue(r);
             call = calls::next(r, what, queue, &pair.model, &wanted);
         }
@@ -52,25 +53,19 @@ fn queue(r: &mut Random) -> usize {
     r.range(0, 1) as usize
 }
 
-/// None, one, two or more of the refusals that the call can get. Never 6 with 9.
-fn wanted(r: &mut Random, what: What) -> Refusals {
-    let list: &[usize] = match what {
+/// The refusals that a call can get.
+fn refusals(what: What) -> &'static [usize] {
+    match what {
         What::Arrival => &[2, 3, 4, 7, 8, 9],
         What::Departure => &[2, 3, 4, 6, 9],
         What::Tick => &[2, 4, 5],
-    };
-    let mut wanted = Refusals::default();
-    for _ in 0..r.pick(&[0, 0, 1, 1, 2, 2, 3]) {
-        wanted[r.pick(list)] = true;
     }
-    wanted[9] &= !wanted[6];
-    wanted
 }
 
 /// Records with tables, and a call to which the wanted refusals apply where they can.
 fn case(r: &mut Random) -> (Side, Call) {
     let (what, queue) = (what(r), queue(r));
-    let wanted = wanted(r, what);
+    let wanted: Refusals = wanted(r, refusals(what));
     let broken = wanted[2].then(|| r.range(0, CONDITIONS as u64 - 1) as usize);
     let mut records = states::records(r);
     aim(r, what, &mut records.queues[queue]);

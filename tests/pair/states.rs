@@ -2,6 +2,7 @@
 
 use crate::model::numbers::*;
 use crate::model::{Queue, Records};
+pub use crate::shared::numbers::split;
 use crate::shared::random::Random;
 
 /// Slots, counts and all that is not storage. Reserves and places come from `layout::lay_out`, together
@@ -24,7 +25,7 @@ pub fn records(r: &mut Random) -> Records {
     records
 }
 
-fn slots(r: &mut Random) -> u64 {
+pub fn slots(r: &mut Random) -> u64 {
     match r.range(0, 299) {
         0 => r.pick(&[65_535, 65_536]),
         1..=9 => r.range(100, 400),
@@ -33,7 +34,7 @@ fn slots(r: &mut Random) -> u64 {
     }
 }
 
-fn settings(r: &mut Random, q: &mut Queue) {
+pub fn settings(r: &mut Random, q: &mut Queue) {
     let any = r.range(TARGET.0, TARGET.1);
     q.target = r.pick(&[1_000, 1_001, 14_999, 15_000, 15_000, 99_999, 100_000, any, any]);
     let (any, most) = (r.spread(1, BUFFER.1), BUFFER.1);
@@ -56,7 +57,7 @@ fn contents(r: &mut Random, q: &mut Queue, left: u64) {
     }
 }
 
-fn clocks(r: &mut Random, q: &mut Queue) {
+pub fn clocks(r: &mut Random, q: &mut Queue) {
     let (any, small) = (r.range(0, CLOCK_MAX), r.spread(0, CLOCK_MAX));
     let list = [0, 1, 15_000, CLOCK_MAX, CLOCK_MAX - 1, CLOCK_MAX - 15_000, any, any, small, small];
     q.clock = r.pick(&list);
@@ -64,7 +65,7 @@ fn clocks(r: &mut Random, q: &mut Queue) {
     q.last = q.clock.saturating_sub(r.pick(&[0, 1, 14_999, 15_000, 15_001, ago, ago]));
 }
 
-fn control(r: &mut Random, q: &mut Queue) {
+pub fn control(r: &mut Random, q: &mut Queue) {
     q.probability = probability(r);
     q.old_delay = delay(r, q.target);
     let any = r.range(0, FULL_ALLOWANCE);
@@ -113,18 +114,4 @@ pub fn measurement(r: &mut Random, q: &mut Queue) {
 pub fn sound_counts(r: &mut Random) -> [u64; 5] {
     let sum = r.pick(&[0, 1, 5, COUNTS_MAX - 1, 1_000_000, COUNTS_MAX / 2]);
     split(r, sum)
-}
-
-/// Five numbers with the given sum.
-pub fn split(r: &mut Random, sum: u64) -> [u64; 5] {
-    let mut parts = [0; 5];
-    let mut left = sum;
-    for part in parts.iter_mut().take(4) {
-        *part = if r.one_in(3) { 0 } else { r.spread(0, left) };
-        left -= *part;
-    }
-    parts[4] = left;
-    let turn = r.range(0, 4) as usize;
-    parts.rotate_left(turn);
-    parts
 }

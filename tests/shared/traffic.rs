@@ -20,7 +20,28 @@ pub enum Phase {
     Quiet,
 }
 
+/// The phases to choose from, some of them more often than others.
+pub const PHASES: [Phase; 12] = [
+    Phase::Overload,
+    Phase::Overload,
+    Phase::Overload,
+    Phase::Idle,
+    Phase::Burst,
+    Phase::Burst,
+    Phase::Balanced,
+    Phase::Balanced,
+    Phase::Light,
+    Phase::Light,
+    Phase::Draining,
+    Phase::Quiet,
+];
+
+/// The phases of a run in which nearly always more arrives than leaves.
+pub const EAGER: [Phase; 5] =
+    [Phase::Overload, Phase::Overload, Phase::Overload, Phase::Burst, Phase::Draining];
+
 /// Departures take `ns_per_byte` for each byte of the head.
+#[derive(Clone, Copy)]
 pub struct Traffic {
     pub ns_per_byte: u64,
     pub sizes: (u64, u64),

@@ -1,9 +1,9 @@
 //! Ends of ranges in well-formed records, and ends of tables.
 
 use super::Found;
-use crate::shared::area::PAGE;
 use crate::call::{Call, Kind};
 use crate::model::formed::{common_slots, verdict_sum};
+use crate::shared::area::PAGE;
 use crate::side::Side;
 
 #[rustfmt::skip]

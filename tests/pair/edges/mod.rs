@@ -8,7 +8,7 @@ pub mod store;
 
 use crate::call::{Call, Kind, Lent};
 use crate::model::fresh::fresh;
-use crate::model::{Arriving, Settings};
+use crate::model::{Arriving, Queue, Settings};
 use crate::side::Side;
 
 /// Names, each with whether it happened.
@@ -40,21 +40,33 @@ const SINGLE: (bool, bool) = (false, true);
 
 #[rustfmt::skip]
 pub const LISTS: [List; 14] = [
-    List { name: "arrival", about: About::Arrivals, needed: BOTH, find: rules::arrival },
-    List { name: "arrival, edges of rules", about: About::Arrivals, needed: SINGLE, find: rules::arrival_edges },
+    List { name: "arrival", about: About::Arrivals, needed: BOTH, find: |b, c, a| rules::arrival(&called(b, c, a), packet(c), a.answer) },
+    List { name: "arrival, edges of rules", about: About::Arrivals, needed: SINGLE, find: |b, c, a| rules::arrival_edges(&called(b, c, a), packet(c), a.answer) },
     List { name: "slots at an arrival", about: About::Arrivals, needed: BOTH, find: store::slots },
     List { name: "place of an arrival", about: About::Arrivals, needed: BOTH, find: store::entering },
     List { name: "damage that an arrival does not see", about: About::Arrivals, needed: SINGLE, find: store::entering_damaged },
     List { name: "arrival refused by 9", about: About::WrongArrivals, needed: SINGLE, find: refused::arrival },
-    List { name: "departure", about: About::Departures, needed: BOTH, find: rules::departure },
-    List { name: "departure, edges of rules", about: About::Departures, needed: SINGLE, find: rules::departure_edges },
+    List { name: "departure", about: About::Departures, needed: BOTH, find: |b, c, a| rules::departure(&called(b, c, a), a.packet.1) },
+    List { name: "departure, edges of rules", about: About::Departures, needed: SINGLE, find: |b, c, a| rules::departure_edges(&called(b, c, a), a.packet.1) },
     List { name: "place of a departure", about: About::Departures, needed: BOTH, find: store::leaving },
     List { name: "damage that a departure does not see", about: About::Departures, needed: SINGLE, find: store::leaving_damaged },
     List { name: "departure refused by 9", about: About::WrongDepartures, needed: SINGLE, find: refused::departure },
-    List { name: "tick", about: About::Ticks, needed: BOTH, find: rules::tick },
+    List { name: "tick", about: About::Ticks, needed: BOTH, find: |b, c, a| rules::tick(&called(b, c, a)) },
     List { name: "end of a range", about: About::Sound, needed: SINGLE, find: ends::ends },
     List { name: "tables of whole pages", about: About::Sound, needed: BOTH, find: ends::whole_pages },
 ];
+
+/// The called queue before and after.
+fn called(before: &Side, call: &Call, after: &Side) -> [Queue; 2] {
+    [before.records.queues[call.queue], after.records.queues[call.queue]]
+}
+
+fn packet(call: &Call) -> &Arriving {
+    match &call.kind {
+        Kind::Arrival { packet, .. } => packet,
+        _ => unreachable!(),
+    }
+}
 
 impl About {
     pub fn holds(self, call: &Call, after: &Side) -> bool {

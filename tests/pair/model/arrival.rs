@@ -4,7 +4,7 @@ use super::formed::{common_slots, common_use};
 use super::numbers::*;
 use super::refusals::{arrival_refusals, lowest};
 use super::store;
-use super::{Arriving, Records};
+use super::{Arriving, Queue, Records};
 
 /// The rules that decide on an arrival, in their order. The two of the sum stand between the
 /// document's rules 5 and 6.
@@ -42,24 +42,39 @@ pub fn no_slot(r: &Records, queue: usize) -> bool {
 
 fn deciding_rule(r: &Records, queue: usize, packet: &Arriving) -> Rule {
     let q = &r.queues[queue];
-    let sum = q.accumulated + q.probability;
     let rules = [
         (q.bytes + u64::from(packet.size) > q.buffer, Rule::Bytes),
         (no_slot(r, queue), Rule::Slots),
+        (true, by_state(q, packet.u)),
+    ];
+    first(&rules)
+}
+
+fn first(rules: &[(bool, Rule)]) -> Rule {
+    rules.iter().find(|(holds, _)| *holds).map_or(Rule::Otherwise, |(_, rule)| *rule)
+}
+
+/// Rules 3 to 7, which read the queue's own state alone.
+pub fn by_state(q: &Queue, u: u32) -> Rule {
+    let sum = q.accumulated + q.probability;
+    let rules = [
         (q.allowance > 0, Rule::Allowance),
         (2 * q.old_delay < q.target && 5 * q.probability < WHOLE, Rule::ShortDelay),
         (q.bytes <= SMALL_QUEUE, Rule::SmallQueue),
         (20 * sum < 17 * WHOLE, Rule::LowSum),
         (sum >= FORCED, Rule::HighSum),
-        (u64::from(packet.u) < q.probability, Rule::Random),
+        (u64::from(u) < q.probability, Rule::Random),
     ];
-    rules.iter().find(|(holds, _)| *holds).map_or(Rule::Otherwise, |(_, rule)| *rule)
+    first(&rules)
 }
 
 pub fn decide(r: &Records, queue: usize, packet: &Arriving) -> Decision {
-    let q = &r.queues[queue];
-    let rule = deciding_rule(r, queue, packet);
-    let early = if packet.ecn && q.probability < TENTH { MARKED } else { DROPPED_EARLY };
+    decision(&r.queues[queue], deciding_rule(r, queue, packet), packet.ecn)
+}
+
+/// What the deciding rule gives.
+pub fn decision(q: &Queue, rule: Rule, ecn: bool) -> Decision {
+    let early = if ecn && q.probability < TENTH { MARKED } else { DROPPED_EARLY };
     let verdict = match rule {
         Rule::Bytes => DROPPED_BYTES,
         Rule::Slots => DROPPED_SLOTS,

@@ -21,7 +21,7 @@ pub fn departure(
 }
 
 /// The departure rate. A measurement that starts where another has just ended keeps its word.
-fn measure(q: &mut Queue, size: u64) {
+pub fn measure(q: &mut Queue, size: u64) {
     let word = q.measuring;
     if q.measuring != 0 {
         q.counted += size;

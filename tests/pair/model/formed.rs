@@ -7,7 +7,7 @@ use super::{within, Queue, Records, Shared};
 const OF_SHARED: [&str; 4] =
     ["slots in range", "reserves sum to at most the slots", "freed < slots", "used <= slots"];
 
-const OF_QUEUE: [&str; 21] = [
+pub const OF_QUEUE: [&str; 21] = [
     "target in range",
     "buffer in range",
     "last tick <= clock",
@@ -65,7 +65,7 @@ fn shared_conditions(s: &Shared) -> [bool; 4] {
     [within(s.slots, SLOTS), common_slots(s).is_some(), s.freed < s.slots, s.used <= s.slots]
 }
 
-fn queue_conditions(q: &Queue, slots: u64) -> [bool; 21] {
+pub fn queue_conditions(q: &Queue, slots: u64) -> [bool; 21] {
     let runs = q.measuring != 0;
     [
         within(q.target, TARGET),

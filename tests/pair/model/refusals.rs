@@ -21,7 +21,7 @@ fn wrong_clock(q: &Queue, clock: u64) -> bool {
 }
 
 /// Refusal 9 of a departure. It needs a head: a packet that is counted, and its place in the table.
-fn wrong_head(s: &Shared, q: &Queue, sizes: &[u32]) -> bool {
+pub fn wrong_head(s: &Shared, q: &Queue, sizes: &[u32]) -> bool {
     if q.count == 0 || q.head >= sizes.len() as u64 {
         return false;
     }

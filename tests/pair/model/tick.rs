@@ -37,6 +37,13 @@ pub fn tick(r: &mut Records, queue: usize, clock: u64) -> Result<(), u32> {
     lowest(tick_refusals(r, queue, clock))?;
     let q = &mut r.queues[queue];
     let delay = queueing_delay(q);
+    update(q, delay, clock);
+    q.clock = clock;
+    Ok(())
+}
+
+/// Rules 2 to 9.
+pub fn update(q: &mut Queue, delay: u64, clock: u64) {
     q.probability = next_probability(q, delay);
     q.allowance = q.allowance.saturating_sub(TICK_PERIOD); // 7
     if q.probability == 0 && 2 * delay < q.target && 2 * q.old_delay < q.target {
@@ -44,6 +51,4 @@ pub fn tick(r: &mut Records, queue: usize, clock: u64) -> Result<(), u32> {
     }
     q.old_delay = delay; // 9
     q.last = clock;
-    q.clock = clock;
-    Ok(())
 }

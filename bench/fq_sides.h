@@ -1,0 +1,100 @@
+/* The implementations of the 64 flows on the bench: plain C first, since the others are measured against
+ * it. All records have the same words. */
+#ifndef FQ_SIDES_H
+#define FQ_SIDES_H
+
+#include <string.h>
+
+#include "fq_events.h"
+#include "obikuteru.h"
+
+/* The stream whose events run. */
+static const struct fq_stream *stream;
+
+#define EVENT struct fq_event
+#define RECORD struct plain_fq
+#define QUEUES 1
+#define QUEUE(e) ((void)(e), 0)
+#define START(s, c, q)                                                                            \
+    CALL(fresh)(s, stream->target, stream->buffer, stream->slots, stream->salt, 0)
+#define ARRIVE(s, c, e, h, z)                                                                     \
+    CALL(arrival)(s, h, slots, z, slots, (e)->clock, (e)->key, (e)->handle, (e)->size, (e)->ecn,  \
+                  (e)->u)
+#define DEPART(s, c, e, h, z, p) CALL(departure)(s, h, slots, z, slots, (e)->clock, p)
+#define UPDATE(s, c, e) CALL(tick)(s, (e)->clock)
+#define BLOCK 4 /* a record has 7,064 bytes */
+#define OWN_TABLES
+
+#include "kind.h"
+
+/* The Rust twin, and plain C by clang: records and calls of the same form as plain C's. */
+#define DECLARE(prefix)                                                                           \
+    uint32_t prefix##_fresh(struct plain_fq *, uint64_t, uint64_t, uint64_t, uint32_t, uint64_t); \
+    uint32_t prefix##_arrival(struct plain_fq *, uint32_t *, size_t, uint32_t *, size_t,          \
+                              uint64_t, const uint8_t *, uint32_t, uint32_t, bool, uint32_t);     \
+    uint32_t prefix##_departure(struct plain_fq *, const uint32_t *, size_t, uint32_t *, size_t,  \
+                                uint64_t, struct plain_flow_packet *);                            \
+    uint32_t prefix##_tick(struct plain_fq *, uint64_t);
+DECLARE(twin_fq)
+DECLARE(clang_fq)
+
+_Static_assert(sizeof(struct plain_fq) == sizeof(struct obikuteru_fq), "the records differ in size");
+
+static struct obikuteru_fq library_state(const struct plain_fq *r)
+{
+    struct obikuteru_fq s;
+    memcpy(&s, r, sizeof s);
+    return s;
+}
+
+static struct plain_fq library_record(const struct obikuteru_fq *s)
+{
+    struct plain_fq r;
+    memcpy(&r, s, sizeof r);
+    return r;
+}
+
+#define SIDE(name) on_plain_##name
+#define CALL(name) plain_fq_##name
+#define STATE RECORD
+#define PACKET struct plain_flow_packet
+#define READ(state) (state)
+#define WRITE(record) (record)
+#include "side.h"
+
+#define SIDE(name) on_library_##name
+#define CALL(name) obikuteru_fq_##name
+#define STATE struct obikuteru_fq
+#define PACKET struct obikuteru_flow_packet
+#define READ(state) library_record(&(state))
+#define WRITE(record) library_state(&(record))
+#include "side.h"
+
+#define SIDE(name) on_rust_##name
+#define CALL(name) twin_fq_##name
+#define STATE RECORD
+#define PACKET struct plain_flow_packet
+#define READ(state) (state)
+#define WRITE(record) (record)
+#include "side.h"
+
+#ifdef WITH_CLANG
+#define SIDE(name) on_clang_##name
+#define CALL(name) clang_fq_##name
+#define STATE RECORD
+#define PACKET struct plain_flow_packet
+#define READ(state) (state)
+#define WRITE(record) (record)
+#include "side.h"
+#endif
+
+static const struct side sides[] = {
+    ENTRIES(plain),
+    ENTRIES(library),
+    ENTRIES(rust),
+#ifdef WITH_CLANG
+    ENTRIES(clang),
+#endif
+};
+
+#endif

@@ -1,0 +1,67 @@
+//! Compares the library's 64 flows with a model of their rules, call by call.
+//!
+//!   fq               the fixed seed; the same calls each time
+//!   fq counts        the same, and prints how often each thing was reached
+//!   fq seed N        one round with the seed N
+//!   fq soak SECONDS  rounds with new seeds until the time is over
+//!   fq guard         calls with memory that stands beside or between guarded pages
+//!
+//! It ends with 1 at the first difference, with 2 if the calls did not reach everything, and
+//! with 3 if it was not understood.
+//!
+//! The rules of one queue, the store and what makes random queues are the pair's: `model` and the
+//! modules from its folder.
+
+#[path = "../pair/aims.rs"]
+mod aims;
+mod broken;
+#[path = "../pair/broken_queue.rs"]
+mod broken_queue;
+mod call;
+mod calls;
+mod coverage;
+mod damage;
+mod edges;
+mod flows;
+mod fresh_calls;
+mod guard;
+#[allow(dead_code)]
+#[path = "../pair/layout.rs"]
+mod layout;
+mod library;
+#[path = "../pair/links.rs"]
+mod links;
+#[allow(dead_code)]
+#[path = "../pair/model/mod.rs"]
+mod model;
+mod plans;
+mod records;
+mod report;
+mod runs;
+mod shadow;
+#[allow(dead_code)]
+#[path = "../shared/mod.rs"]
+mod shared;
+mod side;
+mod single;
+#[allow(dead_code)]
+#[path = "../pair/states.rs"]
+mod states;
+mod worked;
+
+use shared::program::Round;
+
+/// What this program calls itself where it speaks of a difference.
+const NAME: &str = "fq";
+
+fn main() {
+    let round = Round {
+        seed: 80_337,
+        batches: 120,
+        runs: 2 * plans::KINDS,
+        guarded: (50, plans::KINDS),
+        figures: ("the page's worked cases", worked::run),
+        checks: Some("steps of the page's worked cases"),
+    };
+    round.main();
+}
