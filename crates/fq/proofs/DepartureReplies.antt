@@ -10,7 +10,7 @@ use Rattle.refusals.specs.declared.Accepted.{Accepted}
 use Rattle.refusals.specs.declared.Accepted.the-variants.{No}
 use Rattle.refusals.specs.declared.Refusal.{Refusal}
 use Rattle.schedule.specs.Choosing.{charged, choose}
-use Rattle.schedule.specs.Ring.{Schedule, scheduleOf}
+use Rattle.schedule.specs.Ring.{scheduleOf}
 use Rattle.schedule.specs.declared.Lists.{Lists}
 use Rattle.store.specs.Take.{sizesAfterTake}
 use Rattle.fq_state.specs.State.{State, countsOf, flowAt}

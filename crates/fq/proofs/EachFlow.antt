@@ -1,7 +1,7 @@
 -- What a well-formed record says of each of its flows, and of the lists.
-use mathlib.Core.Path.{_≡_, refl, sym, _∙_}
-use mathlib.Core.Bool.{Bool, true, false, _&&_, _||_}
-use mathlib.Core.List.{List, [], _∷_, map}
+use mathlib.Core.Path.{_≡_, refl}
+use mathlib.Core.Bool.{Bool, true, _&&_, _||_}
+use mathlib.Core.List.{List, [], _∷_}
 use Prim.Native.Nat.{ℕ, zero, suc, _+_, _≤_, _<_}
 use native.Mathlib.Omega.{arith}
 use lib.Dec.{eqb, leb}
@@ -14,7 +14,7 @@ use Rattle.pie.specs.Verdicts.{total}
 use Rattle.schedule.specs.Entering.{isListed}
 use Rattle.schedule.specs.Ring.{Schedule, deficitOf, entries, occurs, quantum, zeroDeficit}
 use Rattle.schedule.specs.WellFormed.{areFlows, every, flowFits, listsFit, wellListed}
-use Rattle.fq_state.specs.State.{State, countsOf, eachBytes, flowAt}
+use Rattle.fq_state.specs.State.{countsOf, eachBytes, flowAt}
 use Rattle.fq_state.specs.WellFormed.{flowConditions, flowsFit}
 use Rattle.fq_state.specs.declared.Common.{Common}
 use Rattle.fq_state.specs.declared.Flow.{Flow}

@@ -1,5 +1,5 @@
 -- What a call gives, by what the library's functions find.
-use mathlib.Core.Path.{_≡_, refl, ap, sym, _∙_}
+use mathlib.Core.Path.{_≡_, refl}
 use mathlib.Core.List.{List, map}
 use Prim.Native.Nat.{ℕ}
 use Rattle.refusals.specs.Numbers.{numberOf, refusalIn}

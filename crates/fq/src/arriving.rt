@@ -124,8 +124,8 @@ fn receive(
     ecn: bool,
     u: u32,
 ) -> Arrived
-    requires { ⌜ firstRefusal (beforeVerdict
-        (stateOf common lists (now order) (now deficits) (now flows)) (length (now handles)) (length (now sizes)) (clock .0) (size .0)) ≡ 0 ⌝ }
+    requires { ⌜ firstRefusal (beforeVerdict (stateOf common lists (now order) (now deficits) (now flows))
+        (length (now handles)) (length (now sizes)) (clock .0) (size .0)) ≡ 0 ⌝ }
     ensures { λ r. ⌜ (let s = stateOf common lists (now (order .entry)) (now (deficits .entry)) (now (flows .entry)) in
         let a = arrival s (now (handles .entry)) (now (sizes .entry)) (clock .0) (now (key .entry)) (size .0) ecn u in
         (arrivalAnswer (r .answer) ≡ a .answer)

@@ -28,7 +28,7 @@ ghost use Rattle.refusals.specs.Numbers.{refusalIn};
 ghost use Rattle.refusals.specs.Rows.{firstRefusal};
 ghost use Rattle.refusals.specs.declared.Accepted.the-variants.{No};
 ghost use Rattle.fq_state.specs.State.{countsOf};
-ghost use Rattle.fq_state.specs.WellFormed.{commonConditions, flowConditions};
+ghost use Rattle.fq_state.specs.WellFormed.{flowConditions};
 ghost use Rattle.fq_state.specs.Words.{flowsOf, stateOf};
 ghost use Rattle.fq.specs.Answer.{acceptedAnswer, departed, flowIn, handleIn, sizeIn};
 ghost use Rattle.fq.specs.Departure.{departedCommon, departedFlow, departedSizes, departure, headWordRefused};
@@ -146,8 +146,8 @@ fn serve(
     sizes: &mut [u32],
     clock: Micros,
 ) -> Departed
-    requires { ⌜ firstRefusal (beforeChoosing
-        (stateOf common lists (now order) (now deficits) (now flows)) (length (now handles)) (length (now sizes)) (clock .0)) ≡ 0 ⌝ }
+    requires { ⌜ firstRefusal (beforeChoosing (stateOf common lists (now order) (now deficits) (now flows))
+        (length (now handles)) (length (now sizes)) (clock .0)) ≡ 0 ⌝ }
     requires { ⌜ now counts ≡ countsOf (flowsOf (now flows)) ⌝ }
     ensures { λ r. ⌜ (let s = stateOf common lists (now (order .entry)) (now (deficits .entry)) (now (flows .entry)) in
         let a = departure s (now (handles .entry)) (now (sizes .entry)) (clock .0) in

@@ -15,7 +15,6 @@ use units::Micros;
 ghost use mathlib.Core.Path.{_≡_};
 ghost use mathlib.Core.Bool.{true};
 ghost use mathlib.Core.List.{map};
-ghost use Prim.Native.Nat.{_≤_};
 ghost use Rattle.laws.specs.Tests.{all};
 ghost use Rattle.refusals.specs.Numbers.{refusalIn};
 ghost use Rattle.fq_state.specs.WellFormed.{commonConditions, flowConditions, flowsFit};

@@ -1,9 +1,8 @@
 -- `decide`: rules 1 and 2, then the flow's drop decision.
 use borrow.Author.Needs.{needs}
 use mathlib.Core.Path.{refl}
-use native.Mathlib.Omega.{arith}
 use Rattle.pie.specs.DropDecision.{accumulatedAfter}
-use Rattle.fq_state.proofs.Facts.{common-fits, flow-fits}
+use Rattle.fq_state.proofs.Facts.{flow-fits}
 use Rattle.fq.specs.Arrival.{verdictOf}
 use Rattle.fq.proofs.deciding.decide.Statement.{statement}
 use Rattle.fq.proofs.deciding.decide.Tie as tie

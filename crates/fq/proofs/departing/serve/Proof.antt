@@ -5,7 +5,7 @@ use native.Mathlib.Omega.{arith}
 use lib.ListN.{length}
 use denote.Ref.{now}
 use Rattle.fq_state.specs.State.{State, countsOf}
-use Rattle.fq_state.specs.Words.{flowsOf, stateOf}
+use Rattle.fq_state.specs.Words.{stateOf}
 use Rattle.fq_state.proofs.Facts.{passes}
 use Rattle.fq_state.proofs.Words.{length-flows}
 use Rattle.fq.proofs.DepartureReplies.{departure-lost, departure-taken}

@@ -1,18 +1,15 @@
 -- `wrong_word`: a flow without a packet has no bytes, so no size fits it.
 use borrow.Author.Needs.{needs}
 use borrow.Author.Tests.{eqb-false, eqb-true, lt-ltb}
-use mathlib.Core.Path.{_≡_, refl, ap, sym, _∙_}
-use mathlib.Core.Bool.{Bool, true, false, _||_, or-true}
+use mathlib.Core.Path.{_≡_, refl}
+use mathlib.Core.Bool.{true, or-true}
 use mathlib.Core.Logic.{_≢_}
-use mathlib.Core.List.{List}
 use Prim.Native.Nat.{ℕ, zero, suc, _-_, _*_, _≤_}
 use native.Mathlib.Omega.{arith}
 use lib.Dec.{ltb}
 use Rattle.pie.specs.Constants.{largest}
 use Rattle.pie.specs.declared.Backlog.{Backlog}
 use Rattle.refusals.specs.Tests.{headRefused}
-use Rattle.fq_state.specs.declared.Flow.{Flow}
-use Rattle.fq.specs.Departure.{headSize, headWordRefused}
 use Rattle.fq.proofs.departing.wrong_word.Statement.{statement}
 use Rattle.fq.proofs.departing.wrong_word.Tie as tie
 
