@@ -180,6 +180,47 @@ uint32_t obikuteru_tick(struct obikuteru_state *state, uint64_t clock);
 bool obikuteru_well_formed(const struct obikuteru_state *state);
 
 /*
+ * Many calls in one: a burst. The record is tested once, and each call is answered as its single
+ * entry would answer it, refused ones included, each given what the last one left; so a burst may be
+ * cut anywhere. On a plain queue a call of a burst costs less than half of a single one.
+ */
+struct obikuteru_call {
+    uint64_t clock;
+    uint32_t handle; /* arrivals */
+    uint32_t size;   /* arrivals */
+    uint32_t u;      /* arrivals: a random number, fresh for each */
+    uint32_t kind;   /* one of those below */
+};
+
+/* Kinds of call. */
+#define OBIKUTERU_CALL_ARRIVAL 0u
+#define OBIKUTERU_CALL_ECN_ARRIVAL 1u /* the packet is ECN-capable */
+#define OBIKUTERU_CALL_DEPARTURE 2u
+#define OBIKUTERU_CALL_TICK 3u
+
+/* What a call is answered. */
+struct obikuteru_answer {
+    uint16_t code;   /* the single entry's answer */
+    uint16_t size;   /* of the packet that departed, else 0 */
+    uint32_t handle; /* likewise */
+};
+
+/* Refusal of a call whose kind is none of those, and of a burst whose lengths do not fit. */
+#define OBIKUTERU_REFUSED_CALL 120u
+
+/*
+ * Calls are six 32-bit numbers each, in the order of struct obikuteru_call, the clock's low half
+ * first; answers are one word each, code + 65,536 * size + 2^32 * handle. On a little-endian machine
+ * both structs stand so in memory: pass an array of n calls as (const uint32_t *)calls, 6 * n, and an
+ * array of n answers as (uint64_t *)answers, n, the answers aligned to 8 bytes. Answers ACCEPTED, or
+ * REFUSED_CALL with nothing done where `calls_len` is not 6 * `answers_len`; what each call was
+ * answered stands in `answers`.
+ */
+uint32_t obikuteru_calls(struct obikuteru_state *state, uint32_t *handles, size_t handles_len,
+                         uint32_t *sizes, size_t sizes_len, const uint32_t *calls,
+                         size_t calls_len, uint64_t *answers, size_t answers_len);
+
+/*
  * How many accepted ticks in succession, each finding the queue empty, bring a queue of this
  * target back from any state: the probability is then 0, and for 150,000 microseconds only a full
  * buffer or full slots turn a packet away. 557 at a target of 1,000, 212 at 15,000, 71 at 100,000;

@@ -7,6 +7,7 @@
 //!   tick:      any two of 2, 4, 5
 //! Refusal 1 stands alone: it is the only one of fresh.
 
+use crate::bursts;
 use crate::calm;
 use crate::events;
 use crate::model::{self, Refusals, BANDS, CONDITIONS};
@@ -29,6 +30,7 @@ const BAND_LAST: usize = 12;
 const CONDITION: usize = 13;
 const EVENTS: usize = 14; // and the following: the groups of `events`
 const CALM: usize = 23; // and 24: the lists of `calm`
+const BURST: usize = 25;
 
 const APPLY: [&[usize]; 4] = [&[1], &[2, 3, 4, 7, 8], &[2, 3, 4, 6, 9], &[2, 4, 5]];
 
@@ -98,6 +100,7 @@ impl Coverage {
         coverage.add("sum of probabilities", single, owned(&events::SUMS));
         coverage.add("calm profile", both, owned(&calm::CALM_EVENTS));
         coverage.add("calm profile, edges", single, owned(&calm::CALM_EDGES));
+        coverage.add("burst", single, owned(&bursts::BURSTS));
         coverage
     }
 
@@ -131,6 +134,11 @@ impl Coverage {
     /// Counts one of `events::RUN_EVENTS`.
     pub fn note_run_event(&mut self, label: usize) {
         self.hit(EVENTS + 2, label);
+    }
+
+    /// Counts one of `bursts::BURSTS`.
+    pub fn note_burst(&mut self, label: usize) {
+        self.hit(BURST, label);
     }
 
     fn note_refusals(&mut self, before: &Side, call: &Call, after: &Side) {

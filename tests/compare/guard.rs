@@ -1,6 +1,7 @@
 //! Lends memory beside pages that nobody may touch. Tables are read-only during a departure, and
 //! the state while it is asked whether it is well formed.
 
+use crate::bursts::{Burst, UNANSWERED};
 use crate::library::{self, Packet, Record};
 use crate::shared::area::{Area, READ, READ_WRITE};
 use crate::side::{handed_back, state_of, words, Call, Lender, Lent, Side, UNWRITTEN};
@@ -12,6 +13,8 @@ pub struct Guarded {
     packet: Area,
     handles: Area,
     sizes: Area,
+    calls: Area,
+    answers: Area,
 }
 
 impl Guarded {
@@ -21,6 +24,8 @@ impl Guarded {
             packet: Area::new(1, at_end),
             handles: Area::new(5, at_end),
             sizes: Area::new(5, at_end),
+            calls: Area::new(1, at_end),
+            answers: Area::new(1, at_end),
         }
     }
 
@@ -72,5 +77,27 @@ impl Lender for Guarded {
             Call::Tick { clock } => library::tick(record, clock),
         };
         side.state = state_of(&record.0);
+    }
+
+    fn burst(&mut self, side: &mut Side, burst: &Burst) -> (u32, Vec<u64>) {
+        let Lent { handles, sizes } = burst.lent;
+        let record = unsafe { &mut *(self.state.place(size_of::<Record>()) as *mut Record) };
+        *record = Record(words(&side.state));
+        let h = self.handles.table(&side.handles[..handles]);
+        let s = self.sizes.table(&side.sizes[..sizes]);
+        let calls = self.calls.table(&burst.calls);
+        self.calls.access(READ);
+        let answers = self.answers.place(8 * burst.answers) as *mut u64;
+        let h = unsafe { from_raw_parts_mut(h, handles) };
+        let s = unsafe { from_raw_parts_mut(s, sizes) };
+        let calls = unsafe { from_raw_parts(calls, burst.calls.len()) };
+        let answers = unsafe { from_raw_parts_mut(answers, burst.answers) };
+        answers.fill(UNANSWERED);
+        let answer = library::calls(record, h, s, calls, answers);
+        self.calls.access(READ_WRITE);
+        side.handles[..handles].copy_from_slice(h);
+        side.sizes[..sizes].copy_from_slice(s);
+        side.state = state_of(&record.0);
+        (answer, answers.to_vec())
     }
 }

@@ -41,6 +41,17 @@ extern "C" {
         packet: *mut Packet,
     ) -> u32;
     fn obikuteru_tick(state: *mut Record, clock: u64) -> u32;
+    fn obikuteru_calls(
+        state: *mut Record,
+        handles: *mut u32,
+        handles_len: usize,
+        sizes: *mut u32,
+        sizes_len: usize,
+        calls: *const u32,
+        calls_len: usize,
+        answers: *mut u64,
+        answers_len: usize,
+    ) -> u32;
     fn obikuteru_well_formed(state: *const Record) -> bool;
 }
 
@@ -81,6 +92,20 @@ pub fn departure(
 
 pub fn tick(state: &mut Record, clock: u64) -> u32 {
     unsafe { obikuteru_tick(state, clock) }
+}
+
+pub fn calls(
+    state: &mut Record,
+    handles: &mut [u32],
+    sizes: &mut [u32],
+    calls: &[u32],
+    answers: &mut [u64],
+) -> u32 {
+    let (h, h_len) = (handles.as_mut_ptr(), handles.len());
+    let (s, s_len) = (sizes.as_mut_ptr(), sizes.len());
+    let (c, c_len) = (calls.as_ptr(), calls.len());
+    let (a, a_len) = (answers.as_mut_ptr(), answers.len());
+    unsafe { obikuteru_calls(state, h, h_len, s, s_len, c, c_len, a, a_len) }
 }
 
 pub fn well_formed(state: &Record) -> bool {

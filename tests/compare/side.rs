@@ -1,5 +1,6 @@
 //! One side of the comparison: a state, two tables, and what the last call gave.
 
+use crate::bursts::{Burst, UNANSWERED};
 use crate::library::{self, Packet, Record, WORDS};
 use crate::model::{self, Arriving, Asked, State};
 pub use crate::shared::answers::UNWRITTEN;
@@ -79,6 +80,9 @@ impl Side {
 /// A way to lend memory to the library and run a call by it.
 pub trait Lender {
     fn call(&mut self, side: &mut Side, call: &Call);
+
+    /// Runs a burst: its answer and the words of its calls' answers.
+    fn burst(&mut self, side: &mut Side, burst: &Burst) -> (u32, Vec<u64>);
 }
 
 /// Lends the memory of the side itself.
@@ -108,6 +112,16 @@ impl Lender for Direct {
         };
         side.state = state_of(&record.0);
         side.packet = handed_back(call, packet);
+    }
+
+    fn burst(&mut self, side: &mut Side, burst: &Burst) -> (u32, Vec<u64>) {
+        let mut record = Record(words(&side.state));
+        let mut answers = vec![UNANSWERED; burst.answers];
+        let handles = &mut side.handles[..burst.lent.handles];
+        let sizes = &mut side.sizes[..burst.lent.sizes];
+        let answer = library::calls(&mut record, handles, sizes, &burst.calls, &mut answers);
+        side.state = state_of(&record.0);
+        (answer, answers)
     }
 }
 

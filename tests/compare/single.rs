@@ -1,5 +1,6 @@
 //! Single calls on random states: accepted ones, and ones to which chosen refusals apply.
 
+use crate::bursts;
 use crate::coverage::Coverage;
 use crate::model::{Arriving, Asked, Refusals, State, CLOCK_MAX};
 use crate::shared::numbers::{self, Lent};
@@ -9,13 +10,13 @@ use crate::side::{Call, Lender, Side};
 use crate::states;
 
 #[derive(Clone, Copy, PartialEq)]
-enum Kind {
+pub enum Kind {
     Arrival,
     Departure,
     Tick,
 }
 
-/// Runs `starts` random states, each with a few calls in succession.
+/// Runs `starts` random states, each with a few calls in succession, then a few bursts.
 pub fn run(
     r: &mut Random,
     starts: u64,
@@ -37,7 +38,7 @@ pub fn run(
             call = next_call(r, kind, &pair.model, &wanted);
         }
     }
-    Ok(())
+    bursts::run(r, starts / 20, lender, coverage)
 }
 
 /// Runs fresh with every setting at, beside and far from the ends of its range, and a tick on
@@ -74,7 +75,7 @@ fn kind(r: &mut Random) -> Kind {
 }
 
 /// None, one, two or more of the refusals that the call can get.
-fn wanted(r: &mut Random, kind: Kind) -> Refusals {
+pub fn wanted(r: &mut Random, kind: Kind) -> Refusals {
     let list: &[usize] = match kind {
         Kind::Arrival => &[2, 3, 4, 7, 8],
         Kind::Departure => &[2, 3, 4, 6, 9],
@@ -84,7 +85,7 @@ fn wanted(r: &mut Random, kind: Kind) -> Refusals {
 }
 
 /// A state with its tables, and a call to which the wanted refusals apply where they can.
-fn case(r: &mut Random) -> (Side, Call) {
+pub fn case(r: &mut Random) -> (Side, Call) {
     let kind = kind(r);
     let wanted = wanted(r, kind);
     let mut s = states::well_formed(r);
@@ -126,7 +127,7 @@ fn case(r: &mut Random) -> (Side, Call) {
 }
 
 /// Tables a little longer than the slots. The queued sizes add up to the queued bytes.
-fn tables(r: &mut Random, s: &State) -> (Vec<u32>, Vec<u32>) {
+pub fn tables(r: &mut Random, s: &State) -> (Vec<u32>, Vec<u32>) {
     let length = s.slots as usize + r.pick(&[1, 1, 2, 5]);
     let mut fill = || -> Vec<u32> { (0..length).map(|_| r.number() as u32).collect() };
     let (handles, mut sizes) = (fill(), fill());
@@ -146,7 +147,7 @@ fn tables(r: &mut Random, s: &State) -> (Vec<u32>, Vec<u32>) {
     (handles, sizes)
 }
 
-fn next_call(r: &mut Random, kind: Kind, side: &Side, wanted: &Refusals) -> Call {
+pub fn next_call(r: &mut Random, kind: Kind, side: &Side, wanted: &Refusals) -> Call {
     let s = &side.state;
     let clock = match wanted[4] {
         true => numbers::wrong_clock(r, s.clock, wanted[5]),
@@ -174,7 +175,7 @@ fn right_clock(r: &mut Random, s: &State) -> u64 {
     r.pick(&list).max(s.clock).min(CLOCK_MAX)
 }
 
-fn packet(r: &mut Random, s: &State, wrong: bool) -> Arriving {
+pub fn packet(r: &mut Random, s: &State, wrong: bool) -> Arriving {
     let room = s.buffer.saturating_sub(s.bytes).min(65_535);
     let any = r.spread(1, 65_535);
     let size = if wrong {

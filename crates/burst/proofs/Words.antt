@@ -1,0 +1,174 @@
+-- Twenty-three words, written out, and what the inner functions make of them.
+use mathlib.Core.Path.{_≡_, refl, ap, subst⁻¹}
+use mathlib.Core.Bool.{Bool, true, false, cond, not, _&&_}
+use mathlib.Core.List.{List, [], _∷_}
+use Prim.Native.Nat.{ℕ, zero, suc, _+_, _-_, _%_, _≤_, _<_}
+use native.Mathlib.Omega.{arith}
+use lib.Dec.{eqb, leb, ltb}
+use lib.ListN.{getD, length, set}
+use borrow.Author.Tests.{eqb-true, lt-leb, ltb-true, not-true}
+use Rattle.laws.proofs.Tests.{and-left, and-right}
+use Rattle.pie.specs.Constants.{threshold}
+use Rattle.pie.specs.DepartureRate.{rateAfter, running}
+use Rattle.pie.specs.DropDecision.{accumulatedAfter}
+use Rattle.pie.specs.Update.{updated}
+use Rattle.pie.specs.Verdicts.{admitted, placeOf, raised}
+use Rattle.pie.specs.declared.Rate.{Rate}
+use Rattle.pie.specs.declared.Verdict.{Verdict}
+use Rattle.pie.specs.declared.Verdict.the-variants.{Enqueued, Marked, DroppedBytes, DroppedSlots, DroppedEarly}
+use Rattle.queue.specs.Arrival.{arrivedState}
+use Rattle.queue.specs.Departure.{departedState}
+use Rattle.queue.specs.Tick.{tickedState}
+use Rattle.capi.specs.Words.{flagWord, isSet, pieOf, rateOf, stateOf, stateWords}
+use Rattle.burst.specs.Words.{decidedWords, rateWords, withRate}
+
+-- f 0, f 1, ..: n of them
+abbrev pub listed : ℕ → (ℕ → ℕ) → List ℕ
+listed zero f = []
+listed (suc n) f = f 0 ∷ listed n (λ i. f (suc i))
+
+pub written-out : (n : ℕ) (w : List ℕ) → length w ≡ n → w ≡ listed n (λ i. getD w i 0)
+written-out zero [] h = refl
+written-out zero (x ∷ w) h = absurd (omega arith)
+written-out (suc n) [] h = absurd (omega arith)
+written-out (suc n) (x ∷ w) h = ap (λ (l : List ℕ). x ∷ l) (written-out n w (omega arith))
+
+-- what holds of any twenty-three words written out holds of twenty-three words
+pub for-words : (P : List ℕ → Type 0) → ((f : ℕ → ℕ) → P (listed 23 f)) → (w : List ℕ) → length w ≡ 23 → P w
+for-words P h w e = subst⁻¹ P (written-out 23 w e) (h (λ i. getD w i 0))
+
+-- a word that says what it said is left as it is
+flag-kept : (word : ℕ) → flagWord word (isSet word) ≡ word
+flag-kept word = go (eqb word 0) refl
+  where
+    go : (b : Bool) → eqb word 0 ≡ b → cond (not b) (cond (not b) word 0) (cond (not b) 1 0) ≡ word
+    go true e = omega (arith, eqb-true word 0 e)
+    go false e = refl
+
+-- ── an arrival ──
+
+-- what rules 1 to 5 leave is what was there
+pub undecided : (w : List ℕ) → length w ≡ 23 → w ≡ set w 8 (getD w 8 0)
+undecided = for-words (λ w. w ≡ set w 8 (getD w 8 0)) (λ f. refl)
+
+-- clock and the verdict's count
+abbrev pub countedWords : List ℕ → (clock place : ℕ) → List ℕ
+countedWords w clock place =
+    set (set w 3 clock) (16 + place) (getD (set w 3 clock) (16 + place) 0 + 1)
+
+-- count and bytes
+abbrev pub enteredWords : List ℕ → (size : ℕ) → List ℕ
+enteredWords w size =
+    let next = set w 13 (getD w 13 0 + 1) in set next 14 (getD next 14 0 + size)
+
+abbrev arrivalWritten : List ℕ → (clock size : ℕ) → Verdict → List ℕ
+arrivalWritten w clock size v =
+    let counted = countedWords (decidedWords w v) clock (placeOf v) in cond (admitted v) (enteredWords counted size) counted
+
+pub arrived-words : (clock size : ℕ) (v : Verdict) (w : List ℕ) → length w ≡ 23 → isSet (getD w 22 0) ≡ true →
+    arrivalWritten w clock size v ≡ stateWords w (arrivedState (stateOf w) clock size v)
+unfolding stateOf stateWords arrivedState raised
+arrived-words clock size v =
+    for-words
+    (λ w. isSet (getD w 22 0) ≡ true → arrivalWritten w clock size v ≡ stateWords w (arrivedState (stateOf w) clock size v))
+    (go v)
+  where
+    go : (v : Verdict) (f : ℕ → ℕ) → isSet (f 22) ≡ true →
+        arrivalWritten (listed 23 f) clock size v ≡ stateWords (listed 23 f) (arrivedState (stateOf (listed 23 f)) clock size v)
+    go Enqueued f e = rw (flag-kept (f 10), flag-kept (f 22), e)
+    go Marked f e = rw (flag-kept (f 10), flag-kept (f 22), e)
+    go DroppedBytes f e = rw (flag-kept (f 10), flag-kept (f 22), e)
+    go DroppedSlots f e = rw (flag-kept (f 10), flag-kept (f 22), e)
+    go DroppedEarly f e = rw (flag-kept (f 10), flag-kept (f 22), e)
+
+-- ── a tick ──
+
+abbrev tickWritten : List ℕ → (clock : ℕ) → List ℕ
+tickWritten w clock =
+    let next = updated (pieOf w) false (getD w 0 0) (getD w 14 0) in
+    set (set (set (set (set w 3 clock) 4 clock) 5 (next .prob .0)) 6 (next .old .0)) 7 (next .allowance .0)
+
+pub ticked-words : (clock : ℕ) (w : List ℕ) → length w ≡ 23 → isSet (getD w 22 0) ≡ true → eqb (getD w 21 0) 1 ≡ false →
+    tickWritten w clock ≡ stateWords w (tickedState (stateOf w) clock)
+unfolding stateOf stateWords tickedState updated
+ticked-words clock =
+    for-words
+    (λ w. isSet (getD w 22 0) ≡ true → eqb (getD w 21 0) 1 ≡ false → tickWritten w clock ≡ stateWords w (tickedState (stateOf w) clock))
+    (λ f e p. rw (e, p, flag-kept (f 10)))
+
+-- ── the departure rate ──
+
+pub counting-words : (counted : ℕ) (w : List ℕ) → length w ≡ 23 → isSet (getD w 10 0) ≡ true →
+    set w 12 counted ≡ rateWords w (running (getD w 9 0) (getD w 11 0) counted)
+unfolding stateOf stateWords rateWords
+counting-words counted =
+    for-words (λ w. isSet (getD w 10 0) ≡ true → set w 12 counted ≡ rateWords w (running (getD w 9 0) (getD w 11 0) counted))
+    (λ f e. rw (flag-kept (f 22), e))
+
+pub same-words : (w : List ℕ) → length w ≡ 23 → w ≡ rateWords w (rateOf w)
+unfolding stateOf stateWords rateWords
+same-words = for-words (λ w. w ≡ rateWords w (rateOf w)) (λ f. rw (flag-kept (f 10), flag-kept (f 22)))
+
+abbrev pub rated : List ℕ → Rate → List ℕ
+rated w r = set (set (set w 9 (r .average .0)) 11 (r .start .0)) 12 (r .counted .0)
+
+pub going-on : (r : Rate) → r .measuring ≡ true → (w : List ℕ) → length w ≡ 23 → isSet (getD w 10 0) ≡ true → rated w r ≡ rateWords w r
+unfolding stateOf stateWords rateWords
+going-on r m = for-words (λ w. isSet (getD w 10 0) ≡ true → rated w r ≡ rateWords w r) (λ f e. rw (flag-kept (f 22), m, e))
+
+pub starting-words : (r : Rate) → r .measuring ≡ true → (w : List ℕ) → length w ≡ 23 → isSet (getD w 10 0) ≡ false →
+    set (rated w r) 10 1 ≡ rateWords w r
+unfolding stateOf stateWords rateWords
+starting-words r m =
+    for-words (λ w. isSet (getD w 10 0) ≡ false → set (rated w r) 10 1 ≡ rateWords w r) (λ f e. rw (flag-kept (f 22), m, e))
+
+none : (b : Bool) → _≡_ {A = ℕ} (cond b 0 0) 0
+none true = refl
+none false = refl
+
+pub resting-words : (r : Rate) → r .measuring ≡ false → (w : List ℕ) → length w ≡ 23 → set (rated w r) 10 0 ≡ rateWords w r
+unfolding stateOf stateWords rateWords
+resting-words r m =
+    for-words (λ w. set (rated w r) 10 0 ≡ rateWords w r) (λ f. rw (flag-kept (f 22), m, none (isSet (f 10))))
+
+-- ── a departure ──
+
+-- clock, count, bytes and first place
+abbrev pub leftWords : List ℕ → (clock size first : ℕ) → List ℕ
+leftWords w clock size first = set (set (set (set w 3 clock) 13 (getD w 13 0 - 1)) 14 (getD w 14 0 - size)) 15 first
+
+abbrev departureWritten : List ℕ → (clock size : ℕ) → List ℕ
+departureWritten w clock size =
+    let left = leftWords w clock size ((getD w 15 0 + 1) % getD w 2 0) in
+    rateWords left (rateAfter (rateOf left) clock size (getD w 13 0 - 1) (getD w 14 0 - size))
+
+pub departed-words : (clock size : ℕ) (w : List ℕ) → length w ≡ 23 →
+    departureWritten w clock size ≡ stateWords w (departedState (stateOf w) clock size)
+unfolding stateOf stateWords rateWords departedState
+departed-words clock size =
+    for-words (λ w. departureWritten w clock size ≡ stateWords w (departedState (stateOf w) clock size)) (λ f. refl)
+
+pub left-rate : (clock size first : ℕ) (w : List ℕ) → length w ≡ 23 → rateOf (leftWords w clock size first) ≡ rateOf w
+left-rate clock size first = for-words (λ w. rateOf (leftWords w clock size first) ≡ rateOf w) (λ f. refl)
+
+pub left-long : (clock size first : ℕ) (w : List ℕ) → length w ≡ 23 → length (leftWords w clock size first) ≡ 23
+left-long clock size first = for-words (λ w. length (leftWords w clock size first) ≡ 23) (λ f. refl)
+
+-- ── the rate's own cases ──
+
+-- a measurement goes on
+pub counting-rate : (w : List ℕ) (clock size count bytesLeft : ℕ) → isSet (getD w 10 0) ≡ true →
+    ltb (getD w 12 0 + size) threshold && not (eqb count 0) ≡ true →
+    rateAfter (rateOf w) clock size count bytesLeft ≡ running (getD w 9 0) (getD w 11 0) (getD w 12 0 + size)
+unfolding rateAfter
+counting-rate w clock size count bytesLeft e f =
+    let low = ltb (getD w 12 0 + size) threshold in
+    let below : getD w 12 0 + size < threshold = ltb-true _ _ (and-left low (not (eqb count 0)) f) in
+    let some : eqb count 0 ≡ false = not-true (eqb count 0) (and-right low (not (eqb count 0)) f) in
+    rw (e, lt-leb threshold (getD w 12 0 + size) below, some)
+
+-- none runs, and none starts
+pub resting-rate : (w : List ℕ) (clock size count bytesLeft : ℕ) → isSet (getD w 10 0) ≡ false → not (leb threshold bytesLeft) ≡ true →
+    rateAfter (rateOf w) clock size count bytesLeft ≡ rateOf w
+unfolding rateAfter
+resting-rate w clock size count bytesLeft e f = rw (e, not-true (leb threshold bytesLeft) f)
