@@ -93,7 +93,7 @@ pub fn put_tick(accepted: Accepted, out: &mut [u8], at: usize) -> usize
     }
 }
 
-fn put_field(n: u64, out: &mut [u8], at: usize) -> usize
+pub fn put_field(n: u64, out: &mut [u8], at: usize) -> usize
     requires { ⌜ at + 21 ≤ length (now out) ⌝ }
     ensures { λ r. ⌜ Wrote (now (out .entry)) (now (out .exit)) at r (ascii " " ++ digitsOf n) ⌝ }
     ensures { λ r. ⌜ r ≤ at + 21 ⌝ }

@@ -1,0 +1,2 @@
+-- The text of a line.
+pub mod Output

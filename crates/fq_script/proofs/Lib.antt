@@ -1,0 +1,2 @@
+-- Room left in the output.
+pub mod Room

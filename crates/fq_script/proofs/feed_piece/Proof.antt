@@ -1,0 +1,99 @@
+-- `feed_piece`: each turn takes more, or is the last.
+use mathlib.Core.Path.{_≡_, refl, _∙_}
+use Prim.Native.Nat.{_-_, _≤_}
+use native.Mathlib.Omega.{arith}
+use borrow.Author.Needs.{needs}
+use borrow.Author.Tests.{eqb-false}
+use lib.ListN.{drop, length, length-drop, length-take}
+use Rattle.laws.proofs.Tests.{or-neither}
+use Rattle.fq_script.proofs.feed_piece.Statement.{statement}
+use Rattle.fq_script.proofs.feed_piece.Tie as tie
+
+abbrev Inv-loop : tie.InvT-loop
+Inv-loop order₀ deficits₀ flows₀ handles₀ sizes₀ input output₀ runner₀ at₀ order deficits flows handles sizes output runner at =
+    (length handles ≡ length handles₀) × (length sizes ≡ length sizes₀) × (length output ≡ length output₀) × (at ≤ length input)
+
+abbrev μ-loop : tie.MeasureT-loop
+μ-loop order₀ deficits₀ flows₀ handles₀ sizes₀ input output₀ runner₀ at₀ order deficits flows handles sizes output runner at = length input - at
+
+loop-holds : tie.Need-loop-holds Inv-loop μ-loop
+loop-holds c = (refl, refl, refl, omega arith)
+
+sub-feed-some : tie.Need-sub-feed-some Inv-loop μ-loop
+sub-feed-some c = omega (arith, c .before .before .before .before .before .before .loop .inv .3, c .before .before .before .before .before .loop-test .taken)
+
+part-feed-some-start : tie.Need-part-feed-some-start Inv-loop μ-loop
+part-feed-some-start c = omega (arith, c .before .before .before .before .before .before .loop .inv .3, c .before .before .before .before .before .loop-test .taken)
+
+part-feed-some-end : tie.Need-part-feed-some-end Inv-loop μ-loop
+part-feed-some-end c = omega (arith, c .before .before .before .before .before .before .loop .inv .3, c .before .before .before .before .before .loop-test .taken)
+
+feed-some-requires : tie.Need-feed-some-requires Inv-loop μ-loop
+feed-some-requires c κs = tt
+
+add-at : tie.Need-add-at Inv-loop μ-loop
+add-at c =
+    let short = simp (length-take, length-drop) at (c .before .before .before .before .before .before .before .feed-some .ensures) in
+    omega (arith, short, c .before .before .before .before .before .before .before .before .before .before .before .before .before .before .before .before .loop .inv .3, c .before .before .before .before .before .before .before .before .before .before .before .before .before .before .before .loop-test .taken, c .before .before .before .before .before .before .before .before .before .before .before .before .before .before .before .before .before .before .before .before .before .good .1)
+
+same-length : tie.Need-same-length Inv-loop μ-loop
+same-length c = c .before .before .before .before .before .before .before .before .before .feed-some .kept .1 .1 .1 .1 .0 ∙ c .before .before .before .before .before .before .before .before .before .before .before .before .before .before .before .before .before .before .loop .inv .0
+
+same-length-2 : tie.Need-same-length-2 Inv-loop μ-loop
+same-length-2 c = c .before .before .before .before .before .before .before .before .before .feed-some .kept .1 .1 .1 .1 .1 .0 ∙ c .before .before .before .before .before .before .before .before .before .before .before .before .before .before .before .before .before .before .loop .inv .1
+
+same-length-3 : tie.Need-same-length-3 Inv-loop μ-loop
+same-length-3 c = c .before .before .before .before .before .before .before .before .before .feed-some .kept .1 .1 .1 .1 .1 .1 .1 .0 ∙ c .before .before .before .before .before .before .before .before .before .before .before .before .before .before .before .before .before .before .loop .inv .2
+
+returns : tie.Need-returns Inv-loop μ-loop
+returns c = search needs
+
+loop-less : tie.Need-loop-less Inv-loop μ-loop
+loop-less c =
+    let short = simp (length-take, length-drop) at (c .before .before .before .before .before .before .before .before .before .feed-some .ensures) in
+    let some = eqb-false (c .before .before .before .before .before .before .before .before .before .feed-some .result .taken) 0 (or-neither _ _ (c .if1 .left) .0) in
+    omega (arith, short, some, c .before .before .before .before .before .before .before .before .before .before .before .before .before .before .before .before .before .before .loop .inv .3, c .before .before .before .before .before .before .before .before .before .before .before .before .before .before .before .before .before .loop-test .taken)
+
+loop-again : tie.Need-loop-again Inv-loop μ-loop
+loop-again c =
+    let short = simp (length-take, length-drop) at (c .before .before .before .before .before .before .before .before .before .feed-some .ensures) in (
+      c .before .before .before .before .before .before .before .before .before .feed-some .kept .1 .1 .1 .1 .0 ∙ c .before .before .before .before .before .before .before .before .before .before .before .before .before .before .before .before .before .before .loop .inv .0,
+      c .before .before .before .before .before .before .before .before .before .feed-some .kept .1 .1 .1 .1 .1 .0 ∙ c .before .before .before .before .before .before .before .before .before .before .before .before .before .before .before .before .before .before .loop .inv .1,
+      c .before .before .before .before .before .before .before .before .before .feed-some .kept .1 .1 .1 .1 .1 .1 .1 .0 ∙ c .before .before .before .before .before .before .before .before .before .before .before .before .before .before .before .before .before .before .loop .inv .2,
+      omega (arith, short, c .before .before .before .before .before .before .before .before .before .before .before .before .before .before .before .before .before .before .loop .inv .3, c .before .before .before .before .before .before .before .before .before .before .before .before .before .before .before .before .before .loop-test .taken),
+    )
+
+same-length-4 : tie.Need-same-length-4 Inv-loop μ-loop
+same-length-4 c = c .before .loop .inv .0
+
+same-length-5 : tie.Need-same-length-5 Inv-loop μ-loop
+same-length-5 c = c .before .loop .inv .1
+
+same-length-6 : tie.Need-same-length-6 Inv-loop μ-loop
+same-length-6 c = c .before .loop .inv .2
+
+returns-2 : tie.Need-returns-2 Inv-loop μ-loop
+returns-2 c = search needs
+
+pub feed-piece-spec : {M : Type 1} → statement M
+feed-piece-spec =
+    tie.close
+    (tie.spec
+    Inv-loop
+    μ-loop
+    loop-holds
+    sub-feed-some
+    part-feed-some-start
+    part-feed-some-end
+    feed-some-requires
+    add-at
+    same-length
+    same-length-2
+    same-length-3
+    returns
+    loop-less
+    loop-again
+    same-length-4
+    same-length-5
+    same-length-6
+    returns-2)
