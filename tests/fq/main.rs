@@ -5,6 +5,7 @@
 //!   fq seed N        one round with the seed N
 //!   fq soak SECONDS  rounds with new seeds until the time is over
 //!   fq guard         calls with memory that stands beside or between guarded pages
+//!   fq script        answers the script on standard input by the model
 //!
 //! It ends with 1 at the first difference, with 2 if the calls did not reach everything, and
 //! with 3 if it was not understood.
@@ -38,6 +39,7 @@ mod plans;
 mod records;
 mod report;
 mod runs;
+mod script;
 mod shadow;
 #[allow(dead_code)]
 #[path = "../shared/mod.rs"]
@@ -55,6 +57,9 @@ use shared::program::Round;
 const NAME: &str = "fq";
 
 fn main() {
+    if std::env::args().skip(1).eq(["script"]) {
+        return script::run();
+    }
     let round = Round {
         seed: 80_337,
         batches: 120,
