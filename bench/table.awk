@@ -68,6 +68,10 @@ function rows(s) {
     row(s, "arrival", "arrival")
     row(s, "departure", "departure")
     row(s, "tick", "tick")
+    if ((s, "calls-32", "library") in median) {
+        row(s, "calls-32", "bursts of 32, a call")
+        row(s, "calls-256", "bursts of 256, a call")
+    }
     if ((s, "script", "library") in median)
         row(s, "script", "script, a line")
     if ((s, "replay", "library") in median) {
@@ -155,11 +159,14 @@ END {
             printf "The pair's entries to the queue's, stream %s to %s, instructions of the library: %s; %s; %s.\n", s,
                 beside[s], to_queue(s, "arrival"), to_queue(s, "departure"), to_queue(s, "tick")
         miss_entries(s)
+        miss(s, "calls-32", 1.05, 1.0)
+        miss(s, "calls-256", 1.05, 1.0)
         miss(s, "add", 1.1, 1.1)
         miss(s, "replay", 1.1, 1.1)
         miss(s, "compare", 1.5, 1.5)
     }
-    printf "Asked, of plain queues: the queue's entries at most 1.05 times plain C in time and 1.0 in instructions; in both, the modem's entries 1.1, "
+    printf "Asked, of plain queues: the queue's entries and bursts at most 1.05 times plain C in time and 1.0 in instructions; in both, "
+    printf "the modem's entries 1.1, "
     printf "add and replay 1.1, compare 1.5; the pair's entries 1.1 in time, and 1.6 times the queue's in instructions: "
     print missed == "" ? "reached." : "missed by " substr(missed, 3) "."
 }

@@ -180,9 +180,11 @@ uint32_t obikuteru_tick(struct obikuteru_state *state, uint64_t clock);
 bool obikuteru_well_formed(const struct obikuteru_state *state);
 
 /*
- * Many calls in one: a burst. The record is tested once, and each call is answered as its single
- * entry would answer it, refused ones included, each given what the last one left; so a burst may be
- * cut anywhere. On a plain queue a call of a burst costs less than half of a single one.
+ * Many calls in one: a burst. Each call is answered as its single entry would answer it, refused
+ * ones included, each given what the last one left; so a list of calls may be cut into bursts
+ * anywhere. The record of a plain queue is tested once, and a call in a burst of 32 costs less
+ * than half of a single one; that of a calm queue is tested at each call, which then costs as much
+ * as a single one.
  */
 struct obikuteru_call {
     uint64_t clock;

@@ -1,8 +1,7 @@
 -- A burst is the list of its calls, in turn.
 use mathlib.Core.Path.{_≡_, refl, ap, sym, _∙_}
 use mathlib.Core.Bool.{Bool, true, false}
-use mathlib.Core.Logic.{_≢_}
-use mathlib.Core.List.{List, [], _∷_, _++_, foldl}
+use mathlib.Core.List.{List, foldl}
 use Prim.Native.Nat.{ℕ, zero, suc, _*_, _≤_, _<_}
 use native.Mathlib.Omega.{arith}
 use lib.Dec.{ltb}
@@ -10,7 +9,7 @@ use lib.ListN.{getD, length, length-set, set}
 use lib.Seq.{getD-set-other, getD-set-same}
 use borrow.Author.Tests.{ltb-false, ltb-true}
 use Rattle.calls.specs.Ring.{listed}
-use Rattle.burst.specs.Calls.{Call, callAt}
+use Rattle.burst.specs.Calls.{callAt}
 use Rattle.burst.specs.Burst.{Lent, after, answerTo, answerWord, burst}
 use Rattle.burst.specs.InTurn.{AnsweredInTurn, callsOf}
 

@@ -1,13 +1,13 @@
 -- A call leaves a queue that is ready for one arrival less.
 use mathlib.Core.Path.{_≡_, refl, sym, ap, _∙_}
 use mathlib.Core.Bool.{Bool, true, false, cond, not}
-use mathlib.Core.List.{List, [], _∷_}
-use Prim.Native.Nat.{ℕ, zero, suc, _+_, _≤_}
+use mathlib.Core.List.{List}
+use Prim.Native.Nat.{ℕ, suc, _+_, _≤_}
 use native.Mathlib.Omega.{arith}
 use lib.Dec.{eqb}
-use lib.ListN.{getD, length, length-set, set}
+use lib.ListN.{getD, length, length-set}
 use Rattle.laws.proofs.Choice.{at-cond}
-use Rattle.pie.specs.Verdicts.{admitted, placeOf, raised, total}
+use Rattle.pie.specs.Verdicts.{total}
 use Rattle.pie.proofs.Counts.{length-raised, total-raised}
 use Rattle.queue.specs.declared.Settings.{Settings}
 use Rattle.queue.specs.declared.State.{State}
@@ -20,10 +20,10 @@ use Rattle.capi.specs.Codes.{wordsAfter}
 use Rattle.capi.specs.Words.{flagWord, isSet, stateOf, stateWords}
 use Rattle.guarantees.specs.Calls.{Call, arrive, depart, reply, update}
 use Rattle.guarantees.specs.Handed.{Request, askArrival, askDeparture, askTick, callOf}
-use Rattle.guarantees.proofs.Replies.{Accepted, acceptance, at-one-reply, refusalOf, reply-well-formed}
+use Rattle.guarantees.proofs.Replies.{acceptance, at-one-reply, reply-well-formed}
 use Rattle.burst.specs.Calls as calls
 use Rattle.burst.specs.Burst.{Lent, Ready, after, queueOf, replyTo}
-use Rattle.burst.proofs.Words.{listed, written-out}
+use Rattle.burst.proofs.Words.{written-out}
 
 flag-says : (word : ℕ) (said : Bool) → isSet (flagWord word said) ≡ said
 flag-says word said = go (eqb word 0) refl said

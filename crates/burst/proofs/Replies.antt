@@ -1,10 +1,9 @@
 -- The reply of each call where the state is well formed and the tables fit.
-use mathlib.Core.Path.{_≡_, refl, ap, _∙_}
-use mathlib.Core.Bool.{Bool, true, false, _&&_}
+use mathlib.Core.Path.{_≡_, ap, _∙_}
+use mathlib.Core.Bool.{Bool, true, false}
 use mathlib.Core.List.{List}
-use Prim.Native.Nat.{ℕ, _+_, _≤_, _<_}
+use Prim.Native.Nat.{ℕ, _<_}
 use native.Mathlib.Omega.{arith}
-use lib.Dec.{eqb}
 use lib.ListN.{length}
 use borrow.Author.Tests.{eq-eqb, ne-eqb}
 use Rattle.pie.specs.Constants.{mostVerdicts}
@@ -13,11 +12,11 @@ use Rattle.refusals.specs.Tests.{headRefused, sizeRefused}
 use Rattle.queue.specs.declared.State.{State}
 use Rattle.queue.specs.Activity.{begun, isCalm, turnsActive}
 use Rattle.queue.specs.State.{wellFormed}
-use Rattle.queue.specs.Answer.{Reply, departed, refused, ticked, verdict}
-use Rattle.queue.specs.Refusals.{clockRefused, countsRefused, emptyRefused, tooSoonRefused}
+use Rattle.queue.specs.Answer.{Reply, verdict}
+use Rattle.queue.specs.Refusals.{clockRefused, emptyRefused, tooSoonRefused}
 use Rattle.queue.specs.Arrival.{arrival, arrivalRefusal, arrivedState, verdictOf}
-use Rattle.queue.specs.Departure.{departedState, departure, departureRefusal, headOf}
-use Rattle.queue.specs.Tick.{tick, tickRefusal, tickedState}
+use Rattle.queue.specs.Departure.{departure, departureRefusal, headOf}
+use Rattle.queue.specs.Tick.{tick, tickRefusal}
 use Rattle.queue.proofs.Activation.{begun-same, plain-active}
 use Rattle.queue.proofs.Facts.{facts}
 use Rattle.guarantees.proofs.Replies.{arrivalOf, departureOf, refusalOf, tickOf}

@@ -1,5 +1,5 @@
 -- One call of a burst, from what its entry gives, and one more call after some.
-use mathlib.Core.Path.{_≡_, refl, ap, sym, _∙_}
+use mathlib.Core.Path.{_≡_, refl, _∙_}
 use mathlib.Core.Bool.{Bool, true, false, _&&_}
 use mathlib.Core.List.{List, [], _∷_}
 use Prim.Native.Nat.{ℕ, zero, suc, _+_, _-_, _*_, _≤_, _<_}
@@ -8,13 +8,12 @@ use lib.Dec.{eqb, leb, ltb}
 use lib.ListN.{getD, length, set}
 use borrow.Author.Tests.{leb-true}
 use Rattle.laws.proofs.Tests.{and-left, and-right}
-use Rattle.pie.specs.Constants.{largest}
 use Rattle.refusals.specs.Rows.{firstRefusal}
 use Rattle.queue.specs.declared.State.{State}
-use Rattle.queue.specs.Answer.{Answer, Reply, departed, handleIn, refused, sizeIn, ticked, unlessRefused, verdict}
+use Rattle.queue.specs.Answer.{Reply, sizeIn, unlessRefused}
 use Rattle.queue.specs.Arrival.{arrival, arrivalRefusal, stored}
-use Rattle.queue.specs.Departure.{departedState, departure, departureRefusal, departureRefusals, headOf}
-use Rattle.queue.specs.Tick.{tick, tickRefusal, tickedState}
+use Rattle.queue.specs.Departure.{departure, departureRefusal, departureRefusals, headOf}
+use Rattle.queue.specs.Tick.{tick, tickRefusal}
 use Rattle.queue.proofs.WhenAccepted.{departure-accepted}
 use Rattle.capi.specs.Codes.{codeOf, wordsAfter}
 use Rattle.capi.specs.Words.{stateOf}

@@ -2,7 +2,7 @@
 use mathlib.Core.Path.{_≡_, refl, ap, subst⁻¹}
 use mathlib.Core.Bool.{Bool, true, false, cond, not, _&&_}
 use mathlib.Core.List.{List, [], _∷_}
-use Prim.Native.Nat.{ℕ, zero, suc, _+_, _-_, _%_, _≤_, _<_}
+use Prim.Native.Nat.{ℕ, zero, suc, _+_, _-_, _%_, _<_}
 use native.Mathlib.Omega.{arith}
 use lib.Dec.{eqb, leb, ltb}
 use lib.ListN.{getD, length, set}
@@ -10,7 +10,6 @@ use borrow.Author.Tests.{eqb-true, lt-leb, ltb-true, not-true}
 use Rattle.laws.proofs.Tests.{and-left, and-right}
 use Rattle.pie.specs.Constants.{threshold}
 use Rattle.pie.specs.DepartureRate.{rateAfter, running}
-use Rattle.pie.specs.DropDecision.{accumulatedAfter}
 use Rattle.pie.specs.Update.{updated}
 use Rattle.pie.specs.Verdicts.{admitted, placeOf, raised}
 use Rattle.pie.specs.declared.Rate.{Rate}
@@ -20,7 +19,7 @@ use Rattle.queue.specs.Arrival.{arrivedState}
 use Rattle.queue.specs.Departure.{departedState}
 use Rattle.queue.specs.Tick.{tickedState}
 use Rattle.capi.specs.Words.{flagWord, isSet, pieOf, rateOf, stateOf, stateWords}
-use Rattle.burst.specs.Words.{decidedWords, rateWords, withRate}
+use Rattle.burst.specs.Words.{decidedWords, rateWords}
 
 -- f 0, f 1, ..: n of them
 abbrev pub listed : ℕ → (ℕ → ℕ) → List ℕ

@@ -1,3 +1,4 @@
+-- `known`: each kind of call is its step of the burst.
 use borrow.Author.Needs.{needs}
 use Rattle.burst.proofs.known.Statement.{statement}
 use Rattle.burst.proofs.known.Tie as tie

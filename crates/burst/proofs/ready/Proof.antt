@@ -1,3 +1,4 @@
+-- `ready`: what each test that passes says.
 use borrow.Author.Needs.{needs}
 use Rattle.burst.proofs.ready.Statement.{statement}
 use Rattle.burst.proofs.ready.Tie as tie

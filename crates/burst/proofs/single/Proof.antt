@@ -1,3 +1,4 @@
+-- `single`: each single entry promises its step of the burst.
 use borrow.Author.Needs.{needs}
 use Rattle.burst.proofs.single.Statement.{statement}
 use Rattle.burst.proofs.single.Tie as tie

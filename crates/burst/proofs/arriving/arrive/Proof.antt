@@ -2,14 +2,14 @@
 use borrow.Author.Needs.{needs}
 use Rattle.burst.proofs.arriving.arrive.Statement.{statement}
 use Rattle.burst.proofs.arriving.arrive.Tie as tie
-use mathlib.Core.Path.{_≡_, refl, sym, _∙_}
+use mathlib.Core.Path.{_≡_, refl}
 use mathlib.Core.Bool.{true, false}
 use mathlib.Core.Logic.{_≢_}
 use mathlib.Core.List.{List}
 use Prim.Native.Nat.{ℕ, _+_, _≤_, _<_}
 use native.Mathlib.Nat.{mod-lt}
 use native.Mathlib.Omega.{arith}
-use lib.Dec.{eqb, ltb}
+use lib.Dec.{eqb}
 use lib.ListN.{getD, set}
 use denote.Ref.{now}
 use borrow.Author.Tests.{ltb-false}

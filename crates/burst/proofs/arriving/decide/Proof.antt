@@ -3,12 +3,12 @@ use borrow.Author.Needs.{needs}
 use Rattle.burst.proofs.arriving.decide.Statement.{statement}
 use Rattle.burst.proofs.arriving.decide.Tie as tie
 use mathlib.Core.Path.{_≡_}
-use mathlib.Core.Bool.{Bool, true, false, _&&_, _||_, or-true}
+use mathlib.Core.Bool.{Bool, true, false, _&&_}
 use mathlib.Core.Logic.{_⊎_, inl, inr, ⊎-elim}
 use native.Mathlib.Omega.{arith}
 use lib.ListN.{getD}
 use denote.Ref.{now}
-use Rattle.pie.specs.DropDecision.{inAllowance, isSmall, lightlyLoaded, spared}
+use Rattle.pie.specs.DropDecision.{lightlyLoaded, spared}
 use Rattle.queue.proofs.Facts.{Facts, facts}
 use Rattle.capi.specs.Words.{isSet, pieOf, stateOf}
 use Rattle.burst.proofs.Decisions.{bytes-decide, drawn-decides, slots-decide, spared-decide}
