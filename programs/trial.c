@@ -1,8 +1,8 @@
 /*
  * trial QUEUEING RATE DELAY LOG: joins two TUN devices, which it makes, `trial-a` and `trial-b`. What comes from the first goes to
- * the second through the queueing (fifo, ring, calm, pair) at RATE bytes a second; both directions take DELAY microseconds more. It
- * prints `ready` once the devices are there, and at SIGTERM, SIGINT or the end of standard input writes the log and prints what it
- * counted:
+ * the second through the queueing (fifo, ring, calm, modem, pair, fq) at RATE bytes a second; both directions take DELAY microseconds
+ * more. It prints `ready` once the devices are there, and at SIGTERM, SIGINT or the end of standard input writes the log, where the
+ * queueing is the ring (ring, calm), and prints what it counted:
  *   packets bytes mean-delay-us early full marked refused voice-packets voice-mean-delay-us voice-dropped
  */
 #define _GNU_SOURCE
@@ -171,7 +171,7 @@ static void run(struct pollfd *devices)
 
 static const struct queueing *named(const char *name)
 {
-    const struct queueing *const all[] = {&fifo, &ring, &calm, &pair};
+    const struct queueing *const all[] = {&fifo, &ring, &calm, &modem, &pair, &fq};
 
     for (size_t i = 0; i < sizeof all / sizeof *all; i++)
         if (strcmp(all[i]->name, name) == 0)
@@ -211,7 +211,7 @@ int main(int argc, char **argv)
     puts("ready");
     fflush(stdout);
     began = now();
-    queueing->begin();
+    queueing->begin(rate);
     run(devices);
     return finish_trial(argv[4]);
 }

@@ -4,8 +4,9 @@
 static int waiting[SLOTS];
 static uint32_t first, count, bytes;
 
-static void begin(void)
+static void begin(uint64_t rate)
 {
+    (void)rate;
     first = count = bytes = 0;
 }
 

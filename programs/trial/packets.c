@@ -2,7 +2,7 @@
 
 #include <string.h>
 
-enum { ECN_BITS = 3, CONGESTION_EXPERIENCED = 3, UDP = 17 };
+enum { ECN_BITS = 3, CONGESTION_EXPERIENCED = 3, TCP = 6, UDP = 17, VOICE_PORT = 5202 };
 
 struct packet packets[PACKETS];
 static int unused[PACKETS];
@@ -56,20 +56,34 @@ void mark_packet(int number)
     header[11] = (uint8_t)sum;
 }
 
+/* Source and destination port as they stand in the packet; NULL where it has none. */
+static const uint8_t *ports_of(const struct packet *packet)
+{
+    uint32_t header = 4u * (packet->bytes[0] & 15u);
+    uint8_t protocol = packet->bytes[9];
+
+    if (!is_ipv4(packet) || packet->length < header + 4 || (protocol != TCP && protocol != UDP))
+        return NULL;
+    return packet->bytes + header;
+}
+
 bool is_voice(int number)
 {
-    return is_ipv4(&packets[number]) && packets[number].bytes[9] == UDP;
+    const uint8_t *ports = ports_of(&packets[number]);
+
+    return ports != NULL && packets[number].bytes[9] == UDP && (ports[2] << 8 | ports[3]) == VOICE_PORT;
 }
 
 void key_of(int number, uint8_t key[13])
 {
     const uint8_t *bytes = packets[number].bytes;
-    uint32_t header = 4u * (bytes[0] & 15u);
+    const uint8_t *ports = ports_of(&packets[number]);
 
     memset(key, 0, 13);
-    if (!is_ipv4(&packets[number]) || packets[number].length < header + 4)
+    if (!is_ipv4(&packets[number]))
         return;
     memcpy(key, bytes + 12, 8);
-    memcpy(key + 8, bytes + header, 4);
+    if (ports != NULL)
+        memcpy(key + 8, ports, 4);
     key[12] = bytes[9];
 }

@@ -25,10 +25,10 @@ bool reads_marks(int number);
 /* Sets the packet's ECN mark, and its header's checksum. */
 void mark_packet(int number);
 
-/* Whether it is a UDP packet: the voice of a trial. */
+/* Whether it is a UDP packet to port 5202: the voice of a trial. */
 bool is_voice(int number);
 
-/* Addresses, ports and protocol as they stand in the packet. */
+/* Addresses, ports and protocol as they stand in the packet; ports 0 but for TCP and UDP, all 0 where it is no IPv4 packet. */
 void key_of(int number, uint8_t key[13]);
 
 #endif

@@ -10,8 +10,9 @@ static struct obikuteru_shared shared;
 static struct obikuteru_pair_queue queues[2];
 static uint32_t handles[SLOTS], sizes[SLOTS];
 
-static void begin(void)
+static void begin(uint64_t rate)
 {
+    (void)rate;
     obikuteru_pair_fresh(&shared, &queues[0], &queues[1], SLOTS, TARGET, INTERCOM_BUFFER, INTERCOM_RESERVE, 0, TARGET, BUFFER, 0, 0);
 }
 

@@ -18,7 +18,8 @@ extern struct outcome outcome;
 
 struct queueing {
     const char *name;
-    void (*begin)(void);
+    /* The bottleneck sends at this rate, in bytes a second. */
+    void (*begin)(uint64_t rate);
     /* Whether the packet is admitted. */
     bool (*arrival)(uint64_t clock, int number, uint32_t u);
     /* The packet that leaves, or NO_PACKET. */
@@ -28,7 +29,7 @@ struct queueing {
     void (*tick)(uint64_t clock);
 };
 
-extern const struct queueing fifo, ring, calm, pair;
+extern const struct queueing fifo, ring, calm, modem, pair, fq;
 
 /* Counts an arrival's answer; whether the packet is admitted. A marked one is marked. */
 bool note_arrival(uint32_t answer, int number);

@@ -11,13 +11,15 @@ static void begin_with(uint8_t profile)
     begin_recording(TARGET, BUFFER, SLOTS, profile, "a trial with real senders");
 }
 
-static void begin(void)
+static void begin(uint64_t rate)
 {
+    (void)rate;
     begin_with(OBIKUTERU_PLAIN);
 }
 
-static void begin_calm(void)
+static void begin_calm(uint64_t rate)
 {
+    (void)rate;
     begin_with(OBIKUTERU_CALM);
 }
 
