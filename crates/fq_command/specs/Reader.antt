@@ -1,5 +1,5 @@
--- The reader's own steps: what it is after one byte more, and what line it has read. The bytes of a key and the space behind it are its own;
--- every other byte goes to the reader of numbers.
+-- The reader's own steps: what it is after one byte more, and what line it has read. The bytes of a key and the space behind it are its
+-- own; every other byte goes to the reader of numbers.
 use mathlib.Core.Bool.{Bool, false, cond, _&&_}
 use mathlib.Core.List.{List}
 use Prim.Native.Nat.{ℕ, _+_, _/_}

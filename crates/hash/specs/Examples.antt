@@ -8,11 +8,13 @@ use Rattle.hash.specs.OneAtATime.{absorb, absorbAll, finish, flowOf, one
 -- what an example says
 pub data Example : Type 0 where
   hash-is : (key : List ℕ) → ℕ → Example
-  flow-is : (key : List ℕ) (salt : ℕ) → ℕ → Example
+  -- the hash, and the flows with salts 0, 5 and 2^32 - 1
+  flows-are : (key : List ℕ) → (hash first second third : ℕ) → Example
 
 abbrev pub Holds : Example → Type 0
 Holds (hash-is key h) = oneAtATime key ≡ h
-Holds (flow-is key salt f) = flowOf key salt ≡ f
+Holds (flows-are key h first second third) =
+    (oneAtATime key ≡ h) × (flowOf key 0 ≡ first) × (flowOf key 5 ≡ second) × (flowOf key 4294967295 ≡ third)
 
 -- 12 bytes 0 and one byte n
 abbrev pub keyOf : (n : ℕ) → List ℕ
@@ -25,12 +27,12 @@ voice = 10 ∷ 0 ∷ 0 ∷ 1 ∷ 10 ∷ 0 ∷ 0 ∷ 2 ∷ 19 ∷ 136 ∷ 0 ∷ 8
 abbrev pub examples : List Example
 examples =
     hash-is (97 ∷ []) 0xca2e9442  -- the one byte `a`, a published value
-    ∷ hash-is (keyOf 0) 0 ∷ flow-is (keyOf 0) 0 0 ∷ flow-is (keyOf 0) 5 5 ∷ flow-is (keyOf 0) 4294967295 63
-    ∷ hash-is (keyOf 1) 307143837 ∷ flow-is (keyOf 1) 0 29 ∷ flow-is (keyOf 1) 5 34 ∷ flow-is (keyOf 1) 4294967295 28
-    ∷ hash-is (keyOf 2) 614320443 ∷ flow-is (keyOf 2) 0 59 ∷ flow-is (keyOf 2) 5 0 ∷ flow-is (keyOf 2) 4294967295 58
-    ∷ hash-is voice 3856468369 ∷ flow-is voice 0 17 ∷ flow-is voice 5 22 ∷ flow-is voice 4294967295 16
+    ∷ flows-are (keyOf 0) 0 0 5 63
+    ∷ flows-are (keyOf 1) 307143837 29 34 28
+    ∷ flows-are (keyOf 2) 614320443 59 0 58
+    ∷ flows-are voice 3856468369 17 22 16
     ∷ []
 
 pub examples-hold : Every Holds examples
 unfolding absorb absorbAll finish flowOf oneAtATime
-examples-hold = (refl, (refl, (refl, (refl, (refl, (refl, (refl, (refl, (refl, (refl, (refl, (refl, (refl, (refl, (refl, (refl, (refl, tt)))))))))))))))))
+examples-hold = (refl, ((refl, refl, refl, refl), ((refl, refl, refl, refl), ((refl, refl, refl, refl), ((refl, refl, refl, refl), tt)))))
