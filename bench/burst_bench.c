@@ -1,11 +1,12 @@
 /*
- * The library's list of calls against the same in plain C that tests the record once, in one process.
+ * The library's bursts of calls against plain C that tests the record once, in one process.
  *
- *   burst_bench time STREAM-LENGTH        checks that both answer alike, then times them; prints ratios to plain C
+ *   burst_bench time STREAM-LENGTH        checks that both answer alike, then times them; prints
+ *                                         ratios to plain C
  *   burst_bench count STREAM-LENGTH SIDE  runs the events once on one side, for callgrind to count
  *
- * Both run the first 60,000 events of a stream (events.c) in bursts of LENGTH calls; the last burst may be shorter.
- * How ratios are made of the times: ratios.h.
+ * Both run the first 60,000 events of a stream (events.c) in bursts of LENGTH calls; the last may be
+ * shorter. How ratios are made of the times: ratios.h.
  */
 #include "events.h"
 #include "obikuteru.h"
@@ -29,7 +30,7 @@ static size_t length; /* calls of a burst */
 static struct event events[EVENTS];
 static struct plain_call calls[EVENTS];
 static struct plain_answered plain_answers[EVENTS];
-static struct plain_answered library_answers[EVENTS];
+static _Alignas(8) struct plain_answered library_answers[EVENTS];
 static struct plain_state plain_queue;
 static struct obikuteru_state library_queue;
 static uint32_t plain_handles[MOST_SLOTS], plain_sizes[MOST_SLOTS];
@@ -48,7 +49,8 @@ static void plain_start(void)
 
 static void library_start(void)
 {
-    obikuteru_fresh(&library_queue, stream->target, stream->buffer, stream->slots, stream->profile, 0);
+    obikuteru_fresh(&library_queue, stream->target, stream->buffer, stream->slots, stream->profile,
+                    0);
 }
 
 /* The calls from `from` to before `end`, in bursts. */
@@ -56,8 +58,8 @@ static void plain_run(size_t from, size_t end)
 {
     for (size_t n; from < end; from += n) {
         n = end - from < length ? end - from : length;
-        plain_calls(&plain_queue, plain_handles, stream->slots, plain_sizes, stream->slots, &calls[from],
-                    &plain_answers[from], n);
+        plain_calls(&plain_queue, plain_handles, stream->slots, plain_sizes, stream->slots,
+                    &calls[from], &plain_answers[from], n);
     }
 }
 
@@ -65,8 +67,9 @@ static void library_run(size_t from, size_t end)
 {
     for (size_t n; from < end; from += n) {
         n = end - from < length ? end - from : length;
-        obikuteru_calls(&library_queue, library_handles, stream->slots, library_sizes, stream->slots,
-                        (const uint32_t *)&calls[from], 6 * n, (uint64_t *)&library_answers[from], n);
+        obikuteru_calls(&library_queue, library_handles, stream->slots, library_sizes,
+                        stream->slots, (const uint32_t *)&calls[from], 6 * n,
+                        (uint64_t *)&library_answers[from], n);
     }
 }
 
@@ -114,7 +117,8 @@ static void check(void)
     }
     if (memcmp(plain_answers, library_answers, sizeof plain_answers) != 0)
         fail("the library and plain C answer differently.");
-    if (plain_queue.probability != library_queue.probability || plain_queue.accumulated != library_queue.accumulated
+    if (plain_queue.probability != library_queue.probability
+        || plain_queue.accumulated != library_queue.accumulated
         || plain_queue.count != library_queue.count || plain_queue.bytes != library_queue.bytes
         || memcmp(plain_queue.verdicts, library_queue.verdicts, sizeof plain_queue.verdicts) != 0)
         fail("the library and plain C leave different states.");

@@ -1,5 +1,5 @@
-/* A list of calls by the rules of plain.c: record and tables are tested once, and each call then has
- * the tests that are its own, the sum of the counts among them. */
+/* Bursts of calls by the rules of plain.c: record and tables are tested once, and each call then has
+ * its own tests, the sum of the counts among them. */
 #define plain_fresh plain_burst_fresh
 #define plain_arrival plain_burst_arrival
 #define plain_departure plain_burst_departure

@@ -211,12 +211,12 @@ struct obikuteru_answer {
 #define OBIKUTERU_REFUSED_CALL 120u
 
 /*
+ * Runs a burst. Answers ACCEPTED, or REFUSED_CALL with nothing done where `calls_len` is not
+ * 6 * `answers_len`; what each call was answered stands in `answers`.
  * Calls are six 32-bit numbers each, in the order of struct obikuteru_call, the clock's low half
- * first; answers are one word each, code + 65,536 * size + 2^32 * handle. On a little-endian machine
- * both structs stand so in memory: pass an array of n calls as (const uint32_t *)calls, 6 * n, and an
- * array of n answers as (uint64_t *)answers, n, the answers aligned to 8 bytes. Answers ACCEPTED, or
- * REFUSED_CALL with nothing done where `calls_len` is not 6 * `answers_len`; what each call was
- * answered stands in `answers`.
+ * first; answers are one word each, code + 65,536 * size + 2^32 * handle. On a little-endian
+ * machine the two structs stand so in memory: pass an array of n calls as (const uint32_t *)calls
+ * and 6 * n, and an array of n answers, aligned to 8 bytes, as (uint64_t *)answers and n.
  */
 uint32_t obikuteru_calls(struct obikuteru_state *state, uint32_t *handles, size_t handles_len,
                          uint32_t *sizes, size_t sizes_len, const uint32_t *calls,
@@ -642,8 +642,9 @@ bool obikuteru_pair_well_formed(const struct obikuteru_shared *shared,
  *   - a table of handles and a table of sizes, each of exactly `slots` 32-bit numbers.
  *
  * A packet's flow is a hash of its key: 13 bytes, source and destination address, 4 each, source
- * and destination port, 2 each, and protocol, 1, in whatever order of bytes the caller keeps to.
- * Draw the salt at random at each start, so that no sender can choose its neighbours.
+ * and destination port, 2 each, and protocol, 1, in whatever order of bytes the caller keeps to. The
+ * salt is added to the hash and moves all flows alike. So two keys share a flow whatever the salt is,
+ * or never do: what is kept apart are flows, not senders who choose their ports to share one.
  *
  * What is said of the queue and of the pair's tables holds here too, but for this:
  *   - One clock and one tick serve all flows. A tick updates all 64.

@@ -96,8 +96,8 @@ fn plain_case(r: &mut Random) -> (Side, Call) {
     (side, first)
 }
 
-/// Runs calls by the model and by the single entries, which must agree, and gives them as a burst, with the
-/// words of their answers and what is left.
+/// Runs calls by the model and by the single entries, which must agree, and gives them as a burst,
+/// with the words of their answers and what is left.
 fn one_by_one(
     r: &mut Random,
     side: &Side,
