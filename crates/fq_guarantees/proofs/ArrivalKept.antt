@@ -28,7 +28,8 @@ use Rattle.fq_guarantees.specs.Acceptance.{acceptance}
 use Rattle.fq_guarantees.specs.Calls.{Call, arrive}
 use Rattle.fq_guarantees.specs.Kept.{Sound}
 use Rattle.fq_guarantees.specs.Refusals.{rowsOf}
-use Rattle.fq_guarantees.proofs.Facts.{CommonFits, Facts, well-formed}
+use Rattle.fq_state.proofs.Facts.{CommonFits}
+use Rattle.fq_guarantees.proofs.Facts.{Facts, well-formed}
 use Rattle.fq_guarantees.proofs.FlowKept.{followed-fits}
 use Rattle.fq_guarantees.proofs.Flows.{total-set}
 use Rattle.fq_guarantees.proofs.OneFlow.{Room, flow-low, room}
@@ -137,16 +138,16 @@ arrived-sound s h handles sizes clock key handle size ecn u e =
             flows = flows-kept s h call e long;
             totals =
                 record {
-                  count-is =
+                  counts-are =
                       grown (admitted v) (total (countsOf (s .flows))) (f .count) 1 (total (countsOf (set (s .flows) g x)))
                       (total-set countOf (s .flows) g x (emptyFlow 0) below
                       ∙ ap (λ n. total (countsOf (s .flows)) + n) (arrived-count target f size place v))
-                      ∙ rw (k .totals .count-is) (sym (backlog-count (admitted v) (s .common .backlog) size));
-                  bytes-is =
+                      ∙ rw (k .totals .counts-are) (sym (backlog-count (admitted v) (s .common .backlog) size));
+                  bytes-are =
                       grown (admitted v) (total (eachBytes (s .flows))) (f .bytes) size (total (eachBytes (set (s .flows) g x)))
                       (total-set bytesOf (s .flows) g x (emptyFlow 0) below
                       ∙ ap (λ n. total (eachBytes (s .flows)) + n) (arrived-bytes target f size place v))
-                      ∙ rw (k .totals .bytes-is) (sym (backlog-bytes (admitted v) (s .common .backlog) size));
+                      ∙ rw (k .totals .bytes-are) (sym (backlog-bytes (admitted v) (s .common .backlog) size));
                   bytes-fit = held .bytes-fit;
                 };
             listed = listed .well;

@@ -18,7 +18,8 @@ use Rattle.fq_guarantees.specs.Acceptance.{acceptance}
 use Rattle.fq_guarantees.specs.Calls.{depart}
 use Rattle.fq_guarantees.specs.Kept.{Sound}
 use Rattle.fq_guarantees.specs.Refusals.{rowsOf}
-use Rattle.fq_guarantees.proofs.Facts.{Facts, FlowFits, well-formed}
+use Rattle.fq_state.proofs.Facts.{FlowFits}
+use Rattle.fq_guarantees.proofs.Facts.{Facts, well-formed}
 use Rattle.fq_guarantees.proofs.Flows.{total-set}
 use Rattle.fq_guarantees.proofs.OneFlow.{known-flow, served-low, served-some}
 use Rattle.fq_guarantees.proofs.WhenAccepted.{DepartureAccepted}
@@ -60,16 +61,16 @@ departed-sound s h handles sizes clock e =
             flows = flows-kept s h (depart handles sizes clock) e long;
             totals =
                 record {
-                  count-is =
+                  counts-are =
                       fallen (total (countsOf (s .flows))) (f .count) 1 (total (countsOf (set (s .flows) g x)))
                       (total-set countOf (s .flows) g x (emptyFlow 0) below
                       ∙ ap (λ n. total (countsOf (s .flows)) + n) (departed-count f sizes clock size)) some
-                      ∙ rw (k .totals .count-is);
-                  bytes-is =
+                      ∙ rw (k .totals .counts-are);
+                  bytes-are =
                       fallen (total (eachBytes (s .flows))) (f .bytes) size (total (eachBytes (set (s .flows) g x)))
                       (total-set bytesOf (s .flows) g x (emptyFlow 0) below
                       ∙ ap (λ n. total (eachBytes (s .flows)) + n) (departed-bytes f sizes clock size)) (a .head .fits)
-                      ∙ rw (k .totals .bytes-is);
+                      ∙ rw (k .totals .bytes-are);
                   bytes-fit = omega (arith, k .totals .bytes-fit);
                 };
             listed = listed .well;

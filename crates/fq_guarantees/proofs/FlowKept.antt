@@ -36,7 +36,7 @@ use Rattle.fq_state.specs.declared.Flow.{Flow}
 use Rattle.fq.specs.Arrival.{arrivedFlow, arrivedPie, bytesFull, slotsFull, verdictOf}
 use Rattle.fq.specs.Departure.{departedFlow, departedPie}
 use Rattle.fq.specs.Tick.{tickedFlow}
-use Rattle.fq_guarantees.proofs.Facts.{CommonFits, FlowFits}
+use Rattle.fq_state.proofs.Facts.{CommonFits, FlowFits}
 
 -- ── a flow by its PIE state, its packets and its chain ──
 

@@ -19,7 +19,8 @@ use Rattle.fq_state.specs.WellFormed.{flowConditions, flowsFit, settingsConditi
 use Rattle.fq_state.specs.declared.Common.{Common}
 use Rattle.fq_state.specs.declared.Flow.{Flow}
 use Rattle.fq_state.specs.declared.Settings.{Settings}
-use Rattle.fq_guarantees.proofs.Facts.{SettingsFit, flow-passes, well-formed}
+use Rattle.fq_state.proofs.Facts.{SettingsFit, flow-passes}
+use Rattle.fq_guarantees.proofs.Facts.{well-formed}
 
 pub fresh-accepted : (settings : Settings) (clock : ℕ) → freshRefusal settings clock ≡ 0 → setupRefused settings clock ≡ false
 fresh-accepted settings clock e = go (setupRefused settings clock) e
@@ -94,7 +95,7 @@ fresh-formed s clock k high =
             total-high = omega arith;
           };
       flows = repeated-fit (emptyCommon s clock) (emptyFlow fullAllowance) 64 (empty-passes s clock k);
-      totals = record { count-is = refl; bytes-is = refl; bytes-fit = omega arith };
+      totals = record { counts-are = refl; bytes-are = refl; bytes-fit = omega arith };
       listed = no-flow-listed s clock;
     })
 

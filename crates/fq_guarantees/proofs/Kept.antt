@@ -60,8 +60,8 @@ ticked-sound s h clock e =
             flows = flows-kept s h (update clock) e long;
             totals =
                 record {
-                  count-is = ap total counts ∙ k .totals .count-is;
-                  bytes-is = ap total bytes ∙ k .totals .bytes-is;
+                  counts-are = ap total counts ∙ k .totals .counts-are;
+                  bytes-are = ap total bytes ∙ k .totals .bytes-are;
                   bytes-fit = k .totals .bytes-fit;
                 };
             listed = rw counts (k .listed);

@@ -19,7 +19,8 @@ use Rattle.fq_state.specs.declared.Common.{Common}
 use Rattle.fq_state.specs.declared.Flow.{Flow}
 use Rattle.fq.specs.Arrival.{flowNumber, verdictOf}
 use Rattle.fq.specs.Departure.{choiceOf}
-use Rattle.fq_guarantees.proofs.Facts.{CommonFits, Facts, FlowFits, flow-fits}
+use Rattle.fq_state.proofs.Facts.{CommonFits, FlowFits, flow-fits}
+use Rattle.fq_guarantees.proofs.Facts.{Facts}
 use Rattle.fq_guarantees.proofs.Flows.{each-passes, part-of-total}
 use Rattle.fq_guarantees.proofs.WhenAccepted.{DepartureAccepted, admitted-room}
 
@@ -79,7 +80,7 @@ room s i size ecn u k n h e =
     record {
       count-low = free;
       bytes-low = met .0;
-      own-count = omega (arith, part-of-total countOf (s .flows) i (emptyFlow 0) (omega arith), k .totals .count-is);
-      own-bytes = omega (arith, part-of-total bytesOf (s .flows) i (emptyFlow 0) (omega arith), k .totals .bytes-is);
+      own-count = omega (arith, part-of-total countOf (s .flows) i (emptyFlow 0) (omega arith), k .totals .counts-are);
+      own-bytes = omega (arith, part-of-total bytesOf (s .flows) i (emptyFlow 0) (omega arith), k .totals .bytes-are);
       place = place-low (s .common) (k .common) free;
     }

@@ -21,7 +21,7 @@ pub serves-queued : ServesQueued
 serves-queued s h some =
     let counts = countsOf (s .flows) in
     let k = facts s (h .formed) in
-    let found = some-counted counts (omega (arith, k .totals .count-is)) in
+    let found = some-counted counts (omega (arith, k .totals .counts-are)) in
     let ends = choosing-ends counts (s .schedule) (found .0) (lists-sound s h) (found .1) in
     record {
       queued = omega (arith, ends .0 .holds, count-at (s .flows) (choiceOf s .flow));

@@ -37,7 +37,8 @@ use Rattle.fq_guarantees.specs.Lists.{fqCalls}
 use Rattle.fq_guarantees.specs.Refusals.{rowsOf}
 use Rattle.fq_guarantees.specs.Shedding.{Formed, flowQueue, own, tells, toldOf}
 use Rattle.fq_guarantees.specs.SixtyFour.{Record64, same-length}
-use Rattle.fq_guarantees.proofs.Facts.{Facts, flow-fits, flow-passes, settings-fit, settings-pass}
+use Rattle.fq_state.proofs.Facts.{flow-fits, flow-passes, settings-fit, settings-pass}
+use Rattle.fq_guarantees.proofs.Facts.{Facts}
 use Rattle.fq_guarantees.proofs.FlowKept.{arrived-fits, departed-fits, left-fits, pie-with, ticked-fits}
 use Rattle.fq_guarantees.proofs.Flows.{at-map, at-set}
 use Rattle.fq_guarantees.proofs.OneFlow.{flow-low, known-flow, room, served-low, served-some}

@@ -35,12 +35,12 @@ module _ (r : Run) (k : Kept r) where
   all-conserved =
       let t = facts (r .flows .state) (k .whole .formed .formed) .totals in
       record {
-        bytes = omega (arith, t .bytes-is, k .all-bytes);
+        bytes = omega (arith, t .bytes-are, k .all-bytes);
         bytes-cover = omega (arith, k .all-bytes);
-        count = omega (arith, t .count-is, k .all-count);
+        count = omega (arith, t .counts-are, k .all-count);
         count-cover = omega (arith, k .all-count);
-        total-bytes = sym (t .bytes-is);
-        total-count = sym (t .count-is);
+        total-bytes = sym (t .bytes-are);
+        total-count = sym (t .counts-are);
       }
 
 pub conservation : Conservation

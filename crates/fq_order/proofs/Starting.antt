@@ -20,7 +20,8 @@ use Rattle.fq_state.specs.Fresh.{fresh, freshRefusal, freshState}
 use Rattle.fq_state.specs.State.{flowAt}
 use Rattle.fq_state.specs.declared.Settings.{Settings}
 use Rattle.fq_guarantees.specs.Kept.{Sound as Formed}
-use Rattle.fq_guarantees.proofs.Facts.{SettingsFit, facts}
+use Rattle.fq_state.proofs.Facts.{SettingsFit}
+use Rattle.fq_guarantees.proofs.Facts.{facts}
 use Rattle.fq_guarantees.proofs.FreshFormed.{fresh-accepted}
 use Rattle.fq_guarantees.proofs.NeverMalformed.{fresh-sound}
 use Rattle.fq_order.specs.Handed.{Flows, chainsOf, queued}

@@ -53,7 +53,7 @@ pub record Whole (q : Flows) : Type 0 where
 -- ── the totals ──
 
 pub bytes-covered : (s : State) (i : ℕ) → Formed s → flowAt (s .flows) i .bytes ≤ s .common .backlog .bytes .0
-bytes-covered s i h = omega (arith, facts s (h .formed) .totals .bytes-is, total-covers flowBytes (s .flows) i (emptyFlow 0) refl)
+bytes-covered s i h = omega (arith, facts s (h .formed) .totals .bytes-are, total-covers flowBytes (s .flows) i (emptyFlow 0) refl)
 
 -- a flow with a packet is one of the list
 pub some-inside : (flows : List Flow) (i : ℕ) → flowAt flows i .count ≢ 0 → i < length flows
@@ -84,7 +84,7 @@ put-done q i handle size h fit inside small room =
     let sound = h .linked fit in
     let not-full : q .state .common .backlog .count ≢ q .state .common .settings .slots = eqb-false _ _ room in
     put-appends (chainsOf q) i handle size sound (omega (arith, length-chains q, h .formed .flows-long)) small
-    (omega (arith, not-full, held-all q, facts (q .state) (h .formed .formed) .totals .count-is, sound .counted, sound .used))
+    (omega (arith, not-full, held-all q, facts (q .state) (h .formed .formed) .totals .counts-are, sound .counted, sound .used))
 
 -- `freed` is never followed to no slot
 pub freed-followed : (q : Flows) (f : Flow) (size : ℕ) (ecn : Bool) (u : ℕ) → Whole q → unfitOf q ≡ false →
