@@ -787,6 +787,63 @@ static inline bool obikuteru_fq_well_formed(const struct obikuteru_fq *fq)
                                        fq->deficits);
 }
 
+/*
+ * Many calls on 64 flows in one: a burst. The record is tested once, and each call is answered as its
+ * single entry would answer it, refused ones included, each given what the last one left; so a burst
+ * may be cut anywhere. It pays from two calls on: testing the record is most of a single call's work.
+ */
+struct obikuteru_fq_call {
+    uint64_t clock;
+    uint32_t handle; /* arrivals */
+    uint32_t size;   /* arrivals */
+    uint32_t u;      /* arrivals: a random number, fresh for each */
+    uint32_t kind;   /* one of those below */
+    uint8_t key[13]; /* arrivals */
+    uint8_t unused[3];
+};
+
+/* Kinds of call. */
+#define OBIKUTERU_CALL_ARRIVAL 0u
+#define OBIKUTERU_CALL_ECN_ARRIVAL 1u /* the packet is ECN-capable */
+#define OBIKUTERU_CALL_DEPARTURE 2u
+#define OBIKUTERU_CALL_TICK 3u
+
+/* What a call is answered. */
+struct obikuteru_fq_answer {
+    uint8_t code;    /* the single entry's answer */
+    uint8_t flow;    /* of the packet that departed, else 0 */
+    uint16_t size;   /* likewise */
+    uint32_t handle; /* likewise */
+};
+
+/* Refusal of a call whose kind is none of those, and of a burst whose lengths do not fit. */
+#define OBIKUTERU_REFUSED_CALL 120u
+
+/*
+ * The library's own entry: calls are ten 32-bit numbers each, in the order of struct
+ * obikuteru_fq_call, the clock's low half and each key number's low byte first; answers are one word
+ * each, code + 256 * flow + 65,536 * size + 2^32 * handle. Answers ACCEPTED, or REFUSED_CALL with
+ * nothing done where `calls_len` is not 10 * `answers_len`.
+ */
+uint32_t obikuteru_fq_calls_of(uint64_t *common, uint64_t *order, uint64_t *flows,
+                               uint32_t *deficits, uint32_t *handles, size_t handles_len,
+                               uint32_t *sizes, size_t sizes_len, const uint32_t *calls,
+                               size_t calls_len, uint64_t *answers, size_t answers_len);
+
+/*
+ * n calls, answered in `answers`, which is aligned to 8 bytes. On a little-endian machine both
+ * structs stand in memory as the entry takes them. Answers ACCEPTED.
+ */
+static inline uint32_t obikuteru_fq_calls(struct obikuteru_fq *fq, uint32_t *handles,
+                                          size_t handles_len, uint32_t *sizes, size_t sizes_len,
+                                          const struct obikuteru_fq_call *calls,
+                                          struct obikuteru_fq_answer *answers, size_t n)
+{
+    return obikuteru_fq_calls_of(&fq->target, fq->order, &fq->flow[0].probability, fq->deficits,
+                                 handles, handles_len, sizes, sizes_len, (const uint32_t *)calls,
+                                 10 * n, (uint64_t *)answers, n);
+}
+
 #ifdef __cplusplus
 }
 #endif

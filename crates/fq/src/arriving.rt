@@ -109,7 +109,7 @@ fn list(
 }
 
 // The packet is decided on, and refused by 9, or counted; where its verdict admits, it is written and its flow listed.
-fn receive(
+pub fn receive(
     common: Common,
     lists: Lists,
     order: &mut [u64; 64],

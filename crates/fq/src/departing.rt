@@ -120,7 +120,7 @@ fn taken(common: Common, place: u64, clock: Micros, size: Bytes) -> Common
 }
 
 // A departure that is refused.
-fn refuse(refusal: Refusal, common: Common, lists: Lists) -> Departed
+pub fn refuse(refusal: Refusal, common: Common, lists: Lists) -> Departed
     ensures { λ r. ⌜ r ≡ record { accepted = No refusal; flow = 0; handle = 0; size = 0; common = common; lists = lists } ⌝ }
 {
     Departed {
@@ -135,7 +135,7 @@ fn refuse(refusal: Refusal, common: Common, lists: Lists) -> Departed
 
 // A flow is chosen, and its head leaves, or is refused by 9. The choosing moves flows in copies of the lists and deficits, which are kept
 // only where nothing is refused.
-fn serve(
+pub fn serve(
     common: Common,
     lists: Lists,
     order: &mut [u64; 64],

@@ -32,5 +32,9 @@ pub struct Ticked {
 }
 
 pub use arriving::arrival;
+pub use arriving::receive;
 pub use departing::departure;
+pub use departing::refuse;
+pub use departing::serve;
 pub use ticking::tick;
+pub use ticking::tick_all;

@@ -62,7 +62,7 @@ fn tick_flow(f: Flow, common: Common) -> Flow
 }
 
 // Every flow after a tick, listed or not.
-fn tick_all(flows: &mut [u64; 768], common: Common)
+pub fn tick_all(flows: &mut [u64; 768], common: Common)
     requires { ⌜ (all (commonConditions common) ≡ true) × (flowsFit common (flowsOf (now flows)) ≡ true) ⌝ }
     ensures { λ _. ⌜ flowsOf (now (flows .exit)) ≡ map (tickedFlow (common .settings .target .0)) (flowsOf (now (flows .entry))) ⌝ }
 {

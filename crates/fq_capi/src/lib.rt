@@ -1,10 +1,5 @@
 // The C interface of 64 flows (include/obikuteru.h): the calls over a record that is lent in its parts, as words. Each entry decodes the
 // nineteen words of what all flows have in common, makes the one call and writes them back where it is accepted.
-use crate::words::decode;
-use crate::words::decode_lists;
-use crate::words::encode;
-use crate::words::numbered;
-use crate::words::sized;
 use fq::arrival;
 use fq::departure;
 use fq::tick;
@@ -32,8 +27,14 @@ ghost use Rattle.fq_capi.specs.Words.{lent};
 
 mod words;
 
+pub use words::decode;
+pub use words::decode_lists;
+pub use words::encode;
+pub use words::numbered;
+pub use words::sized;
+
 // The number of a refusal, with 100.
-fn refused(r: Refusal) -> u32
+pub fn refused(r: Refusal) -> u32
     ensures { λ n. ⌜ n ≡ 100 + numberOf r ⌝ }
 {
     100 + r.number()

@@ -13,7 +13,7 @@ ghost use Rattle.pie.specs.Verdicts.{placeOf};
 ghost use Rattle.fq_capi.specs.Words.{commonOf, commonWords, listsOf};
 
 // What all flows have in common.
-pub(crate) fn decode(w: [u64; 19]) -> Common
+pub fn decode(w: [u64; 19]) -> Common
     ensures { λ r. ⌜ r ≡ commonOf w ⌝ }
 {
     let settings = Settings {
@@ -43,7 +43,7 @@ pub(crate) fn decode(w: [u64; 19]) -> Common
 }
 
 // Where the lists stand.
-pub(crate) fn decode_lists(w: [u64; 19]) -> Lists
+pub fn decode_lists(w: [u64; 19]) -> Lists
     ensures { λ r. ⌜ r ≡ listsOf w ⌝ }
 {
     Lists {
@@ -54,7 +54,7 @@ pub(crate) fn decode_lists(w: [u64; 19]) -> Lists
 }
 
 // The words of both.
-pub(crate) fn encode(w: &mut [u64; 19], c: Common, l: Lists)
+pub fn encode(w: &mut [u64; 19], c: Common, l: Lists)
     ensures { λ _. ⌜ now (w .exit) ≡ commonWords c l ⌝ }
 {
     let v0 = c.verdicts[0];
@@ -86,12 +86,12 @@ pub(crate) fn encode(w: &mut [u64; 19], c: Common, l: Lists)
 }
 
 // That the flows' words are 768, which a reference does not say. The copy is compiled away.
-pub(crate) fn sized(w: [u64; 768])
+pub fn sized(w: [u64; 768])
     ensures { λ _. ⌜ length w ≡ 768 ⌝ }
 {}
 
 // The number of a verdict.
-pub(crate) fn numbered(v: Verdict) -> u32
+pub fn numbered(v: Verdict) -> u32
     ensures { λ r. ⌜ r ≡ placeOf v ⌝ }
 {
     v.place() as u32

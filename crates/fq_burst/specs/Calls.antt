@@ -1,0 +1,51 @@
+-- A call as ten 32-bit numbers, in the order of struct obikuteru_fq_call: the clock's low and high half, handle, size, u, kind, and the
+-- thirteen bytes of the key in four numbers, low byte first.
+use mathlib.Core.Bool.{Bool, cond}
+use mathlib.Core.List.{List, [], _∷_}
+use Prim.Native.Nat.{ℕ, _+_, _*_, _/_, _%_}
+use lib.Dec.{eqb, ltb}
+use lib.ListN.{getD}
+
+pub data Asked : Type 0 where
+  arrives : (clock : ℕ) (key : List ℕ) (handle size : ℕ) (ecn : Bool) (u : ℕ) → Asked
+  departs : (clock : ℕ) → Asked
+  ticks : (clock : ℕ) → Asked
+  -- a kind that is none of those below
+  unknown : Asked
+
+abbrev pub clockAt : (calls : List ℕ) (at : ℕ) → ℕ
+clockAt calls at = getD calls at 0 + 4294967296 * getD calls (at + 1) 0
+
+-- four bytes of the key in each of a, b and c, the last in the low byte of d
+abbrev pub keyOf : (a b c d : ℕ) → List ℕ
+keyOf a b c d =
+    a % 256
+    ∷ (a / 256) % 256
+    ∷ (a / 65536) % 256
+    ∷ (a / 16777216) % 256
+    ∷ b % 256
+    ∷ (b / 256) % 256
+    ∷ (b / 65536) % 256
+    ∷ (b / 16777216) % 256
+    ∷ c % 256
+    ∷ (c / 256) % 256
+    ∷ (c / 65536) % 256
+    ∷ (c / 16777216) % 256
+    ∷ d % 256
+    ∷ []
+
+abbrev pub keyAt : (calls : List ℕ) (at : ℕ) → List ℕ
+keyAt calls at = keyOf (getD calls (at + 6) 0) (getD calls (at + 7) 0) (getD calls (at + 8) 0) (getD calls (at + 9) 0)
+
+-- kind 0: an arrival; 1: one that is ECN-capable; 2: a departure; 3: a tick
+abbrev pub askedBy : (kind : ℕ) (calls : List ℕ) (at : ℕ) → Asked
+askedBy kind calls at =
+    cond (ltb kind 2)
+    (arrives (clockAt calls at) (keyAt calls at) (getD calls (at + 2) 0) (getD calls (at + 3) 0) (eqb kind 1) (getD calls (at + 4) 0))
+    (cond (eqb kind 2) (departs (clockAt calls at))
+    (cond (eqb kind 3) (ticks (clockAt calls at))
+    unknown))
+
+-- the call whose numbers begin at this place
+unfoldable pub askedAt : (calls : List ℕ) (at : ℕ) → Asked
+askedAt calls at = askedBy (getD calls (at + 5) 0) calls at

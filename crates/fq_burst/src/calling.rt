@@ -1,0 +1,171 @@
+// The calls, of a record that is known to be well formed, or is tested.
+use crate::checking::check_arrival;
+use crate::checking::check_departure;
+use crate::checking::check_tick;
+use fq::Arrived;
+use fq::Departed;
+use fq::Ticked;
+use fq::receive;
+use fq::refuse;
+use fq::serve;
+use fq::tick_all;
+use fq_state::Common;
+use queue::ArrivalAnswer;
+use refusals::Accepted;
+use schedule::Lists;
+use units::Bytes;
+use units::Micros;
+ghost use mathlib.Core.Path.{_≡_};
+ghost use mathlib.Core.Bool.{true};
+ghost use Rattle.fq_state.specs.WellFormed.{wellFormed};
+ghost use Rattle.fq_state.specs.Words.{stateOf};
+ghost use Rattle.fq.specs.Answer.{acceptedAnswer, arrivalAnswer, departed, flowIn, handleIn, sizeIn, ticked};
+ghost use Rattle.fq.specs.Arrival.{arrival, arrivedHandles, arrivedSizes};
+ghost use Rattle.fq.specs.Departure.{departedSizes, departure};
+ghost use Rattle.fq.specs.Tick.{tick};
+
+// A packet with this key, of `size` bytes, arrives; `u` is its random number.
+pub fn arrival_of(
+    common: Common,
+    lists: Lists,
+    order: &mut [u64; 64],
+    deficits: &mut [u32; 64],
+    flows: &mut [u64; 768],
+    handles: &mut [u32],
+    sizes: &mut [u32],
+    clock: Micros,
+    key: &[u8; 13],
+    handle: u32,
+    size: Bytes,
+    ecn: bool,
+    u: u32,
+    known: bool,
+) -> Arrived
+    requires { ⌜ (known ≡ true → wellFormed (stateOf common lists (now order) (now deficits) (now flows)) ≡ true) ⌝ }
+    ensures { λ r. ⌜ (let s = stateOf common lists (now (order .entry)) (now (deficits .entry)) (now (flows .entry)) in
+        let a = arrival s (now (handles .entry)) (now (sizes .entry)) (clock .0) (now (key .entry)) (size .0) ecn u in
+        (arrivalAnswer (r .answer) ≡ a .answer)
+        × (stateOf (r .common) (r .lists) (now (order .exit)) (now (deficits .exit)) (now (flows .exit)) ≡ a .state)
+        × (now (handles .exit) ≡ arrivedHandles s (a .answer) (now (handles .entry)) handle)
+        × (now (sizes .exit) ≡ arrivedSizes s (a .answer) (now (sizes .entry)) (now (key .entry)) (size .0))) ⌝ }
+{
+    let checked = check_arrival(
+        common,
+        lists,
+        order,
+        deficits,
+        flows,
+        handles.len() as u64,
+        sizes.len() as u64,
+        clock,
+        size,
+        known,
+    );
+    match checked {
+        Accepted::No(refusal) => Arrived {
+            answer: ArrivalAnswer::Refused(refusal),
+            common,
+            lists,
+        },
+        Accepted::Yes => receive(
+            common,
+            lists,
+            order,
+            deficits,
+            flows,
+            handles,
+            sizes,
+            clock,
+            key,
+            handle,
+            size,
+            ecn,
+            u,
+        ),
+    }
+}
+
+// The packet that is served next leaves.
+pub fn departure_of(
+    common: Common,
+    lists: Lists,
+    order: &mut [u64; 64],
+    deficits: &mut [u32; 64],
+    flows: &mut [u64; 768],
+    handles: &[u32],
+    sizes: &mut [u32],
+    clock: Micros,
+    known: bool,
+) -> Departed
+    requires { ⌜ (known ≡ true → wellFormed (stateOf common lists (now order) (now deficits) (now flows)) ≡ true) ⌝ }
+    ensures { λ r. ⌜ (let s = stateOf common lists (now (order .entry)) (now (deficits .entry)) (now (flows .entry)) in
+        let a = departure s (now (handles .entry)) (now (sizes .entry)) (clock .0) in
+        (acceptedAnswer (r .accepted) (departed (r .flow) (r .handle) (r .size)) ≡ a .answer)
+        × (r .flow ≡ flowIn (a .answer)) × (r .handle ≡ handleIn (a .answer)) × (r .size ≡ sizeIn (a .answer))
+        × (stateOf (r .common) (r .lists) (now (order .exit)) (now (deficits .exit)) (now (flows .exit)) ≡ a .state)
+        × (now (sizes .exit) ≡ departedSizes s (a .answer) (now (sizes .entry)))) ⌝ }
+{
+    let mut counts = [0u32; 64];
+    let checked = check_departure(
+        common,
+        lists,
+        order,
+        deficits,
+        flows,
+        &mut counts,
+        handles.len() as u64,
+        sizes.len() as u64,
+        clock,
+        known,
+    );
+    match checked {
+        Accepted::No(refusal) => refuse(refusal, common, lists),
+        Accepted::Yes => serve(
+            common,
+            lists,
+            order,
+            deficits,
+            flows,
+            &counts,
+            handles,
+            sizes,
+            clock,
+        ),
+    }
+}
+
+// The periodic update of all flows.
+pub fn tick_of(
+    common: Common,
+    lists: Lists,
+    order: &[u64; 64],
+    deficits: &[u32; 64],
+    flows: &mut [u64; 768],
+    clock: Micros,
+    known: bool,
+) -> Ticked
+    requires { ⌜ (known ≡ true → wellFormed (stateOf common lists (now order) (now deficits) (now flows)) ≡ true) ⌝ }
+    ensures { λ r. ⌜ (let s = stateOf common lists (now (order .entry)) (now (deficits .entry)) (now (flows .entry)) in
+        let a = tick s (clock .0) in
+        (acceptedAnswer (r .accepted) ticked ≡ a .answer)
+        × (stateOf (r .common) lists (now (order .entry)) (now (deficits .entry)) (now (flows .exit)) ≡ a .state)) ⌝ }
+{
+    let accepted = check_tick(common, lists, order, deficits, flows, clock, known);
+    match accepted {
+        Accepted::No(refusal) => Ticked {
+            accepted: Accepted::No(refusal),
+            common,
+        },
+        Accepted::Yes => {
+            tick_all(flows, common);
+            Ticked {
+                accepted: Accepted::Yes,
+                common: Common {
+                    clock,
+                    last: clock,
+                    ..common
+                },
+            }
+        }
+    }
+}

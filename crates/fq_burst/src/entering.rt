@@ -1,0 +1,164 @@
+// The calls over a record that is lent in its parts, as words, as in fq_capi.
+use crate::calling::arrival_of;
+use crate::calling::departure_of;
+use crate::calling::tick_of;
+use fq_capi::decode;
+use fq_capi::decode_lists;
+use fq_capi::encode;
+use fq_capi::numbered;
+use fq_capi::refused;
+use fq_capi::sized;
+use queue::ArrivalAnswer;
+use refusals::Accepted;
+use units::Bytes;
+use units::Micros;
+ghost use mathlib.Core.Path.{_≡_};
+ghost use mathlib.Core.Bool.{true};
+ghost use Rattle.fq_state.specs.WellFormed.{wellFormed};
+ghost use Rattle.fq.specs.Arrival.{arrival, arrivedHandles, arrivedSizes};
+ghost use Rattle.fq.specs.Departure.{departedSizes, departure};
+ghost use Rattle.fq.specs.Tick.{tick};
+ghost use Rattle.fq_capi.specs.Codes.{codeOf, commonAfter, deficitsAfter, flowsAfter, orderAfter, packetOf};
+ghost use Rattle.fq_capi.specs.Words.{lent};
+
+pub fn arrive(
+    common: &mut [u64; 19],
+    order: &mut [u64; 64],
+    flows: &mut [u64; 768],
+    deficits: &mut [u32; 64],
+    handles: &mut [u32],
+    sizes: &mut [u32],
+    clock: u64,
+    key: &[u8; 13],
+    handle: u32,
+    size: u32,
+    ecn: bool,
+    u: u32,
+    known: bool,
+) -> u32
+    requires { ⌜ (known ≡ true → wellFormed (lent (now common) (now order) (now deficits) (now flows)) ≡ true) ⌝ }
+    ensures { λ r. ⌜ (let s = lent (now (common .entry)) (now (order .entry)) (now (deficits .entry)) (now (flows .entry)) in
+        let a = arrival s (now (handles .entry)) (now (sizes .entry)) clock (now (key .entry)) size ecn u in
+        (r ≡ codeOf (a .answer))
+        × (now (common .exit) ≡ commonAfter a (now (common .entry)))
+        × (now (order .exit) ≡ orderAfter a (now (order .entry)))
+        × (now (flows .exit) ≡ flowsAfter a (now (flows .entry)))
+        × (now (deficits .exit) ≡ deficitsAfter a (now (deficits .entry)))
+        × (now (handles .exit) ≡ arrivedHandles s (a .answer) (now (handles .entry)) handle)
+        × (now (sizes .exit) ≡ arrivedSizes s (a .answer) (now (sizes .entry)) (now (key .entry)) size)) ⌝ }
+{
+    sized(*flows);
+    let c = decode(*common);
+    let l = decode_lists(*common);
+    let r = arrival_of(
+        c,
+        l,
+        order,
+        deficits,
+        flows,
+        handles,
+        sizes,
+        Micros(clock),
+        key,
+        handle,
+        Bytes(size as u64),
+        ecn,
+        u,
+        known,
+    );
+    sized(*flows);
+    let arrived = r.common;
+    let lists = r.lists;
+    let answer = r.answer;
+    match answer {
+        ArrivalAnswer::Refused(refusal) => refused(refusal),
+        ArrivalAnswer::Decided(v) => {
+            encode(common, arrived, lists);
+            numbered(v)
+        }
+    }
+}
+
+pub fn depart(
+    common: &mut [u64; 19],
+    order: &mut [u64; 64],
+    flows: &mut [u64; 768],
+    deficits: &mut [u32; 64],
+    handles: &[u32],
+    sizes: &mut [u32],
+    clock: u64,
+    packet: &mut [u32; 3],
+    known: bool,
+) -> u32
+    requires { ⌜ (known ≡ true → wellFormed (lent (now common) (now order) (now deficits) (now flows)) ≡ true) ⌝ }
+    ensures { λ r. ⌜ (let s = lent (now (common .entry)) (now (order .entry)) (now (deficits .entry)) (now (flows .entry)) in
+        let a = departure s (now (handles .entry)) (now (sizes .entry)) clock in
+        (r ≡ codeOf (a .answer))
+        × (now (common .exit) ≡ commonAfter a (now (common .entry)))
+        × (now (order .exit) ≡ orderAfter a (now (order .entry)))
+        × (now (flows .exit) ≡ flowsAfter a (now (flows .entry)))
+        × (now (deficits .exit) ≡ deficitsAfter a (now (deficits .entry)))
+        × (now (sizes .exit) ≡ departedSizes s (a .answer) (now (sizes .entry)))
+        × (now (packet .exit) ≡ packetOf (a .answer))) ⌝ }
+{
+    sized(*flows);
+    let c = decode(*common);
+    let l = decode_lists(*common);
+    let r = departure_of(
+        c,
+        l,
+        order,
+        deficits,
+        flows,
+        handles,
+        sizes,
+        Micros(clock),
+        known,
+    );
+    sized(*flows);
+    let left = r.common;
+    let lists = r.lists;
+    let flow = r.flow;
+    let handle = r.handle;
+    let size = r.size;
+    let accepted = r.accepted;
+    *packet = [flow, handle, size];
+    match accepted {
+        Accepted::No(refusal) => refused(refusal),
+        Accepted::Yes => {
+            encode(common, left, lists);
+            0
+        }
+    }
+}
+
+pub fn update(
+    common: &mut [u64; 19],
+    order: &[u64; 64],
+    flows: &mut [u64; 768],
+    deficits: &[u32; 64],
+    clock: u64,
+    known: bool,
+) -> u32
+    requires { ⌜ (known ≡ true → wellFormed (lent (now common) (now order) (now deficits) (now flows)) ≡ true) ⌝ }
+    ensures { λ r. ⌜ (let s = lent (now (common .entry)) (now (order .entry)) (now (deficits .entry)) (now (flows .entry)) in
+        let a = tick s clock in
+        (r ≡ codeOf (a .answer))
+        × (now (common .exit) ≡ commonAfter a (now (common .entry)))
+        × (now (flows .exit) ≡ flowsAfter a (now (flows .entry)))) ⌝ }
+{
+    sized(*flows);
+    let c = decode(*common);
+    let l = decode_lists(*common);
+    let r = tick_of(c, l, order, deficits, flows, Micros(clock), known);
+    sized(*flows);
+    let ticked = r.common;
+    let accepted = r.accepted;
+    match accepted {
+        Accepted::No(refusal) => refused(refusal),
+        Accepted::Yes => {
+            encode(common, ticked, l);
+            0
+        }
+    }
+}

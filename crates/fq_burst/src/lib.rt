@@ -1,0 +1,171 @@
+// One entry for a list of calls on 64 flows: the record is tested once, and each call is answered as the single entries would.
+use crate::entering::arrive;
+use crate::entering::depart;
+use crate::entering::update;
+use crate::numbers::clock_of;
+use crate::numbers::key_of;
+use crate::numbers::wide;
+use crate::numbers::word;
+use fq_capi::obikuteru_fq_well_formed_of;
+ghost use mathlib.Core.Path.{_≡_};
+ghost use mathlib.Core.Bool.{cond, true};
+ghost use Prim.Native.Nat.{_+_, _*_, _<_};
+ghost use lib.ListN.{length};
+ghost use Rattle.fq_state.specs.WellFormed.{wellFormed};
+ghost use Rattle.fq_capi.specs.Words.{lent};
+ghost use Rattle.fq_guarantees.specs.Kept.{Sound};
+ghost use Rattle.fq_burst.specs.Calls.{askedAt};
+ghost use Rattle.fq_burst.specs.Burst.{after, answerTo, answerWord, burst, done, fitting, held, outcome};
+
+mod calling;
+mod checking;
+mod entering;
+mod numbers;
+
+// The call at `at`; where `known`, the record is not tested.
+fn answered(
+    common: &mut [u64; 19],
+    order: &mut [u64; 64],
+    flows: &mut [u64; 768],
+    deficits: &mut [u32; 64],
+    handles: &mut [u32],
+    sizes: &mut [u32],
+    calls: &[u32],
+    at: usize,
+    known: bool,
+) -> u64
+    requires { ⌜ (known ≡ true → wellFormed (lent (now common) (now order) (now deficits) (now flows)) ≡ true) ⌝ }
+    requires { ⌜ at + 9 < length (now calls) ⌝ }
+    ensures { λ r. ⌜ (let q = held (now (common .entry)) (now (order .entry)) (now (flows .entry)) (now (deficits .entry))
+        (now (handles .entry)) (now (sizes .entry)) in
+        (r ≡ answerWord (answerTo q (askedAt (now (calls .entry)) at)))
+        × (held (now (common .exit)) (now (order .exit)) (now (flows .exit)) (now (deficits .exit))
+        (now (handles .exit)) (now (sizes .exit))
+        ≡ after q (askedAt (now (calls .entry)) at))) ⌝ }
+{
+    let clock = clock_of(calls[at], calls[at + 1]);
+    let kind = calls[at + 5];
+    let arrives = kind < 2;
+    if arrives {
+        let key = key_of(calls[at + 6], calls[at + 7], calls[at + 8], calls[at + 9]);
+        let ecn = kind == 1;
+        let code = arrive(
+            common,
+            order,
+            flows,
+            deficits,
+            handles,
+            sizes,
+            clock,
+            &key,
+            calls[at + 2],
+            calls[at + 3],
+            ecn,
+            calls[at + 4],
+            known,
+        );
+        return wide(code);
+    }
+    let departs = kind == 2;
+    if departs {
+        let mut packet: [u32; 3] = [0, 0, 0];
+        let code = depart(
+            common,
+            order,
+            flows,
+            deficits,
+            handles,
+            sizes,
+            clock,
+            &mut packet,
+            known,
+        );
+        return word(code, packet[0], packet[2], packet[1]);
+    }
+    let ticks = kind == 3;
+    if ticks {
+        return wide(update(common, order, flows, deficits, clock, known));
+    }
+    120
+}
+
+// What the lists and deficits are known to be.
+fn whole(order: [u64; 64], deficits: [u32; 64])
+    ensures { λ _. ⌜ (length order ≡ 64) × (length deficits ≡ 64) ⌝ }
+{}
+
+// All calls; where `known`, the record is well formed.
+fn all_answered(
+    common: &mut [u64; 19],
+    order: &mut [u64; 64],
+    flows: &mut [u64; 768],
+    deficits: &mut [u32; 64],
+    handles: &mut [u32],
+    sizes: &mut [u32],
+    calls: &[u32],
+    answers: &mut [u64],
+    known: bool,
+)
+    requires { ⌜ (known ≡ true → Sound (lent (now common) (now order) (now deficits) (now flows))) ⌝ }
+    requires { ⌜ length (now calls) ≡ 10 * length (now answers) ⌝ }
+    ensures { λ _. ⌜ done (held (now (common .exit)) (now (order .exit)) (now (flows .exit)) (now (deficits .exit))
+        (now (handles .exit)) (now (sizes .exit))) (now (answers .exit))
+        ≡ burst (held (now (common .entry)) (now (order .entry)) (now (flows .entry)) (now (deficits .entry))
+        (now (handles .entry)) (now (sizes .entry))) (now (calls .entry)) (now (answers .entry)) (length (now (answers .entry))) ⌝ }
+{
+    let mut i: usize = 0;
+    while i < answers.len() {
+        let answer = answered(
+            common,
+            order,
+            flows,
+            deficits,
+            handles,
+            sizes,
+            calls,
+            10 * i,
+            known,
+        );
+        answers[i] = answer;
+        i += 1;
+    }
+}
+
+// `calls` has ten numbers for each of `answers`; where it has not, nothing is done.
+#[no_mangle]
+pub extern "C" fn obikuteru_fq_calls_of(
+    common: &mut [u64; 19],
+    order: &mut [u64; 64],
+    flows: &mut [u64; 768],
+    deficits: &mut [u32; 64],
+    handles: &mut [u32],
+    sizes: &mut [u32],
+    calls: &[u32],
+    answers: &mut [u64],
+) -> u32
+    ensures { λ r. ⌜ r ≡ cond (fitting (now (calls .entry)) (now (answers .entry))) 0 120 ⌝ }
+    ensures { λ _. ⌜ done (held (now (common .exit)) (now (order .exit)) (now (flows .exit)) (now (deficits .exit))
+        (now (handles .exit)) (now (sizes .exit))) (now (answers .exit))
+        ≡ outcome (held (now (common .entry)) (now (order .entry)) (now (flows .entry)) (now (deficits .entry))
+        (now (handles .entry)) (now (sizes .entry))) (now (calls .entry)) (now (answers .entry)) ⌝ }
+{
+    let n = answers.len();
+    let fit = (calls.len() % 10 == 0) & (calls.len() / 10 == n);
+    if !fit {
+        return 120;
+    }
+    whole(*order, *deficits);
+    let known = obikuteru_fq_well_formed_of(common, order, flows, deficits);
+    all_answered(
+        common,
+        order,
+        flows,
+        deficits,
+        handles,
+        sizes,
+        calls,
+        answers,
+        known,
+    );
+    0
+}

@@ -1,0 +1,46 @@
+// Numbers of calls and answers.
+ghost use mathlib.Core.Path.{_≡_};
+ghost use Prim.Native.Nat.{_+_, _*_, _≤_};
+ghost use Rattle.fq_burst.specs.Calls.{keyOf};
+
+pub fn wide(x: u32) -> u64
+    ensures { λ r. ⌜ r ≡ x ⌝ }
+{
+    x as u64
+}
+
+// A clock from its halves.
+pub fn clock_of(low: u32, high: u32) -> u64
+    ensures { λ r. ⌜ r ≡ low + 4294967296 * high ⌝ }
+{
+    low as u64 + 4_294_967_296 * (high as u64)
+}
+
+// The word of a departure's answer.
+pub fn word(code: u32, flow: u32, size: u32, handle: u32) -> u64
+    requires { ⌜ (code ≤ 255) × (flow ≤ 255) × (size ≤ 65535) ⌝ }
+    ensures { λ r. ⌜ r ≡ code + 256 * flow + 65536 * size + 4294967296 * handle ⌝ }
+{
+    code as u64 + 256 * (flow as u64) + 65_536 * (size as u64) + 4_294_967_296 * (handle as u64)
+}
+
+// A key from its four numbers.
+pub fn key_of(a: u32, b: u32, c: u32, d: u32) -> [u8; 13]
+    ensures { λ r. ⌜ r ≡ keyOf a b c d ⌝ }
+{
+    [
+        (a % 256) as u8,
+        (a / 256 % 256) as u8,
+        (a / 65_536 % 256) as u8,
+        (a / 16_777_216 % 256) as u8,
+        (b % 256) as u8,
+        (b / 256 % 256) as u8,
+        (b / 65_536 % 256) as u8,
+        (b / 16_777_216 % 256) as u8,
+        (c % 256) as u8,
+        (c / 256 % 256) as u8,
+        (c / 65_536 % 256) as u8,
+        (c / 16_777_216 % 256) as u8,
+        (d % 256) as u8,
+    ]
+}
