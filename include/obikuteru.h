@@ -633,6 +633,28 @@ bool obikuteru_pair_well_formed(const struct obikuteru_shared *shared,
                                 const struct obikuteru_pair_queue *passengers);
 
 /*
+ * Many calls on a pair in one: a burst. The records are tested once, and each call is answered as
+ * its single entry would answer it, refused ones included, each given what the last one left; so a
+ * burst may be cut anywhere. A call is six 32-bit numbers: the clock's low and its high half, handle,
+ * size, u, and a kind; a departure or a tick reads only clock and kind. An answer is one word, code +
+ * 65,536 * size + 2^32 * handle, size and handle of the packet that departed, else 0. Answers
+ * ACCEPTED, or 120 with nothing done where `calls_len` is not 6 * `answers_len`; a call of an unknown
+ * kind is answered 120 and changes nothing.
+ */
+#define OBIKUTERU_PAIR_CALL_ARRIVAL 0u
+#define OBIKUTERU_PAIR_CALL_ECN_ARRIVAL 1u /* the packet is ECN-capable */
+#define OBIKUTERU_PAIR_CALL_DEPARTURE 2u
+#define OBIKUTERU_PAIR_CALL_TICK 3u
+#define OBIKUTERU_PAIR_CALL_PASSENGERS 4u /* added to a kind: the same of the passengers */
+
+uint32_t obikuteru_pair_calls(struct obikuteru_shared *shared,
+                              struct obikuteru_pair_queue *intercom,
+                              struct obikuteru_pair_queue *passengers, uint32_t *handles,
+                              size_t handles_len, uint32_t *sizes, size_t sizes_len,
+                              const uint32_t *calls, size_t calls_len, uint64_t *answers,
+                              size_t answers_len);
+
+/*
  * 64 flows in one pair of tables: FQ-PIE. docs/SHARED-TABLES.md has its rules. Each flow sheds load
  * by itself, with a PIE state of its own, and they are served in turn (deficit round robin, a
  * quantum of 1,514 bytes), so that one sender's flood is shed from its own flow. A set of flows is

@@ -66,6 +66,19 @@ extern "C" {
         second: bool,
         clock: u64,
     ) -> u32;
+    fn obikuteru_pair_calls(
+        shared: Shared,
+        intercom: Queue,
+        passengers: Queue,
+        handles: *mut u32,
+        handles_len: usize,
+        sizes: *mut u32,
+        sizes_len: usize,
+        calls: *const u32,
+        calls_len: usize,
+        answers: *mut u64,
+        answers_len: usize,
+    ) -> u32;
     fn obikuteru_pair_well_formed(
         shared: *const SharedRecord,
         intercom: *const QueueRecord,
@@ -181,6 +194,24 @@ impl Memory {
     pub fn tick(&self, queue: usize, clock: u64) -> u32 {
         let (own, other) = self.picked(queue);
         unsafe { obikuteru_pair_tick_of(self.shared, own, other, queue == 1, clock) }
+    }
+
+    pub fn calls(
+        &self,
+        (handles, sizes): (&mut [u32], &mut [u32]),
+        calls: &[u32],
+        answers: &mut [u64],
+    ) -> u32 {
+        let [queue0, queue1] = self.queues;
+        let (h, h_len) = (handles.as_mut_ptr(), handles.len());
+        let (s, s_len) = (sizes.as_mut_ptr(), sizes.len());
+        let (c, c_len) = (calls.as_ptr(), calls.len());
+        let (a, a_len) = (answers.as_mut_ptr(), answers.len());
+        unsafe {
+            obikuteru_pair_calls(
+                self.shared, queue0, queue1, h, h_len, s, s_len, c, c_len, a, a_len,
+            )
+        }
     }
 
     pub fn well_formed(&self) -> bool {

@@ -45,7 +45,7 @@ pub fn run(
     Ok(())
 }
 
-fn what(r: &mut Random) -> What {
+pub fn what(r: &mut Random) -> What {
     r.pick(&[What::Arrival, What::Arrival, What::Departure, What::Departure, What::Tick])
 }
 
@@ -54,7 +54,7 @@ fn queue(r: &mut Random) -> usize {
 }
 
 /// The refusals that a call can get.
-fn refusals(what: What) -> &'static [usize] {
+pub fn refusals(what: What) -> &'static [usize] {
     match what {
         What::Arrival => &[2, 3, 4, 7, 8, 9],
         What::Departure => &[2, 3, 4, 6, 9],
@@ -63,7 +63,7 @@ fn refusals(what: What) -> &'static [usize] {
 }
 
 /// Records with tables, and a call to which the wanted refusals apply where they can.
-fn case(r: &mut Random) -> (Side, Call) {
+pub fn case(r: &mut Random) -> (Side, Call) {
     let (what, queue) = (what(r), queue(r));
     let wanted: Refusals = wanted(r, refusals(what));
     let broken = wanted[2].then(|| r.range(0, CONDITIONS as u64 - 1) as usize);

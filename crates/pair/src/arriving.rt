@@ -96,7 +96,7 @@ fn check_arrival(
 }
 
 // Rules 1 to 7, where the first queue is called.
-fn decide(shared: Shared, own: State, other: State, size: Bytes, ecn: bool, u: u32) -> Decided
+pub fn decide(shared: Shared, own: State, other: State, size: Bytes, ecn: bool, u: u32) -> Decided
     requires { ⌜ wellFormed (paired Intercom shared own other) ≡ true ⌝ }
     requires { ⌜ size .0 ≤ largest ⌝ }
     ensures { λ r. ⌜ r .verdict ≡ verdictOf (paired Intercom shared own other) Intercom (size .0) ecn u ⌝ }
@@ -123,7 +123,7 @@ fn decide(shared: Shared, own: State, other: State, size: Bytes, ecn: bool, u: u
 }
 
 // The state after an arrival with this verdict; where it admits, the packet stands at `place`.
-fn arrived(
+pub fn arrived(
     own: State,
     clock: Micros,
     size: Bytes,

@@ -1,15 +1,8 @@
 // The pair's C interface (include/obikuteru.h): the calls on two queues over records that are lent as words. Each entry decodes the words,
 // makes the one call of the pair and writes back what changed. An entry that names a queue is lent that queue's words first and the other
 // one's second; the header picks them.
-use crate::words::decode;
-use crate::words::decode_shared;
 use crate::words::encode;
 use crate::words::encode_shared;
-use crate::words::named;
-use crate::words::write_arrival;
-use crate::words::write_departure;
-use crate::words::write_store;
-use crate::words::write_tick;
 use pair::arrival;
 use pair::departure;
 use pair::tick;
@@ -37,8 +30,16 @@ ghost use Rattle.pair_capi.specs.Words.{pairOf, sharedWords, stateWords,
 
 mod words;
 
+pub use words::decode;
+pub use words::decode_shared;
+pub use words::named;
+pub use words::write_arrival;
+pub use words::write_departure;
+pub use words::write_store;
+pub use words::write_tick;
+
 // The number of a refusal, with 100.
-fn refused(r: Refusal) -> u32
+pub fn refused(r: Refusal) -> u32
     ensures { λ n. ⌜ n ≡ 100 + numberOf r ⌝ }
 {
     100 + r.number()

@@ -23,7 +23,7 @@ ghost use Rattle.pair_capi.specs.Changed.{arrivalWords, departureWords, 
 ghost use Rattle.pair_capi.specs.Words.{flagWord, sharedOf, sharedWords, stateOf, stateWords, whichOf};
 
 // The queue that a call names.
-pub(crate) fn named(second: bool) -> Which
+pub fn named(second: bool) -> Which
     ensures { λ r. ⌜ r ≡ whichOf second ⌝ }
 {
     if second {
@@ -33,7 +33,7 @@ pub(crate) fn named(second: bool) -> Which
 }
 
 // The shared record that the words hold, and that they are six.
-pub(crate) fn decode_shared(w: [u64; 6]) -> Shared
+pub fn decode_shared(w: [u64; 6]) -> Shared
     ensures { λ r. ⌜ (r ≡ sharedOf w) × (length w ≡ 6) ⌝ }
 {
     let reserves = Reserves {
@@ -53,7 +53,7 @@ pub(crate) fn decode_shared(w: [u64; 6]) -> Shared
 }
 
 // The state that the words hold, and that they are twenty-one.
-pub(crate) fn decode(w: [u64; 21]) -> State
+pub fn decode(w: [u64; 21]) -> State
     ensures { λ r. ⌜ (r ≡ stateOf w) × (length w ≡ 21) ⌝ }
 {
     let settings = Settings {
@@ -156,7 +156,7 @@ fn flag(word: u64, said: bool) -> u64
 }
 
 // The words of the shared record that change with a packet.
-pub(crate) fn write_store(w: &mut [u64; 6], store: Store)
+pub fn write_store(w: &mut [u64; 6], store: Store)
     ensures { λ _. ⌜ now (w .exit) ≡ storeWords (now (w .entry)) store ⌝ }
 {
     w[3] = store.used;
@@ -165,7 +165,7 @@ pub(crate) fn write_store(w: &mut [u64; 6], store: Store)
 }
 
 // The words of the called queue that an arrival with this verdict changes.
-pub(crate) fn write_arrival(w: &mut [u64; 21], s: State, v: Verdict) -> u32
+pub fn write_arrival(w: &mut [u64; 21], s: State, v: Verdict) -> u32
     requires { ⌜ getD (now w) (16 + placeOf v) 0 < mostVerdicts ⌝ }
     ensures { λ r. ⌜ r ≡ placeOf v ⌝ }
     ensures { λ _. ⌜ now (w .exit) ≡ arrivalWords (now (w .entry)) s v ⌝ }
@@ -183,7 +183,7 @@ pub(crate) fn write_arrival(w: &mut [u64; 21], s: State, v: Verdict) -> u32
 }
 
 // Those that a departure changes. A measurement that has counted bytes goes on, and its other words stay.
-pub(crate) fn write_departure(w: &mut [u64; 21], s: State)
+pub fn write_departure(w: &mut [u64; 21], s: State)
     ensures { λ _. ⌜ now (w .exit) ≡ departureWords (now (w .entry)) s ⌝ }
 {
     let rate = s.pie.rate;
@@ -201,7 +201,7 @@ pub(crate) fn write_departure(w: &mut [u64; 21], s: State)
 }
 
 // Those that a tick changes.
-pub(crate) fn write_tick(w: &mut [u64; 21], s: State)
+pub fn write_tick(w: &mut [u64; 21], s: State)
     ensures { λ _. ⌜ now (w .exit) ≡ tickWords (now (w .entry)) s ⌝ }
 {
     w[2] = s.clock.0;

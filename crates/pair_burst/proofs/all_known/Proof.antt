@@ -1,0 +1,105 @@
+use Rattle.pair_burst.proofs.all_known.Statement.{statement}
+use Rattle.pair_burst.proofs.all_known.Tie as tie
+use mathlib.Core.Path.{_≡_, ap, refl, _∙_}
+use Prim.Native.Nat.{_-_, _*_, _≤_}
+use native.Mathlib.Omega.{arith}
+use lib.ListN.{length, length-set}
+use denote.Ref.{now}
+use Rattle.pair_state.specs.declared.Which.the-variants.{Intercom}
+use Rattle.pair_burst.specs.Calls.{callAt}
+use Rattle.pair_burst.specs.Burst.{Lent, Ready, burst, done, lent}
+use Rattle.pair_burst.proofs.Kept.{after-long}
+use Rattle.pair_burst.proofs.Readiness.{ready-next, ready-one}
+use Rattle.pair_burst.proofs.Steps.{one-more}
+
+abbrev Inv-loop : tie.InvT-loop
+Inv-loop shared₀ intercom₀ passengers₀ handles₀ sizes₀ calls answers₀ i₀ shared intercom passengers handles sizes answers i =
+    (i ≤ length answers₀)
+    × (length answers ≡ length answers₀)
+    × (length handles ≡ length handles₀)
+    × (length sizes ≡ length sizes₀)
+    × (done (lent Intercom shared intercom passengers handles sizes) answers
+    ≡ burst (lent Intercom shared₀ intercom₀ passengers₀ handles₀ sizes₀) calls answers₀ i)
+    × Ready (lent Intercom shared intercom passengers handles sizes) (length answers₀ - i)
+
+abbrev μ-loop : tie.MeasureT-loop
+μ-loop shared₀ intercom₀ passengers₀ handles₀ sizes₀ calls answers₀ i₀ shared intercom passengers handles sizes answers i =
+    length answers₀ - i
+
+loop-holds : tie.Need-loop-holds Inv-loop μ-loop
+unfolding burst
+loop-holds c =
+    let a = c .before .before .before .before in
+    let n = length (now (a .args .answers)) in
+    let all : n - 0 ≡ n = omega arith in (omega arith, refl, refl, refl, refl, rw all (a .pre .0))
+
+mul-call-known : tie.Need-mul-call-known Inv-loop μ-loop
+mul-call-known c = omega (arith, c .before .before .before .before .before .before .before .before .before .before .before .pre .1)
+
+call-known-requires : tie.Need-call-known-requires Inv-loop μ-loop
+call-known-requires c κs = 
+    let l = c .before .before .before .before .before .before .loop in
+    let q = lent Intercom (l .shared) (l .intercom) (l .passengers) (l .handles) (l .sizes) in
+    (omega (arith, c .before .before .before .before .before .before .before .before .before .before .before .pre .1, l .inv .1), ready-one q _ (omega (arith, l .inv .1, c .before .before .before .before .before .loop-test .taken)) (l .inv .5))
+
+mul-answers : tie.Need-mul-answers Inv-loop μ-loop
+mul-answers c = omega arith
+
+slice-write-answers : tie.Need-slice-write-answers Inv-loop μ-loop
+slice-write-answers c = omega arith
+
+add-i : tie.Need-add-i Inv-loop μ-loop
+add-i c = omega arith
+
+loop-less : tie.Need-loop-less Inv-loop μ-loop
+loop-less c = omega arith
+
+loop-again : tie.Need-loop-again Inv-loop μ-loop
+loop-again c =
+    let a = c .before .before .before .before .before .before .before .before .before .before .before .before .before .before .before .before in
+    let l = c .before .before .before .before .before .before .before .before .before .before .before .loop in
+    let k = c .before .before .before .before .call-known in
+    let calls = now (a .args .calls) in
+    let given = lent Intercom (l .shared) (l .intercom) (l .passengers) (l .handles) (l .sizes) in
+    let long = after-long given (callAt calls (6 * l .i)) in (
+      omega (arith, l .inv .1, c .before .before .before .before .before .before .before .before .before .before .loop-test .taken),
+      length-set (l .answers) (l .i) (k .result) ∙ l .inv .1,
+      ap (λ (q : Lent). length (q .handles)) (k .ensures .1) ∙ long .0 ∙ l .inv .2,
+      ap (λ (q : Lent). length (q .sizes)) (k .ensures .1) ∙ long .1 ∙ l .inv .3,
+      one-more _ calls (now (a .args .answers)) (l .i) given (l .answers) (k .result) _ (l .inv .4) (k .ensures .0, k .ensures .1),
+      ready-next given _ (callAt calls (6 * l .i)) (length (now (a .args .answers))) (l .i)
+      (omega (arith, l .inv .1, c .before .before .before .before .before .before .before .before .before .before .loop-test .taken)) (k .ensures .1) (l .inv .5),
+    )
+
+same-length : tie.Need-same-length Inv-loop μ-loop
+same-length c = c .before .loop .inv .2
+
+same-length-2 : tie.Need-same-length-2 Inv-loop μ-loop
+same-length-2 c = c .before .loop .inv .3
+
+same-length-3 : tie.Need-same-length-3 Inv-loop μ-loop
+same-length-3 c = c .before .loop .inv .1
+
+returns : tie.Need-returns Inv-loop μ-loop
+returns c =
+    let l = c .before .loop in
+    let e : l .i ≡ length (now (c .before .before .before .before .before .before .args .answers)) = omega (arith, l .inv .0, l .inv .1, c .loop-test .left) in rw e at (l .inv .4)
+
+pub all-known-spec : {M : Type 1} → statement M
+all-known-spec =
+    tie.close
+    (tie.spec
+    Inv-loop
+    μ-loop
+    loop-holds
+    mul-call-known
+    call-known-requires
+    mul-answers
+    slice-write-answers
+    add-i
+    loop-less
+    loop-again
+    same-length
+    same-length-2
+    same-length-3
+    returns)

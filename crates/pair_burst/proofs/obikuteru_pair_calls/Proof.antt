@@ -1,0 +1,82 @@
+use borrow.Author.Needs.{needs}
+use Rattle.pair_burst.proofs.obikuteru_pair_calls.Statement.{statement}
+use Rattle.pair_burst.proofs.obikuteru_pair_calls.Tie as tie
+use mathlib.Core.Path.{_≡_, refl}
+use mathlib.Core.Bool.{true}
+use Prim.Native.Nat.{_*_, _/_, _%_}
+use native.Mathlib.Nat.{mod-add-div}
+use native.Mathlib.Omega.{arith}
+use lib.Dec.{eqb}
+use lib.ListN.{length}
+use denote.Ref.{now}
+use borrow.Author.Tests.{eqb-true, not-false, not-true}
+use Rattle.laws.proofs.Tests.{and-left, and-right}
+use Rattle.pair_burst.specs.Burst.{fits}
+
+abbrev given : tie.Else1 → tie.Start
+given c = c .before .before .before .before .before
+
+fit : (c : tie.Else1) → fits (now (given c .args .calls)) (now (given c .args .answers)) ≡ true
+fit c = not-false _ (c .if1 .left)
+
+six : (c : tie.Else1) → length (now (given c .args .calls)) ≡ 6 * length (now (given c .args .answers))
+six c =
+    let n = length (now (given c .args .calls)) in
+    let whole : n % 6 ≡ 0 = eqb-true _ _ (and-left (eqb (n % 6) 0) _ (fit c)) in
+    let each : n / 6 ≡ length (now (given c .args .answers)) = eqb-true _ _ (and-right (eqb (n % 6) 0) _ (fit c)) in
+    omega (arith, mod-add-div n 6)
+
+returns : tie.Need-returns
+returns c =
+    let a = c .before .before .before .before .before in
+    let e = not-true (fits (now (a .args .calls)) (now (a .args .answers))) (c .if1 .taken) in rw e (refl, refl)
+
+ready-requires : tie.Need-ready-requires
+ready-requires c κs = search needs
+
+all-known-requires : tie.Need-all-known-requires
+all-known-requires c κs = (c .before .before .before .before .before .before .before .ready .ensures (c .before .before .before .before .before .before .if2 .taken), six (c .before .before .before .before .before .before .before .before .before .before .before))
+
+same-length : tie.Need-same-length
+same-length c = search needs
+
+same-length-2 : tie.Need-same-length-2
+same-length-2 c = search needs
+
+same-length-3 : tie.Need-same-length-3
+same-length-3 c = search needs
+
+returns-2 : tie.Need-returns-2
+returns-2 c = rw (fit (c .before .before .before .before .before .before .before .before .before .before .before .before .before .before .before .before .before .before)) (refl, c .before .before .before .before .before .before .all-known .ensures)
+
+all-single-requires : tie.Need-all-single-requires
+all-single-requires c κs = six (c .before .before .before .before .before .before .before .before .before .before .before)
+
+same-length-4 : tie.Need-same-length-4
+same-length-4 c = search needs
+
+same-length-5 : tie.Need-same-length-5
+same-length-5 c = search needs
+
+same-length-6 : tie.Need-same-length-6
+same-length-6 c = search needs
+
+returns-3 : tie.Need-returns-3
+returns-3 c = rw (fit (c .before .before .before .before .before .before .before .before .before .before .before .before .before .before .before .before .before .before)) (refl, c .before .before .before .before .before .before .all-single .ensures)
+
+pub obikuteru-pair-calls-spec : {M : Type 1} → statement M
+obikuteru-pair-calls-spec =
+    tie.close
+    (tie.spec
+    returns
+    ready-requires
+    all-known-requires
+    same-length
+    same-length-2
+    same-length-3
+    returns-2
+    all-single-requires
+    same-length-4
+    same-length-5
+    same-length-6
+    returns-3)

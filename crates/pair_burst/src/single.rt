@@ -1,0 +1,122 @@
+// A call by the single entries.
+use crate::numbers::clock_of;
+use crate::numbers::wide;
+use crate::numbers::word;
+use pair_capi::obikuteru_pair_arrival_of;
+use pair_capi::obikuteru_pair_departure_of;
+use pair_capi::obikuteru_pair_tick_of;
+ghost use mathlib.Core.Path.{_≡_};
+ghost use Prim.Native.Nat.{_+_, _<_};
+ghost use lib.ListN.{length};
+ghost use Rattle.pair_state.specs.declared.Which.the-variants.{Intercom};
+ghost use Rattle.pair_capi.specs.Words.{whichOf};
+ghost use Rattle.pair_burst.specs.Calls.{asked, callAt, requestAt};
+ghost use Rattle.pair_burst.specs.Burst.{after, answerTo, answerWord, lent};
+
+// The call at `at` on the queue whose words are `own`; `kind` tells what it asks.
+fn of_queue(
+    shared: &mut [u64; 6],
+    own: &mut [u64; 21],
+    other: &[u64; 21],
+    second: bool,
+    handles: &mut [u32],
+    sizes: &mut [u32],
+    calls: &[u32],
+    at: usize,
+    kind: u32,
+) -> u64
+    requires { ⌜ at + 5 < length (now calls) ⌝ }
+    ensures { λ r. ⌜ r ≡ answerWord (answerTo
+        (lent (whichOf second) (now (shared .entry)) (now (own .entry)) (now (other .entry)) (now (handles .entry)) (now (sizes .entry)))
+        (asked (whichOf second) (requestAt kind (now (calls .entry)) at))) ⌝ }
+    ensures { λ _. ⌜ lent (whichOf second)
+        (now (shared .exit)) (now (own .exit)) (now (other .entry)) (now (handles .exit)) (now (sizes .exit))
+        ≡ after
+        (lent (whichOf second) (now (shared .entry)) (now (own .entry)) (now (other .entry)) (now (handles .entry)) (now (sizes .entry)))
+        (asked (whichOf second) (requestAt kind (now (calls .entry)) at)) ⌝ }
+{
+    let clock = clock_of(calls[at], calls[at + 1]);
+    let arrives = kind < 2;
+    if arrives {
+        let code = obikuteru_pair_arrival_of(
+            shared,
+            own,
+            other,
+            second,
+            handles,
+            sizes,
+            clock,
+            calls[at + 2],
+            calls[at + 3],
+            kind == 1,
+            calls[at + 4],
+        );
+        return wide(code);
+    }
+    let departs = kind == 2;
+    if departs {
+        let mut packet: [u32; 2] = [0, 0];
+        let code = obikuteru_pair_departure_of(
+            shared,
+            own,
+            other,
+            second,
+            handles,
+            sizes,
+            clock,
+            &mut packet,
+        );
+        return word(code, packet[1], packet[0]);
+    }
+    wide(obikuteru_pair_tick_of(shared, own, other, second, clock))
+}
+
+// The call at `at`.
+pub fn call_single(
+    shared: &mut [u64; 6],
+    intercom: &mut [u64; 21],
+    passengers: &mut [u64; 21],
+    handles: &mut [u32],
+    sizes: &mut [u32],
+    calls: &[u32],
+    at: usize,
+) -> u64
+    requires { ⌜ at + 5 < length (now calls) ⌝ }
+    ensures { λ r. ⌜ r ≡ answerWord (answerTo (lent Intercom (now (shared .entry)) (now (intercom .entry)) (now (passengers .entry))
+        (now (handles .entry)) (now (sizes .entry))) (callAt (now (calls .entry)) at)) ⌝ }
+    ensures { λ _. ⌜ lent Intercom (now (shared .exit)) (now (intercom .exit)) (now (passengers .exit))
+        (now (handles .exit)) (now (sizes .exit))
+        ≡ after (lent Intercom (now (shared .entry)) (now (intercom .entry)) (now (passengers .entry))
+        (now (handles .entry)) (now (sizes .entry))) (callAt (now (calls .entry)) at) ⌝ }
+{
+    let kind = calls[at + 5];
+    let first = kind < 4;
+    if first {
+        return of_queue(
+            shared,
+            intercom,
+            passengers,
+            false,
+            handles,
+            sizes,
+            calls,
+            at,
+            kind,
+        );
+    }
+    let second = kind < 8;
+    if second {
+        return of_queue(
+            shared,
+            passengers,
+            intercom,
+            true,
+            handles,
+            sizes,
+            calls,
+            at,
+            kind - 4,
+        );
+    }
+    120
+}
