@@ -638,14 +638,12 @@ bool obikuteru_pair_well_formed(const struct obikuteru_shared *shared,
  * burst may be cut anywhere. A call is six 32-bit numbers: the clock's low and its high half, handle,
  * size, u, and a kind; a departure or a tick reads only clock and kind. An answer is one word, code +
  * 65,536 * size + 2^32 * handle, size and handle of the packet that departed, else 0. Answers
- * ACCEPTED, or 120 with nothing done where `calls_len` is not 6 * `answers_len`; a call of an unknown
- * kind is answered 120 and changes nothing.
+ * ACCEPTED, or REFUSED_CALL with nothing done where `calls_len` is not 6 * `answers_len`; a call of an
+ * unknown kind is answered so and changes nothing. Calls and answers are laid out as struct
+ * obikuteru_call and struct obikuteru_answer; the kinds are the queue's for the intercom, and
+ * CALL_PASSENGERS is added to them for the passengers.
  */
-#define OBIKUTERU_PAIR_CALL_ARRIVAL 0u
-#define OBIKUTERU_PAIR_CALL_ECN_ARRIVAL 1u /* the packet is ECN-capable */
-#define OBIKUTERU_PAIR_CALL_DEPARTURE 2u
-#define OBIKUTERU_PAIR_CALL_TICK 3u
-#define OBIKUTERU_PAIR_CALL_PASSENGERS 4u /* added to a kind: the same of the passengers */
+#define OBIKUTERU_CALL_PASSENGERS 4u
 
 uint32_t obikuteru_pair_calls(struct obikuteru_shared *shared,
                               struct obikuteru_pair_queue *intercom,
@@ -819,16 +817,10 @@ struct obikuteru_fq_call {
     uint32_t handle; /* arrivals */
     uint32_t size;   /* arrivals */
     uint32_t u;      /* arrivals: a random number, fresh for each */
-    uint32_t kind;   /* one of those below */
+    uint32_t kind;   /* as in struct obikuteru_call */
     uint8_t key[13]; /* arrivals */
     uint8_t unused[3];
 };
-
-/* Kinds of call. */
-#define OBIKUTERU_CALL_ARRIVAL 0u
-#define OBIKUTERU_CALL_ECN_ARRIVAL 1u /* the packet is ECN-capable */
-#define OBIKUTERU_CALL_DEPARTURE 2u
-#define OBIKUTERU_CALL_TICK 3u
 
 /* What a call is answered. */
 struct obikuteru_fq_answer {
@@ -837,9 +829,6 @@ struct obikuteru_fq_answer {
     uint16_t size;   /* likewise */
     uint32_t handle; /* likewise */
 };
-
-/* Refusal of a call whose kind is none of those, and of a burst whose lengths do not fit. */
-#define OBIKUTERU_REFUSED_CALL 120u
 
 /*
  * The library's own entry: calls are ten 32-bit numbers each, in the order of struct

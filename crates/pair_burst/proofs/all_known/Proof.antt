@@ -37,7 +37,7 @@ mul-call-known : tie.Need-mul-call-known Inv-loop μ-loop
 mul-call-known c = omega (arith, c .before .before .before .before .before .before .before .before .before .before .before .pre .1)
 
 call-known-requires : tie.Need-call-known-requires Inv-loop μ-loop
-call-known-requires c κs = 
+call-known-requires c κs =
     let l = c .before .before .before .before .before .before .loop in
     let q = lent Intercom (l .shared) (l .intercom) (l .passengers) (l .handles) (l .sizes) in
     (omega (arith, c .before .before .before .before .before .before .before .before .before .before .before .pre .1, l .inv .1), ready-one q _ (omega (arith, l .inv .1, c .before .before .before .before .before .loop-test .taken)) (l .inv .5))
@@ -68,7 +68,7 @@ loop-again c =
       ap (λ (q : Lent). length (q .sizes)) (k .ensures .1) ∙ long .1 ∙ l .inv .3,
       one-more _ calls (now (a .args .answers)) (l .i) given (l .answers) (k .result) _ (l .inv .4) (k .ensures .0, k .ensures .1),
       ready-next given _ (callAt calls (6 * l .i)) (length (now (a .args .answers))) (l .i)
-      (omega (arith, l .inv .1, c .before .before .before .before .before .before .before .before .before .before .loop-test .taken)) (k .ensures .1) (l .inv .5),
+          (omega (arith, l .inv .1, c .before .before .before .before .before .before .before .before .before .before .loop-test .taken)) (k .ensures .1) (l .inv .5),
     )
 
 same-length : tie.Need-same-length Inv-loop μ-loop

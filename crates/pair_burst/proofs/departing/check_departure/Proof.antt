@@ -46,7 +46,8 @@ returns-3 c =
     let a = e .before .before .before .before .before in
     rw (
       a .pre .0,
-      eq-eqb (a .args .handles) (a .args .shared .slots) (a .pre .1 .0), eq-eqb (length (now (a .args .sizes))) (a .args .shared .slots) (a .pre .1 .1),
+      eq-eqb (a .args .handles) (a .args .shared .slots) (a .pre .1 .0),
+      eq-eqb (length (now (a .args .sizes))) (a .args .shared .slots) (a .pre .1 .1),
       e .if1 .left,
       e2 .if2 .left,
       ← (w .before .size-at .ensures),
@@ -69,7 +70,8 @@ returns-4 c =
     let a = e .before .before .before .before .before in
     rw (
       a .pre .0,
-      eq-eqb (a .args .handles) (a .args .shared .slots) (a .pre .1 .0), eq-eqb (length (now (a .args .sizes))) (a .args .shared .slots) (a .pre .1 .1),
+      eq-eqb (a .args .handles) (a .args .shared .slots) (a .pre .1 .0),
+      eq-eqb (length (now (a .args .sizes))) (a .args .shared .slots) (a .pre .1 .1),
       e .if1 .left,
       e2 .if2 .left,
       ← (w .before .size-at .ensures),
@@ -89,7 +91,8 @@ returns-5 c =
     let a = e .before .before .before .before .before in
     rw (
       a .pre .0,
-      eq-eqb (a .args .handles) (a .args .shared .slots) (a .pre .1 .0), eq-eqb (length (now (a .args .sizes))) (a .args .shared .slots) (a .pre .1 .1),
+      eq-eqb (a .args .handles) (a .args .shared .slots) (a .pre .1 .0),
+      eq-eqb (length (now (a .args .sizes))) (a .args .shared .slots) (a .pre .1 .1),
       e .if1 .left,
       e2 .if2 .left,
       ← (w .before .size-at .ensures),

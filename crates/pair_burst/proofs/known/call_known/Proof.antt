@@ -15,7 +15,7 @@ shared-slice-read-kind : tie.Need-shared-slice-read-kind
 shared-slice-read-kind c = search needs
 
 of-queue-requires : tie.Need-of-queue-requires
-of-queue-requires c κs = 
+of-queue-requires c κs =
     let b = c .before .before .before .before .before .before .before .before .before .before in
     let a = b .args in (b .pre .0, first-ready (now (a .shared)) (now (a .intercom)) (now (a .passengers)) (now (a .handles)) (now (a .sizes)) (b .pre .1))
 
@@ -34,7 +34,7 @@ sub-of-queue : tie.Need-sub-of-queue
 sub-of-queue c = search needs
 
 of-queue-requires-2 : tie.Need-of-queue-requires-2
-of-queue-requires-2 c κs = 
+of-queue-requires-2 c κs =
     let b = c .before .before .before .before .before .before .before .before .before .before .before in
     let a = b .args in (b .pre .0, second-ready (now (a .shared)) (now (a .intercom)) (now (a .passengers)) (now (a .handles)) (now (a .sizes)) (b .pre .1))
 
