@@ -113,8 +113,13 @@ pub fn run(r: &mut Random, bursts: u64) -> Result<(), String> {
             let queue = r.range(0, 1) as usize;
             call = calls::next(r, what, queue, &alone.side(), &refused);
         }
-        compare(&mut together, lent, &list, &expected, 0)
-            .and_then(|()| if together == alone { Ok(()) } else { Err("what is left".into()) })?;
+        compare(&mut together, lent, &list, &expected, 0).and_then(|()| {
+            if together == alone {
+                Ok(())
+            } else {
+                Err("what is left".into())
+            }
+        })?;
         misfit(r, &mut together, lent, list, expected.len())?;
     }
     Ok(())
@@ -132,11 +137,21 @@ fn compare(h: &mut Held, lent: Lent, l: &[u32], expected: &[u64], code: u32) -> 
 }
 
 /// Lengths that do not fit: nothing is done.
-fn misfit(r: &mut Random, h: &mut Held, lent: Lent, mut l: Vec<u32>, n: usize) -> Result<(), String> {
+fn misfit(
+    r: &mut Random,
+    h: &mut Held,
+    lent: Lent,
+    mut l: Vec<u32>,
+    n: usize,
+) -> Result<(), String> {
     let before = h.clone();
     let more = r.range(1, 5) as usize;
     let n = if r.one_in(2) { n + more } else { n };
     l.extend(std::iter::repeat(0).take(r.range(1, 5) as usize));
     compare(h, lent, &l, &vec![UNANSWERED; n], REFUSED)?;
-    if *h == before { Ok(()) } else { Err("a burst of unfit lengths changed something".into()) }
+    if *h == before {
+        Ok(())
+    } else {
+        Err("a burst of unfit lengths changed something".into())
+    }
 }

@@ -63,7 +63,7 @@ fn check_arrival(
     Accepted::Yes
 }
 
-// `pair::arrival` on records that are well formed, with tables that fit and room in the counts: a packet of `size` bytes arrives at the queue that `which` names, whose state is `own`; `u` is its random number.
+// `pair::arrival` on records that are well formed, with tables that fit and room in the counts.
 pub fn arrival(
     which: Which,
     shared: Shared,
