@@ -1,5 +1,5 @@
 /*
- * Obikuteru: one queue of packet records that sheds load by PIE (RFC 8033), proved in Rattle.
+ * Obikuteru: queues of packet records that shed load by PIE (RFC 8033), proved in Rattle.
  *
  * The library holds no memory of its own, calls nothing, and never fails but by the refusals
  * below. A queue is three things that the caller owns and lends to each call:
@@ -10,14 +10,15 @@
  * The packets themselves stay with the caller. The queue keeps a handle (any 32-bit number that
  * names the packet to the caller) and a size for each.
  *
- * A second kind of queue, for the sixteen flows of a cable modem, stands further down; at the end,
- * two queues and then 64 flows that share one pair of tables.
+ * Three more kinds stand further down: a cable modem's sixteen flows, two queues in one pair of
+ * tables, 64 flows in one pair.
  *
  * Units: times are microseconds, sizes bytes, probabilities whole units of 1/2^32.
  *
  * Platform
- *   The archive links into programs for x86-64 Linux, where size_t has 64 bits. Take the header
- *   and the archive from the same release: nothing compares them.
+ *   There is an archive for x86-64 Linux and one for AArch64 Linux (./obikuteru library aarch64);
+ *   size_t has 64 bits in both. Take the header and the archive from the same release: nothing
+ *   compares them.
  *
  * Memory
  *   Hand state and tables back to the next call as the last call left them. The library checks
@@ -52,14 +53,15 @@
  *   Save record and both tables together, between two calls, and with them
  *   OBIKUTERU_RECORD_VERSION and sizeof(struct obikuteru_state). Restore only if both are equal;
  *   then ask obikuteru_well_formed. The bytes stand in the machine's order (little-endian on
- *   x86-64): a record from a machine of the other order is converted field by field.
+ *   both): a record from a machine of the other order is converted field by field.
  *   After a restart a monotonic clock begins anew, below the record's, and is refused by 4.
  *   Either add an offset to it, so that it goes on from the record's clock, or start afresh and
  *   put the packets in again.
  *
  * After a refusal
- *   Refusals 1 and 3 to 7 need only a right call. The others ask for a fresh queue. The handles
- *   that are queued come out of the old one like this:
+ *   101, 103 to 107, 110 and 120 need only a right call; 111 to 114 are the log's and leave the
+ *   queue as it is; 102, 108 and 109 ask for a fresh queue. The handles that are queued come out
+ *   of the old one like this:
  *     108  The queue is sound: departures and ticks go on. Let it run empty, then start afresh.
  *     109  They stand in the table of handles, head first, at (first + i) % slots for i below
  *          `count`. Read them there; what damaged the sizes may have damaged them too.
@@ -115,7 +117,7 @@ struct obikuteru_state {
     uint64_t first;       /* place of the head in the tables */
     uint64_t verdicts[5]; /* arrivals answered 0 to 4 below; their sum is at most 2^48 */
     uint64_t profile;     /* PLAIN or CALM */
-    uint64_t active;      /* 0: inactive, calm with probability 0; a plain queue is never inactive */
+    uint64_t active;      /* 0: inactive, calm with probability 0; a plain queue never is */
 };
 
 /* What a departure hands back. */
@@ -184,7 +186,7 @@ bool obikuteru_well_formed(const struct obikuteru_state *state);
  * ones included, each given what the last one left; so a list of calls may be cut into bursts
  * anywhere. The record of a plain queue is tested once, and a call in a burst of 32 costs less
  * than half of a single one; that of a calm queue is tested at each call, which then costs as much
- * as a single one.
+ * as a single one. The modem has no bursts.
  */
 struct obikuteru_call {
     uint64_t clock;
@@ -226,7 +228,8 @@ uint32_t obikuteru_calls(struct obikuteru_state *state, uint32_t *handles, size_
  * How many accepted ticks in succession, each finding the queue empty, bring a queue of this
  * target back from any state: the probability is then 0, and for 150,000 microseconds only a full
  * buffer or full slots turn a packet away. 557 at a target of 1,000, 212 at 15,000, 71 at 100,000;
- * 0 for a target out of range.
+ * 0 for a target out of range. It holds of this queue, of either queue of a pair, and of each of 64
+ * flows, by the ticks that find that flow empty; of the modem it is not claimed.
  */
 uint64_t obikuteru_ticks_to_recover(uint64_t target);
 
@@ -617,7 +620,10 @@ static inline uint32_t obikuteru_pair_departure(
                                        handles_len, sizes, sizes_len, clock, packet);
 }
 
-/* The periodic update of one queue. Answers ACCEPTED or 102, 104, 105. The shared record is only read. */
+/*
+ * The periodic update of one queue. Answers ACCEPTED or 102, 104, 105. The shared record is only
+ * read.
+ */
 static inline uint32_t obikuteru_pair_tick(const struct obikuteru_shared *shared,
                                            struct obikuteru_pair_queue *intercom,
                                            struct obikuteru_pair_queue *passengers, bool second,
@@ -635,13 +641,8 @@ bool obikuteru_pair_well_formed(const struct obikuteru_shared *shared,
 /*
  * Many calls on a pair in one: a burst. The records are tested once, and each call is answered as
  * its single entry would answer it, refused ones included, each given what the last one left; so a
- * burst may be cut anywhere. A call is six 32-bit numbers: the clock's low and its high half, handle,
- * size, u, and a kind; a departure or a tick reads only clock and kind. An answer is one word, code +
- * 65,536 * size + 2^32 * handle, size and handle of the packet that departed, else 0. Answers
- * ACCEPTED, or REFUSED_CALL with nothing done where `calls_len` is not 6 * `answers_len`; a call of an
- * unknown kind is answered so and changes nothing. Calls and answers are laid out as struct
- * obikuteru_call and struct obikuteru_answer; the kinds are the queue's for the intercom, and
- * CALL_PASSENGERS is added to them for the passengers.
+ * burst may be cut anywhere. Calls and answers are those of obikuteru_calls, with the same refusal
+ * of lengths and kinds; CALL_PASSENGERS is added to the kind for the passengers.
  */
 #define OBIKUTERU_CALL_PASSENGERS 4u
 
@@ -662,15 +663,15 @@ uint32_t obikuteru_pair_calls(struct obikuteru_shared *shared,
  *   - a table of handles and a table of sizes, each of exactly `slots` 32-bit numbers.
  *
  * A packet's flow is a hash of its key: 13 bytes, source and destination address, 4 each, source
- * and destination port, 2 each, and protocol, 1, in whatever order of bytes the caller keeps to. The
- * salt is added to the hash and moves all flows alike. So two keys share a flow whatever the salt is,
- * or never do: what is kept apart are flows, not senders who choose their ports to share one.
+ * and destination port, 2 each, and protocol, 1, in whatever order of bytes the caller keeps to.
+ * The salt is added to the hash and moves all flows alike. So two keys share a flow whatever the
+ * salt is, or never do: what is kept apart are flows, not senders who choose to share one.
  *
  * What is said of the queue and of the pair's tables holds here too, but for this:
  *   - One clock and one tick serve all flows. A tick updates all 64.
  *   - Bytes and slots are shared: rule 1 reads the bytes of all flows, rule 2 the packets of all.
  *   - A departure chooses the flow; the answer names it.
- *   - Every call tests the whole record, 64 flows and both lists.
+ *   - Every single call tests the whole record, 64 flows and both lists; a burst tests it once.
  *   - Save the record and both tables together, with OBIKUTERU_FQ_VERSION and its size.
  *   - After 108 let the flows run empty, then start afresh. After 109 the handles of a flow stand
  *     in the table as those of a pair's queue do.
@@ -808,9 +809,10 @@ static inline bool obikuteru_fq_well_formed(const struct obikuteru_fq *fq)
 }
 
 /*
- * Many calls on 64 flows in one: a burst. The record is tested once, and each call is answered as its
- * single entry would answer it, refused ones included, each given what the last one left; so a burst
- * may be cut anywhere. It pays from two calls on: testing the record is most of a single call's work.
+ * Many calls on 64 flows in one: a burst. The record is tested once, and each call is answered as
+ * its single entry would answer it, refused ones included, each given what the last one left; so a
+ * burst may be cut anywhere. A call of no known kind is answered REFUSED_CALL and changes nothing.
+ * Testing the record is most of a single call's work, so that a burst of 8 costs a quarter.
  */
 struct obikuteru_fq_call {
     uint64_t clock;
@@ -819,7 +821,7 @@ struct obikuteru_fq_call {
     uint32_t u;      /* arrivals: a random number, fresh for each */
     uint32_t kind;   /* as in struct obikuteru_call */
     uint8_t key[13]; /* arrivals */
-    uint8_t unused[3];
+    uint8_t unused[3]; /* not read */
 };
 
 /* What a call is answered. */
@@ -832,9 +834,9 @@ struct obikuteru_fq_answer {
 
 /*
  * The library's own entry: calls are ten 32-bit numbers each, in the order of struct
- * obikuteru_fq_call, the clock's low half and each key number's low byte first; answers are one word
- * each, code + 256 * flow + 65,536 * size + 2^32 * handle. Answers ACCEPTED, or REFUSED_CALL with
- * nothing done where `calls_len` is not 10 * `answers_len`.
+ * obikuteru_fq_call, the clock's low half and each key number's low byte first; answers are one
+ * word each, code + 256 * flow + 65,536 * size + 2^32 * handle. Answers ACCEPTED, or REFUSED_CALL
+ * with nothing done where `calls_len` is not 10 * `answers_len`.
  */
 uint32_t obikuteru_fq_calls_of(uint64_t *common, uint64_t *order, uint64_t *flows,
                                uint32_t *deficits, uint32_t *handles, size_t handles_len,
