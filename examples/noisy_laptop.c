@@ -56,7 +56,7 @@ struct packet {
 
 static struct packet packets[MOST_PACKETS];
 
-/* A small generator, so that each run is the same. Firmware takes `u` and the salt from getrandom, say. */
+/* A small generator, so that each run is the same. Firmware takes `u` from getrandom, say. */
 static uint32_t next_random(uint64_t *seed)
 {
     *seed = *seed * 6364136223846793005u + 1442695040888963407u;
