@@ -81,7 +81,7 @@ fn decide(w: &mut [u64; 23], size: u64, ecn: bool, u: u64) -> usize
 }
 
 // A packet arrives.
-pub fn arrive(
+pub(crate) fn arrive(
     w: &mut [u64; 23],
     handles: &mut [u32],
     sizes: &mut [u32],

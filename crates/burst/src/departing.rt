@@ -76,7 +76,7 @@ fn measure(w: &mut [u64; 23], clock: u64, size: u64, count: u64, left: u64)
 }
 
 // The head leaves.
-pub fn depart(w: &mut [u64; 23], handles: &[u32], sizes: &[u32], clock: u64) -> u64
+pub(crate) fn depart(w: &mut [u64; 23], handles: &[u32], sizes: &[u32], clock: u64) -> u64
     requires { ⌜ Ready (lent (now w) (now handles) (now sizes)) 1 ⌝ }
     ensures { λ r. ⌜ (let a = departure (stateOf (now (w .entry))) (now (handles .entry)) (now (sizes .entry)) clock in
         (r ≡ answerWord (a .answer)) × (now (w .exit) ≡ wordsAfter a (now (w .entry)))) ⌝ }

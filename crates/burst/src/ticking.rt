@@ -14,7 +14,7 @@ ghost use Rattle.queue.specs.Tick.{tick};
 ghost use Rattle.capi.specs.Codes.{codeOf, wordsAfter};
 ghost use Rattle.capi.specs.Words.{stateOf};
 
-pub fn tick(w: &mut [u64; 23], clock: u64) -> u64
+pub(crate) fn tick(w: &mut [u64; 23], clock: u64) -> u64
     requires { ⌜ (length (now w) ≡ 23) × (wellFormed (stateOf (now w)) ≡ true) × (stateOf (now w) .settings .profile ≡ 0) ⌝ }
     ensures { λ r. ⌜ (let a = tick (stateOf (now (w .entry))) clock in
         (r ≡ codeOf (a .answer)) × (now (w .exit) ≡ wordsAfter a (now (w .entry)))) ⌝ }
