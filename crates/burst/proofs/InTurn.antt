@@ -10,7 +10,8 @@ use lib.Seq.{getD-set-other, getD-set-same}
 use borrow.Author.Tests.{ltb-false, ltb-true}
 use Rattle.calls.specs.Ring.{listed}
 use Rattle.burst.specs.Calls.{callAt}
-use Rattle.burst.specs.Burst.{Lent, after, answerTo, answerWord, burst}
+use Rattle.steps.specs.Lent.{Lent, answerWord}
+use Rattle.burst.specs.Burst.{after, answerTo, burst}
 use Rattle.burst.specs.InTurn.{AnsweredInTurn, callsOf}
 
 -- a fold over one more is one more step

@@ -5,7 +5,8 @@ use Prim.Native.Nat.{ℕ, _*_, _≤_, _<_}
 use lib.ListN.{getD, length}
 use Rattle.calls.specs.Ring.{listed}
 use Rattle.burst.specs.Calls.{Call, callAt}
-use Rattle.burst.specs.Burst.{Lent, after, answerTo, answerWord, burst}
+use Rattle.steps.specs.Lent.{Lent, answerWord}
+use Rattle.burst.specs.Burst.{after, answerTo, burst}
 
 -- the first n calls
 abbrev pub callsOf : (calls : List ℕ) (n : ℕ) → List Call

@@ -1,15 +1,15 @@
 // One entry for a list of calls: the state record is tested once, and each call is answered as the single entries would.
-use crate::arriving::arrive;
-use crate::departing::depart;
 use crate::numbers::clock_of;
-use crate::numbers::wide;
-use crate::numbers::word;
-use crate::ticking::tick;
 use capi::obikuteru_arrival;
 use capi::obikuteru_departure;
 use capi::obikuteru_tick;
 use capi::obikuteru_well_formed;
 use pie::MOST_VERDICTS;
+use steps::arrive;
+use steps::depart;
+use steps::tick;
+use steps::wide;
+use steps::word;
 ghost use mathlib.Core.Path.{_≡_};
 ghost use mathlib.Core.Bool.{cond, true};
 ghost use Prim.Native.Nat.{_+_, _*_, _≤_, _<_};
@@ -19,12 +19,10 @@ ghost use Rattle.pie.specs.Verdicts.{total};
 ghost use Rattle.queue.specs.State.{wellFormed};
 ghost use Rattle.capi.specs.Words.{stateOf};
 ghost use Rattle.burst.specs.Calls.{callAt};
-ghost use Rattle.burst.specs.Burst.{Ready, after, answerTo, answerWord, burst, done, fits, lent, outcome};
+ghost use Rattle.steps.specs.Lent.{Ready, answerWord, lent};
+ghost use Rattle.burst.specs.Burst.{after, answerTo, burst, done, fits, outcome};
 
-mod arriving;
-mod departing;
 mod numbers;
-mod ticking;
 
 // What the words of a state are known to be.
 fn held(w: [u64; 23]) -> bool
@@ -46,7 +44,16 @@ fn known(w: &mut [u64; 23], handles: &mut [u32], sizes: &mut [u32], calls: &[u32
     let kind = calls[at + 5];
     let arrives = kind < 2;
     if arrives {
-        return arrive(w, handles, sizes, calls, at, clock, kind == 1);
+        return arrive(
+            w,
+            handles,
+            sizes,
+            clock,
+            calls[at + 2],
+            calls[at + 3],
+            kind == 1,
+            calls[at + 4],
+        );
     }
     let departs = kind == 2;
     if departs {
@@ -102,13 +109,12 @@ fn single(
     120
 }
 
-// Whether a state is well formed and plain, the tables fit it and its counts have room for `n` arrivals. It decides only the cost.
+// Whether a state is well formed, the tables fit it and its counts have room for `n` arrivals. It decides only the cost.
 fn ready(w: &[u64; 23], handles: u64, sizes: u64, n: u64) -> bool
     ensures { λ r. ⌜ ((r ≡ true) → ((length (now (w .entry)) ≡ 23)
         × (wellFormed (stateOf (now (w .entry))) ≡ true)
         × (handles ≡ stateOf (now (w .entry)) .settings .slots)
         × (sizes ≡ stateOf (now (w .entry)) .settings .slots)
-        × (stateOf (now (w .entry)) .settings .profile ≡ 0)
         × (total (stateOf (now (w .entry)) .verdicts) + n ≤ mostVerdicts))) ⌝ }
 {
     let whole = held(*w);
@@ -120,9 +126,6 @@ fn ready(w: &[u64; 23], handles: u64, sizes: u64, n: u64) -> bool
         return false;
     }
     if sizes != w[2] {
-        return false;
-    }
-    if w[21] != 0 {
         return false;
     }
     n <= MOST_VERDICTS - w[16] - w[17] - w[18] - w[19] - w[20]

@@ -32,6 +32,33 @@ mul-kind c = search needs
 shared-slice-read-kind : tie.Need-shared-slice-read-kind
 shared-slice-read-kind c = search needs
 
+add-arrive : tie.Need-add-arrive
+add-arrive c = search needs
+
+mul-arrive : tie.Need-mul-arrive
+mul-arrive c = search needs
+
+shared-slice-read-arrive : tie.Need-shared-slice-read-arrive
+shared-slice-read-arrive c = search needs
+
+add-arrive-2 : tie.Need-add-arrive-2
+add-arrive-2 c = search needs
+
+mul-arrive-2 : tie.Need-mul-arrive-2
+mul-arrive-2 c = search needs
+
+shared-slice-read-arrive-2 : tie.Need-shared-slice-read-arrive-2
+shared-slice-read-arrive-2 c = search needs
+
+add-arrive-3 : tie.Need-add-arrive-3
+add-arrive-3 c = search needs
+
+mul-arrive-3 : tie.Need-mul-arrive-3
+mul-arrive-3 c = search needs
+
+shared-slice-read-arrive-3 : tie.Need-shared-slice-read-arrive-3
+shared-slice-read-arrive-3 c = search needs
+
 arrive-requires : tie.Need-arrive-requires
 arrive-requires c κs = search needs
 
@@ -43,14 +70,14 @@ same-length-2 c = search needs
 
 returns : tie.Need-returns
 returns c =
-    let a = c .before .before .before .before .before .before .before .before .before .before .before .before .before .before .before .before in
+    let a = c .before .before .before .before .before .before .before .before .before .before .before .before .before .before .before .before .before .before .before in
     let w = now (a .args .w) in
     let h = now (a .args .handles) in
     let z = now (a .args .sizes) in
     let k = now (a .args .calls) in
-    let t = c .before .before .before .before .before .before .before .before .before .before .clock-of in
+    let t = c .before .before .before .before .before .before .before .before .before .before .before .before .before .clock-of in
     let e = c .before .before .before .before .arrive .ensures in
-    arrival-step w h z k (a .args .at) (t .result) (t .ensures) (c .before .before .before .before .before .before .before .before .if1 .taken) _ _ _ _ (e .0) (e .1) (e .2) (e .3)
+    arrival-step w h z k (a .args .at) (t .result) (t .ensures) (c .before .before .before .before .before .before .before .before .before .before .before .if1 .taken) _ _ _ _ (e .0) (e .1) (e .2) (e .3)
 
 depart-requires : tie.Need-depart-requires
 depart-requires c κs = search needs
@@ -104,6 +131,15 @@ known-spec =
     add-kind
     mul-kind
     shared-slice-read-kind
+    add-arrive
+    mul-arrive
+    shared-slice-read-arrive
+    add-arrive-2
+    mul-arrive-2
+    shared-slice-read-arrive-2
+    add-arrive-3
+    mul-arrive-3
+    shared-slice-read-arrive-3
     arrive-requires
     same-length
     same-length-2

@@ -45,59 +45,52 @@ element-copy-out-if3 c = search needs
 returns-3 : tie.Need-returns-3
 returns-3 c = λ e. absurd (false≢true e)
 
-element-copy-out-if4 : tie.Need-element-copy-out-if4
-element-copy-out-if4 c = search needs
-
-returns-4 : tie.Need-returns-4
-returns-4 c = λ e. absurd (false≢true e)
-
 element-copy-out-result : tie.Need-element-copy-out-result
 element-copy-out-result c = search needs
 
 sub-result : tie.Need-sub-result
 unfolding stateOf
-sub-result c = omega (arith, room (c .before .before .before .before .before .before .before))
+sub-result c = omega (arith, room (c .before .before .before .before .before))
 
 element-copy-out-result-2 : tie.Need-element-copy-out-result-2
 element-copy-out-result-2 c = search needs
 
 sub-result-2 : tie.Need-sub-result-2
 unfolding stateOf
-sub-result-2 c = omega (arith, room (c .before .before .before .before .before .before .before .before))
+sub-result-2 c = omega (arith, room (c .before .before .before .before .before .before))
 
 element-copy-out-result-3 : tie.Need-element-copy-out-result-3
 element-copy-out-result-3 c = search needs
 
 sub-result-3 : tie.Need-sub-result-3
 unfolding stateOf
-sub-result-3 c = omega (arith, room (c .before .before .before .before .before .before .before .before .before))
+sub-result-3 c = omega (arith, room (c .before .before .before .before .before .before .before))
 
 element-copy-out-result-4 : tie.Need-element-copy-out-result-4
 element-copy-out-result-4 c = search needs
 
 sub-result-4 : tie.Need-sub-result-4
 unfolding stateOf
-sub-result-4 c = omega (arith, room (c .before .before .before .before .before .before .before .before .before .before))
+sub-result-4 c = omega (arith, room (c .before .before .before .before .before .before .before .before))
 
 element-copy-out-result-5 : tie.Need-element-copy-out-result-5
 element-copy-out-result-5 c = search needs
 
 sub-result-5 : tie.Need-sub-result-5
 unfolding stateOf
-sub-result-5 c = omega (arith, room (c .before .before .before .before .before .before .before .before .before .before .before))
+sub-result-5 c = omega (arith, room (c .before .before .before .before .before .before .before .before .before))
 
-returns-5 : tie.Need-returns-5
+returns-4 : tie.Need-returns-4
 unfolding stateOf
-returns-5 c = λ e.
-    let a = c .before .before .before .before .before .before .before .before .before .before .before .before .before .before .before in
+returns-4 c = λ e.
+    let a = c .before .before .before .before .before .before .before .before .before .before .before .before .before in
     let w = now (a .args .w) in
-    let e1 = c .before .before .before .before .before .before .before .before .before .before .before in
+    let e1 = c .before .before .before .before .before .before .before .before .before in
     let low : a .args .n ≤ mostVerdicts - getD w 16 0 - getD w 17 0 - getD w 18 0 - getD w 19 0 - getD w 20 0 = leb-true _ _ e in (
-      c .before .before .before .before .before .before .before .before .before .before .before .before .before .held .ensures .1,
+      c .before .before .before .before .before .before .before .before .before .before .before .held .ensures .1,
       formed e1,
-      c .before .before .before .before .before .before .before .before .before .if2 .left,
-      c .before .before .before .before .before .before .before .if3 .left,
-      c .before .before .before .before .before .if4 .left,
+      c .before .before .before .before .before .before .before .if2 .left,
+      c .before .before .before .before .before .if3 .left,
       omega (arith, room e1, low),
     )
 
@@ -112,8 +105,6 @@ ready-spec =
     returns-2
     element-copy-out-if3
     returns-3
-    element-copy-out-if4
-    returns-4
     element-copy-out-result
     sub-result
     element-copy-out-result-2
@@ -124,4 +115,4 @@ ready-spec =
     sub-result-4
     element-copy-out-result-5
     sub-result-5
-    returns-5)
+    returns-4)

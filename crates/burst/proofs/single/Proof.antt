@@ -5,7 +5,8 @@ use Rattle.burst.proofs.single.Tie as tie
 use mathlib.Core.Path.{_∙_}
 use denote.Ref.{now}
 use Rattle.capi.specs.Words.{stateOf}
-use Rattle.burst.proofs.Steps.{arrival-step, departure-small, departure-step, tick-step, unknown-step}
+use Rattle.steps.proofs.Answers.{departure-small}
+use Rattle.burst.proofs.Steps.{arrival-step, departure-step, tick-step, unknown-step}
 
 mul-clock-of : tie.Need-mul-clock-of
 mul-clock-of c = search needs

@@ -1,0 +1,64 @@
+-- The parts of an answer's word.
+use mathlib.Core.Path.{_≡_, refl}
+use mathlib.Core.Bool.{Bool, true, false, _&&_}
+use mathlib.Core.List.{List, [], _∷_}
+use Prim.Native.Nat.{ℕ, zero, suc, _≤_}
+use native.Mathlib.Omega.{arith}
+use lib.Dec.{leb}
+use lib.ListN.{length}
+use borrow.Author.Tests.{leb-true}
+use Rattle.laws.proofs.Tests.{and-left, and-right}
+use Rattle.refusals.specs.Rows.{firstRefusal}
+use Rattle.queue.specs.declared.State.{State}
+use Rattle.queue.specs.Answer.{Reply, sizeIn, unlessRefused}
+use Rattle.queue.specs.Arrival.{arrival, arrivalRefusal}
+use Rattle.queue.specs.Departure.{departure, departureRefusal, departureRefusals, headOf}
+use Rattle.queue.specs.Tick.{tick, tickRefusal}
+use Rattle.queue.proofs.WhenAccepted.{departure-accepted}
+use Rattle.capi.specs.Codes.{codeOf}
+use Rattle.guarantees.proofs.Replies.{arrivalOf, departureOf, tickOf}
+use Rattle.steps.specs.Lent.{answerWord}
+
+-- ── the word of an answer that hands out nothing is its code ──
+
+abbrev Plain : Reply → Type 0
+Plain r = codeOf (r .answer) ≡ answerWord (r .answer)
+
+plain-unless : (n : ℕ) (s : State) (r : Reply) → Plain r → Plain (unlessRefused n s r)
+plain-unless zero s r p = p
+plain-unless (suc n) s r p = omega arith
+
+pub plain-arrival : (s : State) (handles sizes : List ℕ) (clock size : ℕ) (ecn : Bool) (u : ℕ) → Plain (arrival s handles sizes clock size ecn u)
+unfolding arrival
+plain-arrival s handles sizes clock size ecn u =
+    plain-unless (arrivalRefusal s (length handles) (length sizes) clock size) s (arrivalOf s clock size ecn u) (omega arith)
+
+pub plain-tick : (s : State) (clock : ℕ) → Plain (tick s clock)
+unfolding tick
+plain-tick s clock = plain-unless (tickRefusal s clock) s (tickOf s clock) (omega arith)
+
+-- ── the parts of a departure's answer are small ──
+
+-- no number is above 9
+abbrev lows : List (ℕ × Bool) → Bool
+lows [] = true
+lows ((number, test) ∷ rows) = leb number 9 && lows rows
+
+first-low : (rows : List (ℕ × Bool)) → lows rows ≡ true → firstRefusal rows ≤ 9
+first-low [] e = omega arith
+first-low ((number, true) ∷ rows) e = leb-true number 9 (and-left (leb number 9) (lows rows) e)
+first-low ((number, false) ∷ rows) e = first-low rows (and-right (leb number 9) (lows rows) e)
+
+number-low : (s : State) (h z clock head : ℕ) → departureRefusal s h z clock head ≤ 9
+unfolding departureRefusal
+number-low s h z clock head = first-low (departureRefusals s h z clock head) refl
+
+pub departure-small : (s : State) (handles sizes : List ℕ) (clock : ℕ) →
+    let a = departure s handles sizes clock .answer in (codeOf a ≤ 65535) × (sizeIn a ≤ 65535)
+unfolding departure
+departure-small s handles sizes clock = go (departureRefusal s (length handles) (length sizes) clock (headOf s sizes)) refl
+  where
+    go : (n : ℕ) → departureRefusal s (length handles) (length sizes) clock (headOf s sizes) ≡ n →
+        let a = (unlessRefused n s (departureOf s handles sizes clock)) .answer in (codeOf a ≤ 65535) × (sizeIn a ≤ 65535)
+    go zero e = (omega arith, departure-accepted s (length handles) (length sizes) clock (headOf s sizes) e .head-high)
+    go (suc n) e = (omega (arith, e, number-low s (length handles) (length sizes) clock (headOf s sizes)), omega arith)

@@ -1,0 +1,108 @@
+-- A call leaves a queue that is ready for one arrival less.
+use mathlib.Core.Path.{_≡_, refl, sym, ap, _∙_}
+use mathlib.Core.Bool.{Bool, true, false, cond, not}
+use mathlib.Core.List.{List}
+use Prim.Native.Nat.{ℕ, suc, _+_, _≤_}
+use native.Mathlib.Omega.{arith}
+use lib.Dec.{eqb}
+use lib.ListN.{getD, length, length-set}
+use Rattle.laws.proofs.Choice.{at-cond}
+use Rattle.pie.specs.Verdicts.{total}
+use Rattle.pie.proofs.Counts.{length-raised, total-raised}
+use Rattle.queue.specs.declared.Settings.{Settings}
+use Rattle.queue.specs.declared.State.{State}
+use Rattle.queue.specs.Activity.{begun}
+use Rattle.queue.specs.Answer.{Answer, Reply, admits}
+use Rattle.queue.specs.Arrival.{arrivedState, stored, tailPlace, verdictOf}
+use Rattle.queue.specs.Departure.{departedState}
+use Rattle.queue.specs.Tick.{tickedState}
+use Rattle.capi.specs.Codes.{wordsAfter}
+use Rattle.capi.specs.Words.{flagWord, isSet, stateOf, stateWords}
+use Rattle.guarantees.specs.Calls.{Call, arrive, depart, reply, update}
+use Rattle.guarantees.specs.Handed.{Request, askArrival, askDeparture, askTick, callOf}
+use Rattle.guarantees.proofs.Replies.{acceptance, at-one-reply, reply-well-formed}
+use Rattle.steps.specs.Lent.{Lent, Ready, leaves, queueOf, replyTo}
+use Rattle.steps.proofs.Words.{written-out}
+
+flag-says : (word : ℕ) (said : Bool) → isSet (flagWord word said) ≡ said
+flag-says word said = go (eqb word 0) refl said
+  where
+    go : (b : Bool) → eqb word 0 ≡ b → (said : Bool) → isSet (cond (not b) (cond said word 0) (cond said 1 0)) ≡ said
+    go true e true = refl
+    go true e false = refl
+    go false e true = rw e
+    go false e false = refl
+
+-- the words of a state hold that state
+back : (w : List ℕ) (s : State) → length (s .verdicts) ≡ 5 → stateOf (stateWords w s) ≡ s
+unfolding stateOf stateWords
+back w s h =
+    rw (flag-says (getD w 10 0) (s .pie .rate .measuring), flag-says (getD w 22 0) (s .active), ← (written-out 5 (s .verdicts) h))
+
+five : (w : List ℕ) → length (stateOf w .verdicts) ≡ 5
+unfolding stateOf
+five w = refl
+
+abbrev Replied : (w : List ℕ) → Reply → Type 0
+Replied w r =
+    (length (wordsAfter r w) ≡ length w)
+    × (stateOf (wordsAfter r w) ≡ r .state)
+    × (r .state .settings ≡ stateOf w .settings)
+    × (total (r .state .verdicts) ≤ total (stateOf w .verdicts) + 1)
+
+long : (w : List ℕ) (s : State) → length w ≡ 23 → length (stateWords w s) ≡ length w
+unfolding stateWords
+long w s h = sym h
+
+accepted-replied : (w : List ℕ) → length w ≡ 23 → (c : Call) → Replied w (acceptance (stateOf w) c)
+unfolding arrivedState begun departedState tickedState
+accepted-replied w l (arrive handles sizes clock handle size ecn u) =
+    let s = stateOf w in
+    let v = verdictOf (begun s) size ecn u in
+    (long w _ l, back w (arrivedState (begun s) clock size v) (length-raised (s .verdicts) v ∙ five w), refl, total-raised (s .verdicts) v)
+accepted-replied w l (depart handles sizes clock) = (long w _ l, back w _ (five w), refl, omega arith)
+accepted-replied w l (update clock) = (long w _ l, back w _ (five w), refl, omega arith)
+
+replied : (w : List ℕ) → length w ≡ 23 → (c : Call) → Replied w (reply (stateOf w) c)
+replied w l c = at-one-reply (Replied w) (stateOf w) c (λ n. (refl, refl, refl, omega arith)) (λ a. accepted-replied w l c)
+
+stored-long : (s : State) (a : Answer) (table : List ℕ) (element : ℕ) → length (stored s a table element) ≡ length table
+stored-long s a table element =
+    at-cond (λ (l : List ℕ). length l ≡ length table) (admits a) (λ e. length-set table (tailPlace s) element) (λ e. refl)
+
+handles-long : (q : Lent) (r : Request) → length (leaves q r .handles) ≡ length (q .handles)
+handles-long q (askArrival clock handle size ecn u) =
+    stored-long (stateOf (q .words)) ((replyTo q (askArrival clock handle size ecn u)) .answer) (q .handles) handle
+handles-long q (askDeparture clock) = refl
+handles-long q (askTick clock) = refl
+
+sizes-long : (q : Lent) (r : Request) → length (leaves q r .sizes) ≡ length (q .sizes)
+sizes-long q (askArrival clock handle size ecn u) =
+    stored-long (stateOf (q .words)) ((replyTo q (askArrival clock handle size ecn u)) .answer) (q .sizes) size
+sizes-long q (askDeparture clock) = refl
+sizes-long q (askTick clock) = refl
+
+pub leaves-long : (q : Lent) (r : Request) →
+    (length (leaves q r .handles) ≡ length (q .handles)) × (length (leaves q r .sizes) ≡ length (q .sizes))
+leaves-long q r = (handles-long q r, sizes-long q r)
+
+-- the words that are left hold the state that the reply returns
+pub leaves-state : (q : Lent) (r : Request) → length (q .words) ≡ 23 → stateOf (leaves q r .words) ≡ replyTo q r .state
+leaves-state q r l = replied (q .words) l (callOf (queueOf q) r) .1
+
+pub ready-kept : (q : Lent) (r : Request) (n : ℕ) → Ready q (suc n) → Ready (leaves q r) n
+ready-kept q r n (l, formed, h, z, room) =
+    let c = callOf (queueOf q) r in
+    let k = replied (q .words) l c in
+    let slots : (reply (stateOf (q .words)) c) .state .settings .slots ≡ stateOf (q .words) .settings .slots = ap (λ (s : Settings). s .slots) (k .2) in
+    rw (k .1) (
+      k .0 ∙ l,
+      reply-well-formed (stateOf (q .words)) formed c,
+      handles-long q r ∙ h ∙ sym slots,
+      sizes-long q r ∙ z ∙ sym slots,
+      omega (arith, k .3, room),
+    )
+
+-- enough for one, where there is enough for more
+pub ready-one : (q : Lent) (n : ℕ) → 1 ≤ n → Ready q n → Ready q 1
+ready-one q n some (l, formed, h, z, room) = (l, formed, h, z, omega arith)
