@@ -1,17 +1,24 @@
 -- What a log that was read whole holds, by the offset and the count that the reading gave.
 use mathlib.Core.Path.{_≡_, refl, sym, ap, _∙_}
 use mathlib.Core.Bool.{Bool, true, false, cond, not, _&&_}
-use mathlib.Core.List.{List}
+use mathlib.Core.List.{List, []}
 use Prim.Native.Nat.{ℕ, _+_, _*_, _≤_}
 use native.Mathlib.Omega.{arith}
 use lib.Dec.{eqb}
 use lib.ListN.{length}
-use Rattle.laws.proofs.Tests.{or-neither}
+use borrow.Author.Tests.{eqb-true, not-false}
+use Rattle.laws.proofs.Tests.{and-left, and-right, or-neither}
+use Rattle.pie.specs.Verdicts.{total}
 use Rattle.queue.specs.Answer.{made}
 use Rattle.queue.specs.Fresh.{fresh, freshState, settingsOf}
 use Rattle.queue.specs.Refusals.{settingsRefused}
+use Rattle.queue.specs.declared.Settings.{Settings}
 use Rattle.queue.specs.declared.State.{State}
+use Rattle.queue.proofs.Kept.{fresh-well-formed}
+use Rattle.capi.specs.Words.{stateOf, stateWords}
 use Rattle.codec.specs.declared.Header.{Header}
+use Rattle.steps.specs.Lent.{Ready, lent}
+use Rattle.steps.proofs.Kept.{back, words-long}
 use Rattle.log.specs.Answers.{Answer, given, refused}
 use Rattle.log.specs.Faults.{headerRefused}
 use Rattle.log.specs.Layout.{countIn, headerIn, noteIn, offsetIn, recordsFrom, recordsIn}
@@ -96,3 +103,30 @@ module _ (l handles sizes : List ℕ) where
     fits t s f =
         let g : s ≡ (freshQueue (headerIn l) handles sizes) .state = rw e at f ∙ fresh-state (headerIn l) (k .started) in
         rw (k .read, rw e at t, g)
+
+    abbrev settings : Settings
+    settings = settingsOf (h .target) (h .buffer) (h .slots) (h .profile)
+
+    started : headerRefused h ≡ false
+    started = rw e (k .started)
+
+    -- the words of the fresh state
+    module _ (w : List ℕ) (f : w ≡ stateWords [] ((fresh settings (h .clock)) .state)) where
+      pub held : stateOf w ≡ (fresh settings (h .clock)) .state
+      held =
+          let five = ap (λ (s : State). length (s .verdicts)) (fresh-state h started) in
+          rw f (back [] ((fresh settings (h .clock)) .state) five)
+
+      -- they are ready for all records of the log
+      pub fresh-ready : not (eqb (length handles) (h .slots) && eqb (length sizes) (h .slots)) ≡ false → n ≤ 4294967295 → Ready (lent w handles sizes) n
+      fresh-ready t most =
+          let both = not-false (eqb (length handles) (h .slots) && eqb (length sizes) (h .slots)) t in
+          let same = held ∙ fresh-state h started in
+          let slots : stateOf w .settings .slots ≡ h .slots = ap (λ (s : State). s .settings .slots) same in
+          let none : total (stateOf w .verdicts) ≡ 0 = ap (λ (s : State). total (s .verdicts)) same in (
+            rw f (words-long [] ((fresh settings (h .clock)) .state)),
+            rw held (fresh-well-formed settings (h .clock) (fresh-made h started)),
+            eqb-true _ _ (and-left (eqb (length handles) (h .slots)) _ both) ∙ sym slots,
+            eqb-true _ _ (and-right (eqb (length handles) (h .slots)) _ both) ∙ sym slots,
+            omega (arith, none, most),
+          )

@@ -1,4 +1,4 @@
 -- What the proofs of this crate share.
-pub mod Ruled
+pub mod Coded
 pub mod Rounds
 pub mod Contained

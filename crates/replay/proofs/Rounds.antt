@@ -1,5 +1,5 @@
 -- One round of the replay: the record that is reached, and the records after it.
-use mathlib.Core.Path.{_≡_, refl, _∙_}
+use mathlib.Core.Path.{_≡_, refl, ap, _∙_}
 use mathlib.Core.Bool.{Bool, true, false, cond}
 use mathlib.Core.List.{List, [], _∷_}
 use Prim.Native.Nat.{ℕ, zero, suc, _+_, _-_, _<_}
@@ -13,6 +13,8 @@ use Rattle.refusals.specs.Rows.{firstRefusal}
 use Rattle.queue.specs.declared.State.{State}
 use Rattle.guarantees.specs.Handed.{Queue, Request, after, answerOf, askArrival, askDeparture, askTick}
 use Rattle.log.specs.Layout.{recordsFrom}
+use Rattle.steps.specs.Lent.{Lent, Ready, leaves, queueOf as lentQueue}
+use Rattle.steps.proofs.Kept.{leaves-queue, ready-kept}
 use Rattle.replay.specs.Agreement.{disagreement, disagreements, refusalIn, requestOf, verdictIn}
 use Rattle.replay.specs.Replay.{Replay, disagrees, replayFrom, unlessDisagrees}
 use Rattle.replay.specs.Replied.{bytesIn, handlesAfter, probIn, replayedOf, sizesAfter}
@@ -44,6 +46,16 @@ after-long q (askArrival clock handle size ecn u) =
     (stored-long (q .state) a (q .handles) handle, stored-long (q .state) a (q .sizes) size)
 after-long q (askDeparture clock) = (refl, refl)
 after-long q (askTick clock) = (refl, refl)
+
+-- the queue that a step leaves is the one that its call returns
+pub left-queue : (given next : Lent) (r : Request) → length (given .words) ≡ 23 → next ≡ leaves given r →
+    lentQueue next ≡ after (lentQueue given) r
+left-queue given next r l e = ap lentQueue e ∙ leaves-queue given r l
+
+-- and it is ready for the records after
+pub ready-next : (given next : Lent) (r : Request) (n i : ℕ) → i < n → next ≡ leaves given r → Ready given (n - i) → Ready next (n - (i + 1))
+ready-next given next r n i h g k =
+    let e : n - i ≡ suc (n - (i + 1)) = omega arith in rw g (ready-kept given r (n - (i + 1)) (rw e at k))
 
 -- what a call of the code gives: refusal and verdict, the queue after it, and the field that disagrees
 pub record Round (q q′ : Queue) (r : Record) (refusal verdict field : ℕ) : Type 0 where

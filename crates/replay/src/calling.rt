@@ -1,100 +1,61 @@
 // The call that a record holds, made by the rules.
 use crate::Called;
 use codec::Record;
-use pie::Pie;
-use pie::Rate;
-use queue::ArrivalAnswer;
-use queue::State;
-use refusals::Accepted;
-use refusals::Refusal;
-use units::Bytes;
-use units::Micros;
+use steps::arrive;
+use steps::depart;
+use steps::tick;
 ghost use mathlib.Core.Path.{_≡_};
-ghost use Rattle.refusals.specs.Numbers.{numberOf};
-ghost use Rattle.guarantees.specs.Handed.{after, answerOf};
+ghost use mathlib.Core.Bool.{cond};
+ghost use Prim.Native.Nat.{_-_, _≤_};
+ghost use lib.Dec.{leb};
+ghost use Rattle.steps.specs.Lent.{Ready, leaves, lent, replyTo};
 ghost use Rattle.replay.specs.Agreement.{refusalIn, requestOf, verdictIn};
-ghost use Rattle.replay.specs.Replay.{queueOf};
 
-// The same state, made of its fields. A copy would take the padding beside `measuring` along from call to call, and the loop half as
-// much time again (docs/changes/Q-10.md).
-fn made_anew(s: State) -> State
-    ensures { λ r. ⌜ r ≡ s ⌝ }
+// What the code of an answer says: 100 and the number of a refusal, or else the verdict.
+fn by_code(code: u64, verdict: u64) -> Called
+    requires { ⌜ (code ≤ 65535) × (verdict ≤ 4294967295) ⌝ }
+    ensures { λ c. ⌜ c ≡ cond (leb 100 code) (record { refusal = code - 100; verdict = 0 }) (record { refusal = 0; verdict = verdict }) ⌝ }
 {
-    let before = s.pie;
-    let measured = before.rate;
-    let average = measured.average;
-    let start = measured.start;
-    let counted = measured.counted;
-    let rate = Rate {
-        average,
-        measuring: measured.measuring,
-        start,
-        counted,
-    };
-    let pie = Pie { rate, ..before };
-    State { pie, ..s }
-}
-
-fn by_refusal(refusal: Refusal, state: State) -> Called
-    ensures { λ c. ⌜ c ≡ record { refusal = numberOf refusal; verdict = 0; state = state } ⌝ }
-{
-    Called {
-        refusal: refusal.number(),
-        verdict: 0,
-        state: made_anew(state),
+    let refused = 100 <= code;
+    if refused {
+        return Called {
+            refusal: (code - 100) as u32,
+            verdict: 0,
+        };
     }
-}
-
-fn by_verdict(verdict: u32, state: State) -> Called
-    ensures { λ c. ⌜ c ≡ record { refusal = 0; verdict = verdict; state = state } ⌝ }
-{
     Called {
         refusal: 0,
-        verdict,
-        state: made_anew(state),
+        verdict: verdict as u32,
     }
 }
 
-pub(crate) fn call(s: State, r: Record, handles: &mut [u32], sizes: &mut [u32]) -> Called
-    ensures { λ c. ⌜ (let a = answerOf (queueOf s (now (handles .entry)) (now (sizes .entry))) (requestOf r) in
-        (c .refusal ≡ refusalIn a) × (c .verdict ≡ verdictIn a)) ⌝ }
-    ensures { λ c. ⌜ queueOf (c .state) (now (handles .exit)) (now (sizes .exit))
-        ≡ after (queueOf s (now (handles .entry)) (now (sizes .entry))) (requestOf r) ⌝ }
+pub(crate) fn call(w: &mut [u64; 23], r: Record, handles: &mut [u32], sizes: &mut [u32]) -> Called
+    requires { ⌜ Ready (lent (now w) (now handles) (now sizes)) 1 ⌝ }
+    ensures { λ c. ⌜ (let q = lent (now (w .entry)) (now (handles .entry)) (now (sizes .entry)) in
+        let a = replyTo q (requestOf r) in
+        (c .refusal ≡ refusalIn (a .answer))
+        × (c .verdict ≡ verdictIn (a .answer))
+        × (lent (now (w .exit)) (now (handles .exit)) (now (sizes .exit)) ≡ leaves q (requestOf r))) ⌝ }
 {
     let arrives = r.kind == 97;
     if arrives {
-        let a = s.arrival(
+        let code = arrive(
+            w,
             handles,
             sizes,
-            Micros(r.clock),
+            r.clock,
             r.handle,
-            Bytes(r.size as u64),
+            r.size,
             r.ecn == 1,
             r.u,
         );
-        let state = a.state;
-        let answer = a.answer;
-        return match answer {
-            ArrivalAnswer::Refused(refusal) => by_refusal(refusal, state),
-            ArrivalAnswer::Decided(v) => by_verdict(v.place() as u32, state),
-        };
+        return by_code(code, code);
     }
     let departs = r.kind == 100;
     if departs {
-        let d = s.departure(handles, sizes, Micros(r.clock));
-        let handle = d.handle;
-        let state = d.state;
-        let accepted = d.accepted;
-        return match accepted {
-            Accepted::No(refusal) => by_refusal(refusal, state),
-            Accepted::Yes => by_verdict(handle, state),
-        };
+        let word = depart(w, handles, sizes, r.clock);
+        return by_code(word % 65_536, word / 4_294_967_296);
     }
-    let t = s.tick(Micros(r.clock));
-    let state = t.state;
-    let accepted = t.accepted;
-    match accepted {
-        Accepted::No(refusal) => by_refusal(refusal, state),
-        Accepted::Yes => by_verdict(0, state),
-    }
+    let code = tick(w, r.clock);
+    by_code(code, 0)
 }

@@ -1,5 +1,4 @@
 // A log checked by the rules: they run from its settings over its calls, and its answers are held against theirs.
-use queue::State;
 
 mod calling;
 mod comparing;
@@ -23,9 +22,8 @@ pub struct Replayed {
     pub bytes: u64,
 }
 
-// A call by the rules: its refusal (0: none) or verdict, and the state after it.
+// A call by the rules: its refusal (0: none) or verdict.
 pub(crate) struct Called {
     pub refusal: u32,
     pub verdict: u32,
-    pub state: State,
 }

@@ -1,12 +1,11 @@
 // A log over lent bytes and lent tables: read whole, then run from a fresh queue.
 use crate::Replayed;
 use crate::running::run;
+use capi::obikuteru_fresh;
 use log::Checked;
 use log::Refusal;
-use queue::State;
-use units::Bytes;
-use units::Micros;
 ghost use mathlib.Core.Path.{_≡_};
+ghost use Prim.Native.Nat.{_≤_};
 ghost use Rattle.log.specs.Answers.{given, refusalNumber};
 ghost use Rattle.log.specs.Whole.{readWhole, shapeIn};
 ghost use Rattle.replay.specs.Replay.{refused as refusedBy, replay as replayBy};
@@ -46,6 +45,7 @@ fn replay_whole(
     sizes: &mut [u32],
 ) -> Replayed
     requires { ⌜ shapeIn (readWhole (now log)) ≡ given (offset, count) ⌝ }
+    requires { ⌜ count ≤ 4294967295 ⌝ }
     ensures { λ r. ⌜ r ≡ replayedOf (replayBy (now (log .entry)) (now (handles .entry)) (now (sizes .entry))) ⌝ }
     ensures { λ _. ⌜ (let a = replayBy (now (log .entry)) (now (handles .entry)) (now (sizes .entry)) in
         (now (handles .exit) ≡ handlesAfter a (now (handles .entry))) × (now (sizes .exit) ≡ sizesAfter a (now (sizes .entry)))) ⌝ }
@@ -56,15 +56,16 @@ fn replay_whole(
     if misfit {
         return refused(3);
     }
-    let made = State::fresh(
-        Micros(h.target),
-        Bytes(h.buffer as u64),
+    let mut w: [u64; 23] = [0; 23];
+    obikuteru_fresh(
+        &mut w,
+        h.target,
+        h.buffer as u64,
         slots,
         h.profile as u64,
-        Micros(h.clock),
+        h.clock,
     );
-    let fresh = made.state;
-    run(log, offset, count, fresh, handles, sizes)
+    run(log, offset, count, &mut w, handles, sizes)
 }
 
 // What the tables hold beforehand does not matter; afterwards they hold what the rules wrote.

@@ -1,12 +1,13 @@
-// The rules over the records of a log that was read whole.
+// The rules over the records of a log that was read whole, on a queue whose record was tested before.
 use crate::Replayed;
 use crate::calling::call;
 use crate::comparing::compare;
-use queue::State;
 ghost use mathlib.Core.Path.{_≡_};
 ghost use Prim.Native.Nat.{_+_, _*_, _≤_};
 ghost use lib.ListN.{length};
+ghost use Rattle.capi.specs.Words.{stateOf};
 ghost use Rattle.log.specs.Layout.{recordsFrom};
+ghost use Rattle.steps.specs.Lent.{Ready, lent};
 ghost use Rattle.replay.specs.Replay.{queueOf, replayFrom};
 ghost use Rattle.replay.specs.Replied.{handlesAfter, replayedOf, sizesAfter};
 
@@ -14,25 +15,24 @@ pub(crate) fn run(
     log: &[u8],
     offset: usize,
     count: usize,
-    fresh: State,
+    w: &mut [u64; 23],
     handles: &mut [u32],
     sizes: &mut [u32],
 ) -> Replayed
     requires { ⌜ offset + 40 * count ≤ length (now log) ⌝ }
-    ensures { λ r. ⌜ r ≡ replayedOf (replayFrom 0 (queueOf fresh (now (handles .entry)) (now (sizes .entry)))
+    requires { ⌜ Ready (lent (now w) (now handles) (now sizes)) count ⌝ }
+    ensures { λ r. ⌜ r ≡ replayedOf (replayFrom 0 (queueOf (stateOf (now (w .entry))) (now (handles .entry)) (now (sizes .entry)))
         (recordsFrom count (now (log .entry)) offset)) ⌝ }
-    ensures { λ _. ⌜ (let a = replayFrom 0 (queueOf fresh (now (handles .entry)) (now (sizes .entry)))
+    ensures { λ _. ⌜ (let a = replayFrom 0 (queueOf (stateOf (now (w .entry))) (now (handles .entry)) (now (sizes .entry)))
         (recordsFrom count (now (log .entry)) offset) in
         (now (handles .exit) ≡ handlesAfter a (now (handles .entry))) × (now (sizes .exit) ≡ sizesAfter a (now (sizes .entry)))) ⌝ }
 {
-    let mut s = fresh;
     let mut at = offset;
     let mut i: usize = 0;
     while i < count {
         let r = codec::get(log, at);
-        let c = call(s, r, handles, sizes);
-        let field = compare(r, c);
-        s = c.state;
+        let c = call(w, r, handles, sizes);
+        let field = compare(r, c, w[5], w[14]);
         if 0 < field {
             return Replayed {
                 refused: 0,
@@ -40,8 +40,8 @@ pub(crate) fn run(
                 number: i as u64,
                 refusal: c.refusal,
                 verdict: c.verdict,
-                prob: s.pie.prob.0,
-                bytes: s.backlog.bytes.0,
+                prob: w[5],
+                bytes: w[14],
             };
         }
         at += 40;
@@ -53,7 +53,7 @@ pub(crate) fn run(
         number: count as u64,
         refusal: 0,
         verdict: 0,
-        prob: s.pie.prob.0,
-        bytes: s.backlog.bytes.0,
+        prob: w[5],
+        bytes: w[14],
     }
 }

@@ -8,12 +8,14 @@ use lib.Dec.{leb}
 use lib.ListN.{length}
 use borrow.Author.Tests.{leb-true}
 use Rattle.laws.proofs.Tests.{and-left, and-right}
+use Rattle.pie.proofs.Counts.{place-lt}
 use Rattle.refusals.specs.Rows.{firstRefusal}
 use Rattle.queue.specs.declared.State.{State}
 use Rattle.queue.specs.Answer.{Reply, sizeIn, unlessRefused}
-use Rattle.queue.specs.Arrival.{arrival, arrivalRefusal}
+use Rattle.queue.specs.Activity.{begun}
+use Rattle.queue.specs.Arrival.{arrival, arrivalRefusal, arrivalRefusals, verdictOf}
 use Rattle.queue.specs.Departure.{departure, departureRefusal, departureRefusals, headOf}
-use Rattle.queue.specs.Tick.{tick, tickRefusal}
+use Rattle.queue.specs.Tick.{tick, tickRefusal, tickRefusals}
 use Rattle.queue.proofs.WhenAccepted.{departure-accepted}
 use Rattle.capi.specs.Codes.{codeOf}
 use Rattle.guarantees.proofs.Replies.{arrivalOf, departureOf, tickOf}
@@ -62,3 +64,21 @@ departure-small s handles sizes clock = go (departureRefusal s (length handles) 
         let a = (unlessRefused n s (departureOf s handles sizes clock)) .answer in (codeOf a ≤ 65535) × (sizeIn a ≤ 65535)
     go zero e = (omega arith, departure-accepted s (length handles) (length sizes) clock (headOf s sizes) e .head-high)
     go (suc n) e = (omega (arith, e, number-low s (length handles) (length sizes) clock (headOf s sizes)), omega arith)
+
+-- ── and so are the others' codes ──
+
+low-unless : (n : ℕ) (s : State) (r : Reply) → n ≤ 9 → codeOf (r .answer) ≤ 65535 → codeOf ((unlessRefused n s r) .answer) ≤ 65535
+low-unless zero s r h p = p
+low-unless (suc n) s r h p = omega arith
+
+pub arrival-low : (s : State) (handles sizes : List ℕ) (clock size : ℕ) (ecn : Bool) (u : ℕ) →
+    codeOf (arrival s handles sizes clock size ecn u .answer) ≤ 65535
+unfolding arrival arrivalRefusal
+arrival-low s handles sizes clock size ecn u =
+    let v = verdictOf (begun s) size ecn u in
+    low-unless (arrivalRefusal s (length handles) (length sizes) clock size) s (arrivalOf s clock size ecn u)
+    (first-low (arrivalRefusals s (length handles) (length sizes) clock size) refl) (omega (arith, place-lt v))
+
+pub tick-low : (s : State) (clock : ℕ) → codeOf (tick s clock .answer) ≤ 65535
+unfolding tick tickRefusal
+tick-low s clock = low-unless (tickRefusal s clock) s (tickOf s clock) (first-low (tickRefusals s clock) refl) (omega arith)

@@ -19,7 +19,7 @@ use Rattle.queue.specs.Tick.{tickedState}
 use Rattle.capi.specs.Codes.{wordsAfter}
 use Rattle.capi.specs.Words.{flagWord, isSet, stateOf, stateWords}
 use Rattle.guarantees.specs.Calls.{Call, arrive, depart, reply, update}
-use Rattle.guarantees.specs.Handed.{Request, askArrival, askDeparture, askTick, callOf}
+use Rattle.guarantees.specs.Handed.{Request, after, askArrival, askDeparture, askTick, callOf}
 use Rattle.guarantees.proofs.Replies.{acceptance, at-one-reply, reply-well-formed}
 use Rattle.steps.specs.Lent.{Lent, Ready, leaves, queueOf, replyTo}
 use Rattle.steps.proofs.Words.{written-out}
@@ -34,7 +34,7 @@ flag-says word said = go (eqb word 0) refl said
     go false e false = refl
 
 -- the words of a state hold that state
-back : (w : List ℕ) (s : State) → length (s .verdicts) ≡ 5 → stateOf (stateWords w s) ≡ s
+pub back : (w : List ℕ) (s : State) → length (s .verdicts) ≡ 5 → stateOf (stateWords w s) ≡ s
 unfolding stateOf stateWords
 back w s h =
     rw (flag-says (getD w 10 0) (s .pie .rate .measuring), flag-says (getD w 22 0) (s .active), ← (written-out 5 (s .verdicts) h))
@@ -50,9 +50,12 @@ Replied w r =
     × (r .state .settings ≡ stateOf w .settings)
     × (total (r .state .verdicts) ≤ total (stateOf w .verdicts) + 1)
 
-long : (w : List ℕ) (s : State) → length w ≡ 23 → length (stateWords w s) ≡ length w
+pub words-long : (w : List ℕ) (s : State) → length (stateWords w s) ≡ 23
 unfolding stateWords
-long w s h = sym h
+words-long w s = refl
+
+long : (w : List ℕ) (s : State) → length w ≡ 23 → length (stateWords w s) ≡ length w
+long w s h = words-long w s ∙ sym h
 
 accepted-replied : (w : List ℕ) → length w ≡ 23 → (c : Call) → Replied w (acceptance (stateOf w) c)
 unfolding arrivedState begun departedState tickedState
@@ -87,8 +90,18 @@ pub leaves-long : (q : Lent) (r : Request) →
 leaves-long q r = (handles-long q r, sizes-long q r)
 
 -- the words that are left hold the state that the reply returns
-pub leaves-state : (q : Lent) (r : Request) → length (q .words) ≡ 23 → stateOf (leaves q r .words) ≡ replyTo q r .state
+leaves-state : (q : Lent) (r : Request) → length (q .words) ≡ 23 → stateOf (leaves q r .words) ≡ replyTo q r .state
 leaves-state q r l = replied (q .words) l (callOf (queueOf q) r) .1
+
+-- the queue that is left is the one that the reply returns
+pub leaves-queue : (q : Lent) (r : Request) → length (q .words) ≡ 23 → queueOf (leaves q r) ≡ after (queueOf q) r
+leaves-queue q (askArrival clock handle size ecn u) l =
+    let r = askArrival clock handle size ecn u in
+    ap (λ (s : State). record { state = s; handles = leaves q r .handles; sizes = leaves q r .sizes }) (leaves-state q r l)
+leaves-queue q (askDeparture clock) l =
+    ap (λ (s : State). record { state = s; handles = q .handles; sizes = q .sizes }) (leaves-state q (askDeparture clock) l)
+leaves-queue q (askTick clock) l =
+    ap (λ (s : State). record { state = s; handles = q .handles; sizes = q .sizes }) (leaves-state q (askTick clock) l)
 
 pub ready-kept : (q : Lent) (r : Request) (n : ℕ) → Ready q (suc n) → Ready (leaves q r) n
 ready-kept q r n (l, formed, h, z, room) =

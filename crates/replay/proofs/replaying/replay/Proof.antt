@@ -1,5 +1,6 @@
 -- `replay`: 11, 12 or 13 where the reading refuses the log.
 use mathlib.Core.Path.{refl, ap, sym, _∙_}
+use native.Mathlib.Omega.{arith}
 use denote.Ref.{now}
 use Rattle.log.specs.Answers.{shapeOf}
 use Rattle.replay.specs.Replay.{refused as misread}
@@ -31,7 +32,8 @@ cast-replay-whole-2 : tie.Need-cast-replay-whole-2
 cast-replay-whole-2 c = search needs
 
 replay-whole-requires : tie.Need-replay-whole-requires
-replay-whole-requires c κs = sym (c .before .before .before .before .before .check .ensures) ∙ ap shapeOf (c .before .before .before .checked2 .given .1)
+replay-whole-requires c κs =
+    (sym (c .before .before .before .before .before .check .ensures) ∙ ap shapeOf (c .before .before .before .checked2 .given .1), omega arith)
 
 returns : tie.Need-returns
 returns c =

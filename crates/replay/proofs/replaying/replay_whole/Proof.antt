@@ -1,9 +1,9 @@
 -- `replay_whole`: 3 where the tables do not fit the log, else the rules over its records.
-use mathlib.Core.Path.{refl, ap}
+use mathlib.Core.Path.{refl}
 use native.Mathlib.Omega.{arith}
 use denote.Ref.{now}
-use Rattle.queue.specs.Answer.{Reply}
-use Rattle.replay.proofs.Contained.{contained, fits, misfits}
+use Rattle.capi.specs.Words.{stateOf}
+use Rattle.replay.proofs.Contained.{contained, fits, fresh-ready, held, misfits}
 use borrow.Author.Needs.{needs}
 use Rattle.replay.proofs.replaying.replay_whole.Statement.{statement}
 use Rattle.replay.proofs.replaying.replay_whole.Tie as tie
@@ -11,7 +11,7 @@ use Rattle.replay.proofs.replaying.replay_whole.Tie as tie
 get-header-requires : tie.Need-get-header-requires
 get-header-requires c κs =
     let a = c .before .before .before in
-    let k = contained (now (a .args .log)) (a .args .offset) (a .args .count) (a .pre) in omega (arith, k .headed)
+    let k = contained (now (a .args .log)) (a .args .offset) (a .args .count) (a .pre .0) in omega (arith, k .headed)
 
 cast-slots : tie.Need-cast-slots
 cast-slots c = search needs
@@ -23,24 +23,27 @@ returns : tie.Need-returns
 returns c =
     let a = c .before .before .before .before .before .before .before in
     let l = now (a .args .log) in
-    let k = contained l (a .args .offset) (a .args .count) (a .pre) in
+    let k = contained l (a .args .offset) (a .args .count) (a .pre .0) in
     let g = c .before .before .before .get-header in
     let e = misfits l (now (a .args .handles)) (now (a .args .sizes)) (a .args .offset) (a .args .count) k (g .result) (g .ensures) (c .before .if1 .taken) in
     rw e (c .refused .ensures, (refl, refl))
 
-cast-t12 : tie.Need-cast-t12
-cast-t12 c = search needs
+cast-obikuteru-fresh : tie.Need-cast-obikuteru-fresh
+cast-obikuteru-fresh c = search needs
 
-cast-fresh : tie.Need-cast-fresh
-cast-fresh c = search needs
+cast-obikuteru-fresh-2 : tie.Need-cast-obikuteru-fresh-2
+cast-obikuteru-fresh-2 c = search needs
 
-fresh-requires : tie.Need-fresh-requires
-fresh-requires c κs = search needs
+obikuteru-fresh-requires : tie.Need-obikuteru-fresh-requires
+obikuteru-fresh-requires c κs = search needs
 
 run-requires : tie.Need-run-requires
 run-requires c κs =
-    let a = c .before .before .before .before .before .before .before .before .before .before .before .before in
-    let k = contained (now (a .args .log)) (a .args .offset) (a .args .count) (a .pre) in k .long
+    let a = c .before .before .before .before .before .before .before .before .before .before .before .before .before in
+    let l = now (a .args .log) in
+    let k = contained l (a .args .offset) (a .args .count) (a .pre .0) in
+    let g = c .before .before .before .before .before .before .before .before .before .get-header in
+    (k .long, fresh-ready l (now (a .args .handles)) (now (a .args .sizes)) (a .args .offset) (a .args .count) k (g .result) (g .ensures) _ (c .before .before .before .obikuteru-fresh .ensures .1) (c .before .before .before .before .before .before .before .if1 .left) (a .pre .1))
 
 same-length : tie.Need-same-length
 same-length c = search needs
@@ -50,14 +53,14 @@ same-length-2 c = search needs
 
 returns-2 : tie.Need-returns-2
 returns-2 c =
-    let a = c .before .before .before .before .before .before .before .before .before .before .before .before .before .before .before .before .before in
+    let a = c .before .before .before .before .before .before .before .before .before .before .before .before .before .before .before .before .before .before in
     let l = now (a .args .log) in
-    let k = contained l (a .args .offset) (a .args .count) (a .pre) in
-    let g = c .before .before .before .before .before .before .before .before .before .before .before .before .before .get-header in
-    let f = c .before .before .before .before .before .before .before .before .fresh in
+    let k = contained l (a .args .offset) (a .args .count) (a .pre .0) in
+    let g = c .before .before .before .before .before .before .before .before .before .before .before .before .before .before .get-header in
+    let f = c .before .before .before .before .before .before .before .before .obikuteru-fresh in
     let r = c .before .before .before .before .run in
-    let e = fits l (now (a .args .handles)) (now (a .args .sizes)) (a .args .offset) (a .args .count) k (g .result) (g .ensures) (c .before .before .before .before .before .before .before .before .before .before .before .if1 .left)
-    (f .result .state) (ap (λ (q : Reply). q .state) (f .ensures)) in
+    let h = held l (now (a .args .handles)) (now (a .args .sizes)) (a .args .offset) (a .args .count) k (g .result) (g .ensures) _ (f .ensures .1) in
+    let e = fits l (now (a .args .handles)) (now (a .args .sizes)) (a .args .offset) (a .args .count) k (g .result) (g .ensures) (c .before .before .before .before .before .before .before .before .before .before .before .before .if1 .left) _ h in
     rw e (r .ensures)
 
 pub replay-whole-spec : {M : Type 1} → statement M
@@ -68,9 +71,9 @@ replay-whole-spec =
     cast-slots
     refused-requires
     returns
-    cast-t12
-    cast-fresh
-    fresh-requires
+    cast-obikuteru-fresh
+    cast-obikuteru-fresh-2
+    obikuteru-fresh-requires
     run-requires
     same-length
     same-length-2
