@@ -21,11 +21,11 @@ use Rattle.docsis_flow.specs.declared.State.{State}
 use Rattle.docsis_capi.specs.Words.{arrivalWords, departureWords, stateOf, stateWords}
 
 -- f 0, f 1, ..: n of them
-abbrev listed : ℕ → (ℕ → ℕ) → List ℕ
+abbrev pub listed : ℕ → (ℕ → ℕ) → List ℕ
 listed zero f = []
 listed (suc n) f = f 0 ∷ listed n (λ i. f (suc i))
 
-written-out : (n : ℕ) (w : List ℕ) → length w ≡ n → w ≡ listed n (λ i. getD w i 0)
+pub written-out : (n : ℕ) (w : List ℕ) → length w ≡ n → w ≡ listed n (λ i. getD w i 0)
 written-out zero [] h = refl
 written-out zero (x ∷ w) h = absurd (omega arith)
 written-out (suc n) [] h = absurd (omega arith)
@@ -41,13 +41,13 @@ kept w s h = rw (h .0) (words-kept w (h .1))
 
 -- ── the rules of an arrival leave probability, old delay and reset time ──
 
-abbrev Same : (before after : DocsisPie) → Type 0
+abbrev pub Same : (before after : DocsisPie) → Type 0
 Same p q = (q .prob .0 ≡ p .prob .0) × (q .old .0 ≡ p .old .0) × (q .phase .reset .0 ≡ p .phase .reset .0)
 
-same-cleared : (p q : DocsisPie) → Same p q → Same p (cleared q)
+pub same-cleared : (p q : DocsisPie) → Same p q → Same p (cleared q)
 same-cleared p q h = either (Same p) (eqb (q .prob .0) none) (withAccumulated q none) q h h
 
-same-woken : (p q : DocsisPie) → Same p q → Same p (woken q)
+pub same-woken : (p q : DocsisPie) → Same p q → Same p (woken q)
 same-woken p q h = either (Same p) (isInactive q) (withActivity q quiescent) q h h
 
 same-dropped : (p q : DocsisPie) → Same p q → Same p (afterDrop q)

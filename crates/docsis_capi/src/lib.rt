@@ -127,7 +127,7 @@ fn place_in(outcome: Outcome) -> usize
 }
 
 // One count of the flow's row rises by one.
-fn raise(counts: &mut [[u64; 5]; 16], flow: u32, place: usize)
+pub fn raise(counts: &mut [[u64; 5]; 16], flow: u32, place: usize)
     requires { ⌜ (flow ≤ 15) × (place < 5) × (total (rowOf (now counts) flow) < mostVerdicts) ⌝ }
     ensures { λ _. ⌜ now (counts .exit) ≡ raisedAt (now (counts .entry)) flow place ⌝ }
 {

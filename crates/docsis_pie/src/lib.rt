@@ -44,6 +44,9 @@ pub struct Decided {
 pub use constants::DEFAULT_TARGET;
 pub use constants::FULL_ALLOWANCE;
 pub use constants::HIGH;
+pub use constants::LOW;
 pub use constants::MOST_PROB;
 pub use constants::PERIOD;
 pub use constants::RESET_TIMEOUT;
+pub use constants::SMALL_QUEUE;
+pub use decision::scaled;

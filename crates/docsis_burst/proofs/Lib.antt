@@ -1,0 +1,7 @@
+-- What the functions' proofs share.
+pub mod Words
+pub mod Decisions
+pub mod Replies
+pub mod Kept
+pub mod Steps
+pub mod InTurn

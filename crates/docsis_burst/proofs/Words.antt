@@ -1,0 +1,117 @@
+-- Sixteen words, written out, and what the inner functions make of them.
+use mathlib.Core.Path.{_≡_, refl, subst⁻¹}
+use mathlib.Core.Bool.{Bool, true, false, cond}
+use mathlib.Core.List.{List}
+use Prim.Native.Nat.{ℕ, _+_, min}
+use lib.ListN.{getD, length, set}
+use Rattle.units.specs.Kinds.{none}
+use Rattle.pie.specs.Backlog.{entered}
+use Rattle.pie.specs.Verdicts.{admitted}
+use Rattle.docsis_pie.specs.Constants.{active, fullAllowance, high, quiescent}
+use Rattle.docsis_pie.specs.DropDecision.{summed, withAccumulated, withActivity, withAllowance}
+use Rattle.docsis_pie.specs.Update.{updated}
+use Rattle.docsis_pie.specs.declared.Decided.{Decided}
+use Rattle.docsis_pie.specs.declared.DocsisPie.{DocsisPie}
+use Rattle.docsis_flow.specs.Arrival.{arrivedState}
+use Rattle.docsis_flow.specs.Tick.{tickedState}
+use Rattle.docsis_capi.specs.Words.{arrivalWords, backlogOf, pieOf, stateOf, stateWords}
+use Rattle.docsis_capi.proofs.Changed.{Same, listed, written-out}
+use Rattle.docsis_burst.specs.Words.{pieWords}
+
+-- what holds of any sixteen words written out holds of sixteen words
+pub for-words : (P : List ℕ → Type 0) → ((f : ℕ → ℕ) → P (listed 16 f)) → (w : List ℕ) → length w ≡ 16 → P w
+for-words P h w e = subst⁻¹ P (written-out 16 w e) (h (λ i. getD w i 0))
+
+-- ── the rules of an arrival ──
+
+pub pie-same : (w : List ℕ) → length w ≡ 16 → w ≡ pieWords w (pieOf w)
+pie-same = for-words (λ w. w ≡ pieWords w (pieOf w)) (λ f. refl)
+
+pub pie-long : (q : DocsisPie) (w : List ℕ) → length w ≡ 16 → length (pieWords w q) ≡ 16
+pie-long q = for-words (λ w. length (pieWords w q) ≡ 16) (λ f. refl)
+
+pub pie-twice : (q r : DocsisPie) (w : List ℕ) → length w ≡ 16 → pieWords (pieWords w q) r ≡ pieWords w r
+pie-twice q r = for-words (λ w. pieWords (pieWords w q) r ≡ pieWords w r) (λ f. refl)
+
+-- the words hold the record that was written, where probability, old delay and reset time are theirs
+pub pie-back : (q : DocsisPie) (w : List ℕ) → length w ≡ 16 → Same (pieOf w) q → pieOf (pieWords w q) ≡ q
+pie-back q = for-words (λ w. Same (pieOf w) q → pieOf (pieWords w q) ≡ q) (λ f h. rw (← (h .0), ← (h .1), ← (h .2)))
+
+-- the settings are as they were
+pub pie-target : (q : DocsisPie) (w : List ℕ) → length w ≡ 16 → getD (pieWords w q) 0 0 ≡ getD w 0 0
+pie-target q = for-words (λ w. getD (pieWords w q) 0 0 ≡ getD w 0 0) (λ f. refl)
+
+pub pie-buffer : (q : DocsisPie) (w : List ℕ) → length w ≡ 16 → getD (pieWords w q) 1 0 ≡ getD w 1 0
+pie-buffer q = for-words (λ w. getD (pieWords w q) 1 0 ≡ getD w 1 0) (λ f. refl)
+
+-- ── the accumulated probability alone ──
+
+-- rules 1 and 2, and rule 4 where p is 0
+pub spent-words : (w : List ℕ) → length w ≡ 16 → set w 8 0 ≡ pieWords w (withAccumulated (pieOf w) none)
+spent-words = for-words (λ w. set w 8 0 ≡ pieWords w (withAccumulated (pieOf w) none)) (λ f. refl)
+
+-- rule 8
+pub summed-words : (n : ℕ) (w : List ℕ) → length w ≡ 16 → set w 8 (min (getD w 8 0 + n) high) ≡ pieWords w (summed (pieOf w) n)
+summed-words n = for-words (λ w. set w 8 (min (getD w 8 0 + n) high) ≡ pieWords w (summed (pieOf w) n)) (λ f. refl)
+
+pub sum-pie : (n : ℕ) (w : List ℕ) → length w ≡ 16 → pieOf (set w 8 (min (getD w 8 0 + n) high)) ≡ summed (pieOf w) n
+sum-pie n = for-words (λ w. pieOf (set w 8 (min (getD w 8 0 + n) high)) ≡ summed (pieOf w) n) (λ f. refl)
+
+pub sum-twice : (n : ℕ) (q : DocsisPie) (w : List ℕ) → length w ≡ 16 → pieWords (set w 8 n) q ≡ pieWords w q
+sum-twice n q = for-words (λ w. pieWords (set w 8 n) q ≡ pieWords w q) (λ f. refl)
+
+-- rule 6
+pub woken-words : (w : List ℕ) → length w ≡ 16 → set w 12 quiescent ≡ pieWords w (withActivity (pieOf w) quiescent)
+woken-words = for-words (λ w. set w 12 quiescent ≡ pieWords w (withActivity (pieOf w) quiescent)) (λ f. refl)
+
+-- rule 15, of a quiescent flow
+abbrev dropped : DocsisPie → DocsisPie
+dropped pie = withAllowance (withActivity (withAccumulated pie none) active) fullAllowance
+
+pub active-words : (w : List ℕ) → length w ≡ 16 → set (set (set w 8 0) 10 fullAllowance) 12 active ≡ pieWords w (dropped (pieOf w))
+active-words = for-words (λ w. set (set (set w 8 0) 10 fullAllowance) 12 active ≡ pieWords w (dropped (pieOf w))) (λ f. refl)
+
+pub spent-activity : (w : List ℕ) → length w ≡ 16 → getD (set w 8 0) 12 0 ≡ getD w 12 0
+spent-activity = for-words (λ w. getD (set w 8 0) 12 0 ≡ getD w 12 0) (λ f. refl)
+
+-- ── the words of the states that calls return ──
+
+abbrev pub enteredWords : List ℕ → (size : ℕ) → List ℕ
+enteredWords w size =
+    let next = set w 14 (getD w 14 0 + 1) in set next 15 (getD next 15 0 + size)
+
+-- clock, and count and bytes where the packet is admitted
+abbrev pub arrivalWritten : List ℕ → (clock size : ℕ) → Decided → List ℕ
+arrivalWritten w clock size d =
+    let decided = set (pieWords w (d .pie)) 5 clock in cond (admitted (d .verdict)) (enteredWords decided size) decided
+
+pub arrived-words : (clock size : ℕ) (d : Decided) (w : List ℕ) → length w ≡ 16 →
+    arrivalWritten w clock size d ≡ arrivalWords w (arrivedState (stateOf w) clock size d)
+unfolding stateOf arrivedState
+arrived-words clock size d =
+    for-words (λ w. arrivalWritten w clock size d ≡ arrivalWords w (arrivedState (stateOf w) clock size d)) (λ f. go f (admitted (d .verdict)))
+  where
+    go : (f : ℕ → ℕ) (b : Bool) →
+        let decided = set (pieWords (listed 16 f) (d .pie)) 5 clock in
+        let backlog = cond b (entered (backlogOf (listed 16 f)) size) (backlogOf (listed 16 f)) in
+        cond b (enteredWords decided size) decided ≡ set (set (set (pieWords (listed 16 f) (d .pie)) 5 clock) 14 (backlog .count)) 15 (backlog .bytes .0)
+    go f true = refl
+    go f false = refl
+
+-- all but settings, accumulated probability, first place and backlog
+abbrev tickWritten : List ℕ → (clock : ℕ) → DocsisPie → List ℕ
+tickWritten w clock next =
+    let early = set (set (set w 5 clock) 6 clock) 7 (next .prob .0) in
+    let late = set (set early 9 (next .old .0)) 10 (next .allowance .0) in
+    set (set late 11 (next .phase .reset .0)) 12 (next .phase .activity .0)
+
+pub ticked-words : (clock credits : ℕ) (w : List ℕ) → length w ≡ 16 →
+    tickWritten w clock (updated (pieOf w) (getD w 0 0) (getD w 15 0) credits (getD w 3 0) (getD w 4 0))
+    ≡ stateWords (tickedState (stateOf w) clock credits)
+unfolding stateOf stateWords tickedState updated
+ticked-words clock credits =
+    for-words
+    (λ w.
+    tickWritten w clock (updated (pieOf w) (getD w 0 0) (getD w 15 0) credits (getD w 3 0) (getD w 4 0))
+    ≡ stateWords (tickedState (stateOf w) clock credits))
+    (λ f. refl)

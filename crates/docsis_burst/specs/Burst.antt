@@ -1,0 +1,94 @@
+-- What the single entries do with a list of calls on one flow, one after the other, each given what the last one left.
+use mathlib.Core.Path.{_≡_}
+use mathlib.Core.Bool.{Bool, true, cond, _&&_}
+use mathlib.Core.List.{List}
+use Prim.Native.Nat.{ℕ, zero, suc, _+_, _*_, _/_, _%_, _≤_}
+use lib.Dec.{eqb}
+use lib.ListN.{length, set}
+use Rattle.pie.specs.Constants.{mostVerdicts}
+use Rattle.pie.specs.Verdicts.{total}
+use Rattle.queue.specs.Answer.{Answer, handleIn, refused, sizeIn}
+use Rattle.docsis_flow.specs.State.{formed}
+use Rattle.docsis.specs.Answer.{ModemReply}
+use Rattle.docsis.specs.Counts.{rowOf}
+use Rattle.docsis_guarantees.specs.Handed.{Request}
+use Rattle.docsis_guarantees.specs.Modem.{Flow, ask, flowAfter, modemReply}
+use Rattle.docsis_capi.specs.Codes.{codeOf}
+use Rattle.docsis_capi.specs.Words.{stateOf, stateWords}
+use Rattle.docsis_burst.specs.Calls.{Call, asked, callAt, unknown}
+
+-- the words of the state, the counts of all flows and the two tables, as a caller lends them
+pub record Lent : Type 0 where
+  pub words : List ℕ
+  pub counts : List (List ℕ)
+  pub handles : List ℕ
+  pub sizes : List ℕ
+
+abbrev pub lent : (words : List ℕ) (counts : List (List ℕ)) (handles sizes : List ℕ) → Lent
+lent words counts handles sizes = record { words = words; counts = counts; handles = handles; sizes = sizes }
+
+-- the flow that the words hold
+abbrev pub flowOf : Lent → Flow
+flowOf q = record { state = stateOf (q .words); handles = q .handles; sizes = q .sizes }
+
+-- the reply of the single entry
+abbrev pub replyTo : (flow : ℕ) → Lent → Request → ModemReply
+replyTo flow q r = modemReply (flowOf q) (q .counts) flow (ask r)
+
+-- the answer to a call; no entry takes an unknown one: refusal 20
+abbrev pub answerTo : (flow : ℕ) → Lent → Call → Answer
+answerTo flow q (asked r) = (replyTo flow q r) .answer
+answerTo flow q unknown = refused 20
+
+-- what is left: the words, counts and tables that the single entry leaves
+abbrev pub after : (flow : ℕ) → Lent → Call → Lent
+after flow q (asked r) =
+    let a = replyTo flow q r in
+    let next = flowAfter (flowOf q) (ask r) a in
+    lent (stateWords (next .state)) (a .counts) (next .handles) (next .sizes)
+after flow q unknown = q
+
+-- an answer as a word: its code, then the size and the handle that a departure hands out
+abbrev pub answerWord : Answer → ℕ
+answerWord a = codeOf a + 65536 * sizeIn a + 4294967296 * handleIn a
+
+-- what the caller lends, and the answers
+pub record Done : Type 0 where
+  pub lent : Lent
+  pub answers : List ℕ
+
+abbrev pub done : Lent → (answers : List ℕ) → Done
+done q answers = record { lent = q; answers = answers }
+
+-- the first n calls, in turn: the answer to each is written at its place
+unfoldable pub burst : (flow : ℕ) → Lent → (calls answers : List ℕ) (n : ℕ) → Done
+burst flow q calls answers zero = record { lent = q; answers = answers }
+burst flow q calls answers (suc n) =
+    let before = burst flow q calls answers n in
+    let c = callAt calls (6 * n) in
+    record {
+      lent = after flow (before .lent) c;
+      answers = set (before .answers) n (answerWord (answerTo flow (before .lent) c));
+    }
+
+-- six numbers for each answer
+abbrev pub fits : (calls answers : List ℕ) → Bool
+fits calls answers = eqb (length calls % 6) 0 && eqb (length calls / 6) (length answers)
+
+-- all calls, or none where the lengths do not fit
+abbrev pub outcome : (flow : ℕ) → Lent → (calls answers : List ℕ) → Done
+outcome flow q calls answers =
+    cond (fits calls answers) (burst flow q calls answers (length answers)) (record { lent = q; answers = answers })
+
+-- sixteen words of a state that is formed, and tables that fit it
+abbrev pub Fitting : (words handles sizes : List ℕ) → Type 0
+Fitting words handles sizes =
+    (length words ≡ 16)
+    × (formed (stateOf words) ≡ true)
+    × (length handles ≡ stateOf words .settings .slots)
+    × (length sizes ≡ stateOf words .settings .slots)
+
+-- one of the sixteen flows, with room in its row for so many arrivals
+abbrev pub Ready : (flow : ℕ) → Lent → (arrivals : ℕ) → Type 0
+Ready flow q arrivals =
+    (flow ≤ 15) × Fitting (q .words) (q .handles) (q .sizes) × (total (rowOf (q .counts) flow) + arrivals ≤ mostVerdicts)
