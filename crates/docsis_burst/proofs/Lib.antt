@@ -1,7 +1,9 @@
 -- What the functions' proofs share.
 pub mod Words
 pub mod Decisions
+pub mod Arrivals
 pub mod Replies
 pub mod Kept
 pub mod Steps
+pub mod Within
 pub mod InTurn

@@ -96,7 +96,7 @@ departure-small s counts flow handles sizes clock = at-flow Small flow s counts 
 
 -- ── each kind of call ──
 
-abbrev Step : (flow : ℕ) → Lent → (calls : List ℕ) (at word : ℕ) → Lent → Type 0
+abbrev pub Step : (flow : ℕ) → Lent → (calls : List ℕ) (at word : ℕ) → Lent → Type 0
 Step flow q calls at word next = (word ≡ answerWord (answerTo flow q (callAt calls at))) × (next ≡ after flow q (callAt calls at))
 
 module _ (flow : ℕ) (w : List ℕ) (counts : List (List ℕ)) (handles sizes calls : List ℕ) (at : ℕ) where

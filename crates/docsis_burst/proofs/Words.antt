@@ -2,7 +2,7 @@
 use mathlib.Core.Path.{_≡_, refl, subst⁻¹}
 use mathlib.Core.Bool.{Bool, true, false, cond}
 use mathlib.Core.List.{List}
-use Prim.Native.Nat.{ℕ, _+_, min}
+use Prim.Native.Nat.{ℕ, _+_, _-_, _%_, min}
 use lib.ListN.{getD, length, set}
 use Rattle.units.specs.Kinds.{none}
 use Rattle.pie.specs.Backlog.{entered}
@@ -13,6 +13,7 @@ use Rattle.docsis_pie.specs.Update.{updated}
 use Rattle.docsis_pie.specs.declared.Decided.{Decided}
 use Rattle.docsis_pie.specs.declared.DocsisPie.{DocsisPie}
 use Rattle.docsis_flow.specs.Arrival.{arrivedState}
+use Rattle.docsis_flow.specs.Departure.{departedState}
 use Rattle.docsis_flow.specs.Tick.{tickedState}
 use Rattle.docsis_capi.specs.Words.{arrivalWords, backlogOf, pieOf, stateOf, stateWords}
 use Rattle.docsis_capi.proofs.Changed.{Same, listed, written-out}
@@ -71,9 +72,6 @@ dropped pie = withAllowance (withActivity (withAccumulated pie none) active) ful
 pub active-words : (w : List ℕ) → length w ≡ 16 → set (set (set w 8 0) 10 fullAllowance) 12 active ≡ pieWords w (dropped (pieOf w))
 active-words = for-words (λ w. set (set (set w 8 0) 10 fullAllowance) 12 active ≡ pieWords w (dropped (pieOf w))) (λ f. refl)
 
-pub spent-activity : (w : List ℕ) → length w ≡ 16 → getD (set w 8 0) 12 0 ≡ getD w 12 0
-spent-activity = for-words (λ w. getD (set w 8 0) 12 0 ≡ getD w 12 0) (λ f. refl)
-
 -- ── the words of the states that calls return ──
 
 abbrev pub enteredWords : List ℕ → (size : ℕ) → List ℕ
@@ -115,3 +113,26 @@ ticked-words clock credits =
     tickWritten w clock (updated (pieOf w) (getD w 0 0) (getD w 15 0) credits (getD w 3 0) (getD w 4 0))
     ≡ stateWords (tickedState (stateOf w) clock credits))
     (λ f. refl)
+
+-- clock, first place, count and bytes
+pub departed-words : (clock size : ℕ) (w : List ℕ) → length w ≡ 16 →
+    set (set (set (set w 5 clock) 13 ((getD w 13 0 + 1) % getD w 2 0)) 14 (getD w 14 0 - 1)) 15 (getD w 15 0 - size)
+    ≡ stateWords (departedState (stateOf w) clock size)
+unfolding stateOf stateWords departedState
+departed-words clock size =
+    for-words
+    (λ w.
+    set (set (set (set w 5 clock) 13 ((getD w 13 0 + 1) % getD w 2 0)) 14 (getD w 14 0 - 1)) 15 (getD w 15 0 - size)
+    ≡ stateWords (departedState (stateOf w) clock size))
+    (λ f. refl)
+
+-- what an admitted arrival reads after its clock is written
+pub past-decision : (clock : ℕ) (q : DocsisPie) (w : List ℕ) → length w ≡ 16 →
+    let d = set (pieWords w q) 5 clock in
+    (getD d 13 0 ≡ getD w 13 0) × (getD d 14 0 ≡ getD w 14 0) × (getD d 2 0 ≡ getD w 2 0) × ((n : ℕ) → getD (set d 14 n) 15 0 ≡ getD w 15 0)
+past-decision clock q =
+    for-words
+    (λ w.
+    let d = set (pieWords w q) 5 clock in
+    (getD d 13 0 ≡ getD w 13 0) × (getD d 14 0 ≡ getD w 14 0) × (getD d 2 0 ≡ getD w 2 0) × ((n : ℕ) → getD (set d 14 n) 15 0 ≡ getD w 15 0))
+    (λ f. (refl, refl, refl, λ n. refl))

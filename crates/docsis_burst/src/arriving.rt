@@ -74,8 +74,8 @@ fn drop_early(w: &mut [u64; 16])
     requires { ⌜ length (now w) ≡ 16 ⌝ }
     ensures { λ _. ⌜ now (w .exit) ≡ pieWords (now (w .entry)) (afterDrop (pieOf (now (w .entry)))) ⌝ }
 {
-    w[8] = 0;
     let quiescent = w[12] == Activity::QUIESCENT.0;
+    w[8] = 0;
     if quiescent {
         w[10] = FULL_ALLOWANCE;
         w[12] = Activity::ACTIVE.0;

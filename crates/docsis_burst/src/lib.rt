@@ -12,7 +12,7 @@ use docsis_capi::obikuteru_modem_well_formed;
 use pie::MOST_VERDICTS;
 ghost use mathlib.Core.Path.{_≡_};
 ghost use mathlib.Core.Bool.{cond, true};
-ghost use Prim.Native.Nat.{_+_, _*_, _≤_, _<_};
+ghost use Prim.Native.Nat.{_+_, _-_, _*_, _≤_, _<_};
 ghost use lib.ListN.{length};
 ghost use Rattle.pie.specs.Constants.{mostVerdicts};
 ghost use Rattle.pie.specs.Verdicts.{total};
@@ -114,6 +114,14 @@ fn single(
     120
 }
 
+// How many arrivals a row has room for.
+fn room(row: [u64; 5]) -> u64
+    requires { ⌜ total row ≤ mostVerdicts ⌝ }
+    ensures { λ r. ⌜ r ≡ mostVerdicts - total row ⌝ }
+{
+    MOST_VERDICTS - row[0] - row[1] - row[2] - row[3] - row[4]
+}
+
 // Whether the flow is one of sixteen, state and row are well formed, the tables fit and the row has room for `n` arrivals. It decides only
 // the cost.
 fn ready(
@@ -142,8 +150,7 @@ fn ready(
     if sizes != w[2] {
         return false;
     }
-    let row = counts[flow as usize];
-    n <= MOST_VERDICTS - row[0] - row[1] - row[2] - row[3] - row[4]
+    n <= room(counts[flow as usize])
 }
 
 // All calls, of a flow that is ready for so many arrivals.

@@ -92,7 +92,7 @@ room s row handles sizes clock size u r n er en h =
     let k = arrivalRefusal s row (length handles) (length sizes) clock size in
     arrival-accepted s row (length handles) (length sizes) clock size (taken s (arrivalReply s clock size u) k r n er en h) .total-low
 
-raised-for : (counts : List (List ℕ)) (flow place : ℕ) (v : Verdict) → place ≡ placeOf v → raisedAt counts flow place ≡ countsAfter counts flow (verdict v)
+pub raised-for : (counts : List (List ℕ)) (flow place : ℕ) (v : Verdict) → place ≡ placeOf v → raisedAt counts flow place ≡ countsAfter counts flow (verdict v)
 unfolding countsAfter raised
 raised-for counts flow place v e = rw e
 

@@ -1,64 +1,87 @@
+-- `all_known`: after i calls the burst of i calls is done, and the flow is ready for the others.
 use Rattle.docsis_burst.proofs.all_known.Statement.{statement}
 use Rattle.docsis_burst.proofs.all_known.Tie as tie
-use Rattle.docsis_burst.proofs.all_known.Reads as reads
-use Rattle.docsis_burst.proofs.all_known.Lts as lts
-use Rattle.docsis_burst.proofs.known.Reads as known-reads
+use mathlib.Core.Path.{_≡_, ap, refl, _∙_}
+use Prim.Native.Nat.{_-_, _*_, _≤_}
+use native.Mathlib.Omega.{arith}
+use lib.ListN.{length, length-set}
+use denote.Ref.{now}
+use Rattle.docsis_burst.specs.Calls.{callAt}
+use Rattle.docsis_burst.specs.Burst.{Lent, Ready, burst, done, lent}
+use Rattle.docsis_burst.proofs.Kept.{after-long, ready-one}
+use Rattle.docsis_burst.proofs.Steps.{one-more, ready-next}
 
 abbrev Inv-loop : tie.InvT-loop
 Inv-loop words₀ counts₀ flow handles₀ sizes₀ calls answers₀ i₀ words counts handles sizes answers i =
-    ?
+    (i ≤ length answers₀)
+    × (length answers ≡ length answers₀)
+    × (length handles ≡ length handles₀)
+    × (length sizes ≡ length sizes₀)
+    × (done (lent words counts handles sizes) answers ≡ burst flow (lent words₀ counts₀ handles₀ sizes₀) calls answers₀ i)
+    × Ready flow (lent words counts handles sizes) (length answers₀ - i)
 
 abbrev μ-loop : tie.MeasureT-loop
-μ-loop words₀ counts₀ flow handles₀ sizes₀ calls answers₀ i₀ words counts handles sizes answers i =
-    ?
+μ-loop words₀ counts₀ flow handles₀ sizes₀ calls answers₀ i₀ words counts handles sizes answers i = length answers₀ - i
 
--- src/lib.rt:166:5
 loop-holds : tie.Need-loop-holds Inv-loop μ-loop
-loop-holds c = ?
+unfolding burst
+loop-holds c =
+    let a = c .before .before .before .before in
+    let n = length (now (a .args .answers)) in
+    let all : n - 0 ≡ n = omega arith in (omega arith, refl, refl, refl, refl, rw all (a .pre .0))
 
--- src/lib.rt:167:72
 mul-known : tie.Need-mul-known Inv-loop μ-loop
-mul-known c = ?
+mul-known c = omega (arith, c .before .before .before .before .before .before .before .before .before .before .pre .1)
 
--- src/lib.rt:167:13
 known-requires : tie.Need-known-requires Inv-loop μ-loop
-known-requires c κs = ?
+known-requires c κs =
+    let l = c .before .before .before .before .before .loop in
+    (ready-one (l .flow) (lent (l .words) (l .counts) (l .handles) (l .sizes)) _ (omega (arith, l .inv .1, c .before .before .before .before .loop-test .taken)) (l .inv .5), omega (arith, c .before .before .before .before .before .before .before .before .before .before .pre .1, l .inv .1))
 
--- src/lib.rt:168:9
 mul-answers : tie.Need-mul-answers Inv-loop μ-loop
-mul-answers c = ?
+mul-answers c = omega arith
 
--- src/lib.rt:168:9
 slice-write-answers : tie.Need-slice-write-answers Inv-loop μ-loop
-slice-write-answers c = ?
+slice-write-answers c = omega arith
 
--- src/lib.rt:169:9
 add-i : tie.Need-add-i Inv-loop μ-loop
-add-i c = ?
+add-i c = omega arith
 
--- src/lib.rt:166:5
 loop-less : tie.Need-loop-less Inv-loop μ-loop
-loop-less c = ?
+loop-less c = omega arith
 
--- src/lib.rt:166:5
 loop-again : tie.Need-loop-again Inv-loop μ-loop
-loop-again c = ?
+loop-again c =
+    let a = c .before .before .before .before .before .before .before .before .before .before .before .before .before .before .before in
+    let l = c .before .before .before .before .before .before .before .before .before .before .loop in
+    let k = c .before .before .before .before .known in
+    let flow = a .args .flow in
+    let calls = now (a .args .calls) in
+    let given = lent (l .words) (l .counts) (l .handles) (l .sizes) in
+    let long = after-long flow given (callAt calls (6 * l .i)) in
+    let n = length (now (a .args .answers)) in
+    (
+      omega (arith, l .inv .1, c .before .before .before .before .before .before .before .before .before .loop-test .taken),
+      length-set (l .answers) (l .i) (k .result) ∙ l .inv .1,
+      ap (λ (q : Lent). length (q .handles)) (k .ensures .1) ∙ long .0 ∙ l .inv .2,
+      ap (λ (q : Lent). length (q .sizes)) (k .ensures .1) ∙ long .1 ∙ l .inv .3,
+      one-more flow _ calls (now (a .args .answers)) (l .i) given (l .answers) (k .result) _ (l .inv .4) (k .ensures .0, k .ensures .1),
+      ready-next flow given _ (callAt calls (6 * l .i)) n (l .i) (omega (arith, l .inv .1, c .before .before .before .before .before .before .before .before .before .loop-test .taken)) (k .ensures .1) (l .inv .5),
+    )
 
--- src/lib.rt:150:1
 same-length : tie.Need-same-length Inv-loop μ-loop
-same-length c = ?
+same-length c = c .before .loop .inv .2
 
--- src/lib.rt:150:1
 same-length-2 : tie.Need-same-length-2 Inv-loop μ-loop
-same-length-2 c = ?
+same-length-2 c = c .before .loop .inv .3
 
--- src/lib.rt:150:1
 same-length-3 : tie.Need-same-length-3 Inv-loop μ-loop
-same-length-3 c = ?
+same-length-3 c = c .before .loop .inv .1
 
--- src/lib.rt:150:1
 returns : tie.Need-returns Inv-loop μ-loop
-returns c = ?
+returns c =
+    let l = c .before .loop in
+    let e : l .i ≡ length (now (c .before .before .before .before .before .before .args .answers)) = omega (arith, l .inv .0, l .inv .1, c .loop-test .left) in rw e at (l .inv .4)
 
 pub all-known-spec : {M : Type 1} → statement M
 all-known-spec =

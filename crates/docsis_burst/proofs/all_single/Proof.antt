@@ -1,64 +1,79 @@
+-- `all_single`: after i calls the burst of i calls is done.
 use Rattle.docsis_burst.proofs.all_single.Statement.{statement}
 use Rattle.docsis_burst.proofs.all_single.Tie as tie
-use Rattle.docsis_burst.proofs.all_single.Reads as reads
-use Rattle.docsis_burst.proofs.all_single.Lts as lts
-use Rattle.docsis_burst.proofs.single.Reads as single-reads
+use mathlib.Core.Path.{_≡_, ap, refl, _∙_}
+use Prim.Native.Nat.{_-_, _*_, _≤_}
+use native.Mathlib.Omega.{arith}
+use lib.ListN.{length, length-set}
+use denote.Ref.{now}
+use Rattle.docsis_burst.specs.Calls.{callAt}
+use Rattle.docsis_burst.specs.Burst.{Lent, burst, done, lent}
+use Rattle.docsis_burst.proofs.Kept.{after-long}
+use Rattle.docsis_burst.proofs.Steps.{one-more}
 
 abbrev Inv-loop : tie.InvT-loop
 Inv-loop words₀ counts₀ flow handles₀ sizes₀ calls answers₀ i₀ words counts handles sizes answers i =
-    ?
+    (i ≤ length answers₀)
+    × (length answers ≡ length answers₀)
+    × (length handles ≡ length handles₀)
+    × (length sizes ≡ length sizes₀)
+    × (done (lent words counts handles sizes) answers ≡ burst flow (lent words₀ counts₀ handles₀ sizes₀) calls answers₀ i)
 
 abbrev μ-loop : tie.MeasureT-loop
-μ-loop words₀ counts₀ flow handles₀ sizes₀ calls answers₀ i₀ words counts handles sizes answers i =
-    ?
+μ-loop words₀ counts₀ flow handles₀ sizes₀ calls answers₀ i₀ words counts handles sizes answers i = length answers₀ - i
 
--- src/lib.rt:189:5
 loop-holds : tie.Need-loop-holds Inv-loop μ-loop
-loop-holds c = ?
+unfolding burst
+loop-holds c = (omega arith, refl, refl, refl, refl)
 
--- src/lib.rt:190:73
 mul-single : tie.Need-mul-single Inv-loop μ-loop
-mul-single c = ?
+mul-single c = omega (arith, c .before .before .before .before .before .before .before .before .before .before .pre)
 
--- src/lib.rt:190:13
 single-requires : tie.Need-single-requires Inv-loop μ-loop
-single-requires c κs = ?
+single-requires c κs = let l = c .before .before .before .before .before .loop in omega (arith, c .before .before .before .before .before .before .before .before .before .before .pre, l .inv .1)
 
--- src/lib.rt:191:9
 mul-answers : tie.Need-mul-answers Inv-loop μ-loop
-mul-answers c = ?
+mul-answers c = omega arith
 
--- src/lib.rt:191:9
 slice-write-answers : tie.Need-slice-write-answers Inv-loop μ-loop
-slice-write-answers c = ?
+slice-write-answers c = omega arith
 
--- src/lib.rt:192:9
 add-i : tie.Need-add-i Inv-loop μ-loop
-add-i c = ?
+add-i c = omega arith
 
--- src/lib.rt:189:5
 loop-less : tie.Need-loop-less Inv-loop μ-loop
-loop-less c = ?
+loop-less c = omega arith
 
--- src/lib.rt:189:5
 loop-again : tie.Need-loop-again Inv-loop μ-loop
-loop-again c = ?
+loop-again c =
+    let a = c .before .before .before .before .before .before .before .before .before .before .before .before .before .before .before in
+    let l = c .before .before .before .before .before .before .before .before .before .before .loop in
+    let k = c .before .before .before .before .single in
+    let flow = a .args .flow in
+    let calls = now (a .args .calls) in
+    let given = lent (l .words) (l .counts) (l .handles) (l .sizes) in
+    let long = after-long flow given (callAt calls (6 * l .i)) in
+    (
+      omega (arith, l .inv .1, c .before .before .before .before .before .before .before .before .before .loop-test .taken),
+      length-set (l .answers) (l .i) (k .result) ∙ l .inv .1,
+      ap (λ (q : Lent). length (q .handles)) (k .ensures .1) ∙ long .0 ∙ l .inv .2,
+      ap (λ (q : Lent). length (q .sizes)) (k .ensures .1) ∙ long .1 ∙ l .inv .3,
+      one-more flow _ calls (now (a .args .answers)) (l .i) given (l .answers) (k .result) _ (l .inv .4) (k .ensures .0, k .ensures .1),
+    )
 
--- src/lib.rt:174:1
 same-length : tie.Need-same-length Inv-loop μ-loop
-same-length c = ?
+same-length c = c .before .loop .inv .2
 
--- src/lib.rt:174:1
 same-length-2 : tie.Need-same-length-2 Inv-loop μ-loop
-same-length-2 c = ?
+same-length-2 c = c .before .loop .inv .3
 
--- src/lib.rt:174:1
 same-length-3 : tie.Need-same-length-3 Inv-loop μ-loop
-same-length-3 c = ?
+same-length-3 c = c .before .loop .inv .1
 
--- src/lib.rt:174:1
 returns : tie.Need-returns Inv-loop μ-loop
-returns c = ?
+returns c =
+    let l = c .before .loop in
+    let e : l .i ≡ length (now (c .before .before .before .before .before .before .args .answers)) = omega (arith, l .inv .0, l .inv .1, c .loop-test .left) in rw e at (l .inv .4)
 
 pub all-single-spec : {M : Type 1} → statement M
 all-single-spec =

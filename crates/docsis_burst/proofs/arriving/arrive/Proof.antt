@@ -1,152 +1,223 @@
+-- `arrive`: the tests in their order, then the words in which the new state differs, one count, and the tail of both tables.
 use borrow.Author.Needs.{needs}
 use Rattle.docsis_burst.proofs.arriving.arrive.Statement.{statement}
 use Rattle.docsis_burst.proofs.arriving.arrive.Tie as tie
-use Rattle.docsis_burst.proofs.arriving.arrive.Reads as reads
-use Rattle.docsis_burst.proofs.arriving.arrive.Lts as lts
-use Rattle.docsis_burst.proofs.arriving.decide.Reads as decide-reads
-use Rattle.docsis_burst.proofs.numbers.wide.Reads as wide-reads
-use Rattle.docsis_capi.proofs.raise.Reads as raise-reads
-use Rattle.ring.proofs.place.Reads as place-reads
+use mathlib.Core.Path.{_≡_, refl, _∙_}
+use mathlib.Core.Bool.{true, false}
+use mathlib.Core.List.{List}
+use Prim.Native.Nat.{ℕ, _+_, _≤_, _<_}
+use native.Mathlib.Nat.{mod-lt}
+use native.Mathlib.Omega.{arith}
+use lib.Dec.{eqb}
+use lib.ListN.{getD}
+use denote.Ref.{now}
+use borrow.Author.Tests.{ltb-false}
+use Rattle.laws.proofs.Tests.{or-neither}
+use Rattle.pie.specs.Constants.{largest, mostVerdicts}
+use Rattle.pie.specs.Verdicts.{placeOf, total}
+use Rattle.pie.proofs.Counts.{place-lt}
+use Rattle.refusals.specs.Tests.{sizeRefused}
+use Rattle.docsis_pie.specs.declared.Decided.{Decided}
+use Rattle.docsis_flow.specs.Arrival.{decisionOf, tailPlace}
+use Rattle.docsis_flow.proofs.Facts.{Facts, facts}
+use Rattle.docsis.specs.Counts.{countsAfter, rowOf}
+use Rattle.docsis_capi.specs.Words.{stateOf}
+use Rattle.docsis_capi.proofs.Calls.{raised-for}
+use Rattle.docsis_capi.proofs.Changed.{kept}
+use Rattle.docsis_burst.specs.Words.{pieWords}
+use Rattle.docsis_burst.proofs.Arrivals.{Reads, admits-as, entered-ok, read, turned-away}
+use Rattle.docsis_burst.proofs.Replies.{arrival-late, arrival-made, arrival-wrong}
 
--- src/arriving.rt:170:32
+abbrev sizeAt : tie.Start → ℕ
+sizeAt a = getD (now (a .args .calls)) (a .args .at + 3) 0
+
+abbrev uAt : tie.Start → ℕ
+uAt a = getD (now (a .args .calls)) (a .args .at + 4) 0
+
+abbrev wordsAt : tie.Start → List ℕ
+wordsAt a = now (a .args .w)
+
+abbrev ruled : tie.Start → Decided
+ruled a = decisionOf (stateOf (wordsAt a)) (sizeAt a) (uAt a)
+
+known : (a : tie.Start) → Facts (stateOf (wordsAt a))
+known a = facts _ (a .pre .0 .1 .1)
+
+fits : (a : tie.Start) → total (rowOf (now (a .args .counts)) (a .args .flow)) ≤ mostVerdicts
+fits a = omega (arith, a .pre .0 .2)
+
+right-size : (c : tie.Else2) → sizeRefused (sizeAt (c .before .before .before .before .before .before .before .before)) ≡ false
+right-size c = rw (c .before .wide .ensures) at (c .if2 .left)
+
+small : (c : tie.Else2) → sizeAt (c .before .before .before .before .before .before .before .before) ≤ largest
+small c = ltb-false _ _ (or-neither (eqb (sizeAt (c .before .before .before .before .before .before .before .before)) 0) _ (right-size c) .1)
+
+-- verdict and words are those of the rules
+ruled-place : (c : tie.After-decide) → c .decide .result ≡ placeOf ((ruled (c .before .before .before .before .before .before .before .before .before .before .before .before)) .verdict)
+ruled-place c = rw (← (c .before .wide2 .ensures), ← (c .before .before .before .before .before .wide .ensures)) (c .decide .ensures .0)
+
+place-low : (c : tie.After-decide) → c .decide .result < 5
+place-low c = rw (ruled-place c) (place-lt ((ruled (c .before .before .before .before .before .before .before .before .before .before .before .before)) .verdict))
+
+ruled-words : (c : tie.After-decide) → c .decide .last .0 ≡ pieWords (wordsAt (c .before .before .before .before .before .before .before .before .before .before .before .before)) ((ruled (c .before .before .before .before .before .before .before .before .before .before .before .before)) .pie)
+ruled-words c = rw (← (c .before .wide2 .ensures), ← (c .before .before .before .before .before .wide .ensures)) (c .decide .ensures .1)
+
+-- the words that are read after the clock is written
+reads : (c : tie.After-decide) → Reads (wordsAt (c .before .before .before .before .before .before .before .before .before .before .before .before)) (c .decide .last .0) (c .before .before .before .before .before .before .before .before .before .before .before .before .args .clock)
+reads c = let a = c .before .before .before .before .before .before .before .before .before .before .before .before in read (wordsAt a) (c .decide .last .0) (a .pre .0 .1 .0) ((ruled a) .pie) (ruled-words c) (a .args .clock)
+
+-- the tail's place is one of the tables'
+tail-place : (c : tie.After-place) → c .place .result ≡ tailPlace (stateOf (wordsAt (c .before .before .before .before .before .before .before .before .before .before .before .before .before .before .before .before .before .before .before)))
+unfolding stateOf
+tail-place c = let r = reads (c .before .before .before .before .before .before .before) in rw (r .0, r .1, r .2) at (c .place .ensures)
+
+tail-low : (c : tie.After-place) → c .place .result < stateOf (wordsAt (c .before .before .before .before .before .before .before .before .before .before .before .before .before .before .before .before .before .before .before)) .settings .slots
+tail-low c = rw (tail-place c) (mod-lt _ (known (c .before .before .before .before .before .before .before .before .before .before .before .before .before .before .before .before .before .before .before) .slots-low))
+
 element-copy-out-wrong-clock : tie.Need-element-copy-out-wrong-clock
 element-copy-out-wrong-clock c = search needs
 
--- src/arriving.rt:172:9
 returns : tie.Need-returns
-returns c = ?
+unfolding stateOf countsAfter
+returns c =
+    let a = c .before .before .before .before .before in
+    let q = a .pre .0 in
+    rw (arrival-late _ _ _ (q .1 .1) (fits a) _ _ (q .1 .2) (q .1 .3) _ _ (c .if1 .taken)) (refl, kept _ _ (refl, q .1 .0), refl, refl, refl)
 
--- src/arriving.rt:174:22
 add-size : tie.Need-add-size
 add-size c = search needs
 
--- src/arriving.rt:174:16
 mul-size : tie.Need-mul-size
 mul-size c = search needs
 
--- src/arriving.rt:174:16
 shared-slice-read-size : tie.Need-shared-slice-read-size
 shared-slice-read-size c = search needs
 
--- src/arriving.rt:175:9
 wide-requires : tie.Need-wide-requires
 wide-requires c κs = search needs
 
--- src/arriving.rt:178:9
 returns-2 : tie.Need-returns-2
-returns-2 c = ?
+unfolding stateOf countsAfter
+returns-2 c =
+    let a = c .before .before .before .before .before .before .before .before in
+    let q = a .pre .0 in
+    rw (arrival-wrong _ _ _ (q .1 .1) (fits a) _ _ (q .1 .2) (q .1 .3) _ _ (c .before .before .before .if1 .left) (rw (c .before .wide .ensures) at (c .if2 .taken)))
+    (refl, kept _ _ (refl, q .1 .0), refl, refl, refl)
 
--- src/arriving.rt:180:41
 add-wide : tie.Need-add-wide
 add-wide c = search needs
 
--- src/arriving.rt:180:35
 mul-wide : tie.Need-mul-wide
 mul-wide c = search needs
 
--- src/arriving.rt:180:35
 shared-slice-read-wide : tie.Need-shared-slice-read-wide
 shared-slice-read-wide c = search needs
 
--- src/arriving.rt:180:30
 wide-requires-2 : tie.Need-wide-requires-2
 wide-requires-2 c κs = search needs
 
--- src/arriving.rt:180:9
 decide-requires : tie.Need-decide-requires
-decide-requires c κs = ?
+decide-requires c κs = let q = c .before .before .before .before .before .before .before .before .before .before .before .pre .0 in (q .1 .0, q .1 .1, rw (c .before .before .before .before .wide .ensures) (small (c .before .before .before)))
 
--- src/arriving.rt:181:5
 element-write-w : tie.Need-element-write-w
 element-write-w c = search needs
 
--- src/arriving.rt:182:5
 raise-requires : tie.Need-raise-requires
-raise-requires c κs = ?
+raise-requires c κs = let q = c .before .before .before .before .before .before .before .before .before .before .before .before .before .pre .0 in (q .0, place-low (c .before), omega (arith, q .2))
 
--- src/arriving.rt:185:26
 element-copy-out-place : tie.Need-element-copy-out-place
 element-copy-out-place c = search needs
 
--- src/arriving.rt:185:33
 element-copy-out-place-2 : tie.Need-element-copy-out-place-2
 element-copy-out-place-2 c = search needs
 
--- src/arriving.rt:185:40
 element-copy-out-place-3 : tie.Need-element-copy-out-place-3
 element-copy-out-place-3 c = search needs
 
--- src/arriving.rt:185:20
 place-requires : tie.Need-place-requires
-place-requires c κs = ?
+unfolding stateOf
+place-requires c κs =
+    let r = reads (c .before .before .before .before .before .before) in
+    let f = known (c .before .before .before .before .before .before .before .before .before .before .before .before .before .before .before .before .before .before) in
+    rw (r .0, r .1, r .2) (f .first-high, f .count-high, f .slots-high)
 
--- src/arriving.rt:186:17
 element-copy-out-w : tie.Need-element-copy-out-w
 element-copy-out-w c = search needs
 
--- src/arriving.rt:186:17
 add-w : tie.Need-add-w
-add-w c = ?
+unfolding stateOf
+add-w c = let f = known (c .before .before .before .before .before .before .before .before .before .before .before .before .before .before .before .before .before .before .before .before) in rw (reads (c .before .before .before .before .before .before .before .before) .1) (omega (arith, f .count-high, f .slots-high))
 
--- src/arriving.rt:186:9
 element-write-w-2 : tie.Need-element-write-w-2
 element-write-w-2 c = search needs
 
--- src/arriving.rt:187:17
 element-copy-out-w-2 : tie.Need-element-copy-out-w-2
 element-copy-out-w-2 c = search needs
 
--- src/arriving.rt:187:17
 add-w-2 : tie.Need-add-w-2
-add-w-2 c = ?
+unfolding stateOf
+add-w-2 c =
+    let f = known (c .before .before .before .before .before .before .before .before .before .before .before .before .before .before .before .before .before .before .before .before .before) in
+    rw (reads (c .before .before .before .before .before .before .before .before .before) .3 _, c .before .before .before .before .before .before .before .before .before .before .before .before .before .before .wide .ensures) (omega (arith, f .bytes-fit, f .buffer-high, small (c .before .before .before .before .before .before .before .before .before .before .before .before .before)))
 
--- src/arriving.rt:187:9
 element-write-w-3 : tie.Need-element-write-w-3
 element-write-w-3 c = search needs
 
--- src/arriving.rt:188:31
 add-handles : tie.Need-add-handles
 add-handles c = search needs
 
--- src/arriving.rt:188:25
 mul-handles : tie.Need-mul-handles
 mul-handles c = search needs
 
--- src/arriving.rt:188:25
 shared-slice-read-handles : tie.Need-shared-slice-read-handles
 shared-slice-read-handles c = search needs
 
--- src/arriving.rt:188:9
 mul-handles-2 : tie.Need-mul-handles-2
-mul-handles-2 c = ?
+mul-handles-2 c = omega (arith, tail-low (c .before .before .before), known (c .before .before .before .before .before .before .before .before .before .before .before .before .before .before .before .before .before .before .before .before .before .before) .slots-high)
 
--- src/arriving.rt:188:9
 slice-write-handles : tie.Need-slice-write-handles
-slice-write-handles c = ?
+slice-write-handles c = omega (arith, tail-low (c .before .before .before), c .before .before .before .before .before .before .before .before .before .before .before .before .before .before .before .before .before .before .before .before .before .before .pre .0 .1 .2)
 
--- src/arriving.rt:189:9
 mul-sizes : tie.Need-mul-sizes
-mul-sizes c = ?
+mul-sizes c = omega (arith, tail-low (c .before .before .before), known (c .before .before .before .before .before .before .before .before .before .before .before .before .before .before .before .before .before .before .before .before .before .before) .slots-high)
 
--- src/arriving.rt:189:9
 slice-write-sizes : tie.Need-slice-write-sizes
-slice-write-sizes c = ?
+slice-write-sizes c = omega (arith, tail-low (c .before .before .before), c .before .before .before .before .before .before .before .before .before .before .before .before .before .before .before .before .before .before .before .before .before .before .pre .0 .1 .3)
 
--- src/arriving.rt:148:1
 same-length : tie.Need-same-length
 same-length c = search needs
 
--- src/arriving.rt:148:1
 same-length-2 : tie.Need-same-length-2
 same-length-2 c = search needs
 
--- src/arriving.rt:148:1
 returns-3 : tie.Need-returns-3
-returns-3 c = ?
+unfolding stateOf
+returns-3 c =
+    let a = c .before .before .before .before .before .before .before .before .before .before .before .before .before .before .before .before .before .before .before .before .before .before in
+    let q = a .pre .0 in
+    let v = c .before .before .before .before .before .before .before .before .before .before in
+    let t = c .before .before .before .before .before .before .before .if3 .taken in
+    let e = ruled-place v in
+    let admits = admits-as (ruled a) (v .decide .result) e true t in
+    let made = arrival-made (stateOf (wordsAt a)) (rowOf (now (a .args .counts)) (a .args .flow)) (a .args .clock) (q .1 .1) (fits a) (now (a .args .handles)) (now (a .args .sizes)) (q .1 .2) (q .1 .3) (sizeAt a) (uAt a) (c .before .before .before .before .before .before .before .before .before .before .before .before .before .before .before .before .before .if1 .left) (right-size (c .before .before .before .before .before .before .before .before .before .before .before .before .before .before)) (omega (arith, q .2)) in
+    let words = entered-ok (wordsAt a) (v .decide .last .0) (q .1 .0) (a .args .clock) (sizeAt a) (uAt a) (v .decide .result) e (ruled-words v) t in
+    let counted = c .before .before .before .before .before .before .before .before .raise .ensures ∙ raised-for _ _ _ ((ruled a) .verdict) e in
+    let place = tail-place (c .before .before .before) in
+    rw made (e, rw (c .before .before .before .before .before .before .before .before .before .before .before .before .before .before .before .wide .ensures) words, counted, rw (admits, place), rw (admits, place))
 
--- src/arriving.rt:148:1
 returns-4 : tie.Need-returns-4
-returns-4 c = ?
+unfolding stateOf
+returns-4 c =
+    let a = c .before .before .before .before .before .before .before .before .before .before .before .before .before .before .before in
+    let q = a .pre .0 in
+    let v = c .before .before .before in
+    let t = c .if3 .left in
+    let e = ruled-place v in
+    let admits = admits-as (ruled a) (v .decide .result) e false t in
+    let made = arrival-made (stateOf (wordsAt a)) (rowOf (now (a .args .counts)) (a .args .flow)) (a .args .clock) (q .1 .1) (fits a) (now (a .args .handles)) (now (a .args .sizes)) (q .1 .2) (q .1 .3) (sizeAt a) (uAt a) (c .before .before .before .before .before .before .before .before .before .before .if1 .left) (right-size (c .before .before .before .before .before .before .before)) (omega (arith, q .2)) in
+    let words = turned-away (wordsAt a) (v .decide .last .0) (q .1 .0) (a .args .clock) (sizeAt a) (uAt a) (v .decide .result) e (ruled-words v) t in
+    let counted = c .before .raise .ensures ∙ raised-for _ _ _ ((ruled a) .verdict) e in
+    rw made (e, words, counted, rw admits, rw admits)
 
 pub arrive-spec : {M : Type 1} → statement M
 arrive-spec =

@@ -1,75 +1,86 @@
+-- `decide`: the first rule that holds.
 use borrow.Author.Needs.{needs}
 use Rattle.docsis_burst.proofs.arriving.decide.Statement.{statement}
 use Rattle.docsis_burst.proofs.arriving.decide.Tie as tie
-use Rattle.docsis_burst.proofs.arriving.decide.Reads as reads
-use Rattle.docsis_burst.proofs.arriving.decide.Lts as lts
-use Rattle.docsis_burst.proofs.arriving.clear.Reads as clear-reads
-use Rattle.docsis_burst.proofs.arriving.draw.Reads as draw-reads
-use Rattle.docsis_burst.proofs.arriving.rests.Reads as rests-reads
+use native.Mathlib.Omega.{arith}
+use denote.Ref.{now}
+use Rattle.docsis_flow.proofs.Facts.{Facts, facts}
+use Rattle.docsis_pie.specs.DropDecision.{cleared}
+use Rattle.docsis_capi.specs.Words.{pieOf, stateOf}
+use Rattle.docsis_burst.proofs.Decisions.{allowance-decides, awake-fits, awake-long, bytes-decide, drawn-decides, slots-decide, stays-decide}
+use Rattle.docsis_burst.proofs.Words.{pie-long}
 
--- src/arriving.rt:124:17
+known : (a : tie.Start) → Facts (stateOf (now (a .args .w)))
+known a = facts _ (a .pre .1)
+
 element-copy-out-bytes : tie.Need-element-copy-out-bytes
 element-copy-out-bytes c = search needs
 
--- src/arriving.rt:125:22
 element-copy-out-bytes-full : tie.Need-element-copy-out-bytes-full
 element-copy-out-bytes-full c = search needs
 
--- src/arriving.rt:125:29
 add-bytes-full : tie.Need-add-bytes-full
-add-bytes-full c = ?
+unfolding stateOf
+add-bytes-full c = let f = known (c .before .before) in omega (arith, f .bytes-fit, f .buffer-high, c .before .before .pre .2)
 
--- src/arriving.rt:127:9
 element-write-w : tie.Need-element-write-w
 element-write-w c = search needs
 
--- src/arriving.rt:128:9
 returns : tie.Need-returns
-returns c = ?
+returns c = let a = c .before .before .before in bytes-decide (now (a .args .w)) (a .pre .0) (a .args .size) (a .args .u) (c .if1 .taken)
 
--- src/arriving.rt:130:22
 element-copy-out-slots-full : tie.Need-element-copy-out-slots-full
 element-copy-out-slots-full c = search needs
 
--- src/arriving.rt:130:31
 element-copy-out-slots-full-2 : tie.Need-element-copy-out-slots-full-2
 element-copy-out-slots-full-2 c = search needs
 
--- src/arriving.rt:132:9
 element-write-w-2 : tie.Need-element-write-w-2
 element-write-w-2 c = search needs
 
--- src/arriving.rt:133:9
 returns-2 : tie.Need-returns-2
-returns-2 c = ?
+returns-2 c = let a = c .before .before .before .before .before .before in slots-decide (now (a .args .w)) (a .pre .0) (a .args .size) (a .args .u) (c .before .before .before .if1 .left) (c .if2 .taken)
 
--- src/arriving.rt:135:28
 element-copy-out-in-allowance : tie.Need-element-copy-out-in-allowance
 element-copy-out-in-allowance c = search needs
 
--- src/arriving.rt:137:9
 returns-3 : tie.Need-returns-3
-returns-3 c = ?
+returns-3 c =
+    let a = c .before .before .before .before .before .before .before .before in
+    allowance-decides (now (a .args .w)) (a .pre .0) (a .args .size) (a .args .u) (c .before .before .before .before .before .if1 .left) (c .before .before .if2 .left) (c .if3 .taken)
 
--- src/arriving.rt:139:5
 clear-requires : tie.Need-clear-requires
 clear-requires c κs = search needs
 
--- src/arriving.rt:140:9
 rests-requires : tie.Need-rests-requires
-rests-requires c κs = ?
+unfolding stateOf
+rests-requires c κs =
+    let a = c .before .before .before .before .before .before .before .before .before .before .before in
+    let f = known a in
+    (rw (c .before .clear .ensures) (pie-long (cleared (pieOf (now (a .args .w)))) (now (a .args .w)) (a .pre .0)), omega (arith, f .bytes-fit, f .buffer-high))
 
--- src/arriving.rt:142:9
 returns-4 : tie.Need-returns-4
-returns-4 c = ?
+returns-4 c =
+    let a = c .before .before .before .before .before .before .before .before .before .before .before .before .before in
+    let r = c .before .rests .ensures in
+    stays-decide (now (a .args .w)) (a .pre .0) (a .args .size) (a .args .u) (c .before .before .before .before .before .before .before .before .before .before .if1 .left) (c .before .before .before .before .before .before .before .if2 .left) (c .before .before .before .before .before .if3 .left) _ _ _ (c .before .before .before .clear .ensures) (r .0) (r .1) (c .if4 .taken)
 
--- src/arriving.rt:144:5
 draw-requires : tie.Need-draw-requires
-draw-requires c κs = ?
+unfolding stateOf
+draw-requires c κs =
+    let a = c .before .before .before .before .before .before .before .before .before .before .before .before .before .before in
+    let f = known a in
+    let r = c .before .before .rests .ensures in
+    let w = now (a .args .w) in (
+      (awake-long w (a .pre .0) (a .args .size) (a .args .u) (c .before .before .before .before .before .before .before .before .before .before .before .if1 .left) (c .before .before .before .before .before .before .before .before .if2 .left) (c .before .before .before .before .before .before .if3 .left) _ _ _ (c .before .before .before .before .clear .ensures) (r .0) (r .1) (c .before .if4 .left), a .pre .2),
+      awake-fits w (a .pre .0) (a .args .size) (a .args .u) (c .before .before .before .before .before .before .before .before .before .before .before .if1 .left) (c .before .before .before .before .before .before .before .before .if2 .left) (c .before .before .before .before .before .before .if3 .left) _ _ _ (c .before .before .before .before .clear .ensures) (r .0) (r .1) (c .before .if4 .left) (f .prob-high) (f .accumulated-high) (f .old-high),
+    )
 
--- src/arriving.rt:119:1
 returns-5 : tie.Need-returns-5
-returns-5 c = ?
+returns-5 c =
+    let a = c .before .before .before .before .before .before .before .before .before .before .before .before .before .before .before in
+    let r = c .before .before .before .rests .ensures in
+    drawn-decides (now (a .args .w)) (a .pre .0) (a .args .size) (a .args .u) (c .before .before .before .before .before .before .before .before .before .before .before .before .if1 .left) (c .before .before .before .before .before .before .before .before .before .if2 .left) (c .before .before .before .before .before .before .before .if3 .left) _ _ _ (c .before .before .before .before .before .clear .ensures) (r .0) (r .1) (c .before .before .if4 .left) _ _ (c .draw .ensures)
 
 pub decide-spec : {M : Type 1} → statement M
 decide-spec =

@@ -1,36 +1,31 @@
+-- `rests`: an inactive flow stays so, or becomes quiescent.
 use borrow.Author.Needs.{needs}
 use Rattle.docsis_burst.proofs.arriving.rests.Statement.{statement}
 use Rattle.docsis_burst.proofs.arriving.rests.Tie as tie
-use Rattle.docsis_burst.proofs.arriving.rests.Reads as reads
-use Rattle.docsis_burst.proofs.arriving.rests.Lts as lts
+use mathlib.Core.Path.{refl}
+use denote.Ref.{now}
+use Rattle.docsis_burst.proofs.Words.{pie-same, woken-words}
 
--- src/arriving.rt:49:18
 element-copy-out-sleeps : tie.Need-element-copy-out-sleeps
 element-copy-out-sleeps c = search needs
 
--- src/arriving.rt:51:21
 mul-stays : tie.Need-mul-stays
 mul-stays c = search needs
 
--- src/arriving.rt:51:33
 element-copy-out-stays : tie.Need-element-copy-out-stays
 element-copy-out-stays c = search needs
 
--- src/arriving.rt:53:13
 returns : tie.Need-returns
-returns c = ?
+returns c = let a = c .before .before .before .before .before in rw (c .before .before .if1 .taken, c .if2 .taken) (refl, pie-same (now (a .args .w)) (a .pre .0))
 
--- src/arriving.rt:55:9
 element-write-w : tie.Need-element-write-w
 element-write-w c = search needs
 
--- src/arriving.rt:43:1
 returns-2 : tie.Need-returns-2
-returns-2 c = ?
+returns-2 c = let a = c .before .before .before .before .before in rw (c .before .before .if1 .taken, c .if2 .left) (refl, woken-words (now (a .args .w)) (a .pre .0))
 
--- src/arriving.rt:43:1
 returns-3 : tie.Need-returns-3
-returns-3 c = ?
+returns-3 c = let a = c .before .before .before in rw (c .if1 .left) (refl, pie-same (now (a .args .w)) (a .pre .0))
 
 pub rests-spec : {M : Type 1} → statement M
 rests-spec =

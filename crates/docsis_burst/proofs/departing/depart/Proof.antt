@@ -1,104 +1,138 @@
+-- `depart`: the tests in their order, then the words in which the new state differs.
 use borrow.Author.Needs.{needs}
 use Rattle.docsis_burst.proofs.departing.depart.Statement.{statement}
 use Rattle.docsis_burst.proofs.departing.depart.Tie as tie
-use Rattle.docsis_burst.proofs.departing.depart.Reads as reads
-use Rattle.docsis_burst.proofs.departing.depart.Lts as lts
-use Rattle.docsis_burst.proofs.numbers.wide.Reads as wide-reads
-use Rattle.docsis_burst.proofs.numbers.word.Reads as word-reads
-use Rattle.refusals.proofs.wrong_head.Reads as wrong-head-reads
-use Rattle.ring.proofs.place.Reads as place-reads
+use mathlib.Core.Path.{_≡_, refl, sym, _∙_}
+use mathlib.Core.Bool.{false}
+use mathlib.Core.Logic.{_≢_}
+use Prim.Native.Nat.{ℕ}
+use native.Mathlib.Omega.{arith}
+use lib.ListN.{getD}
+use denote.Ref.{now}
+use borrow.Author.Tests.{eqb-false}
+use Rattle.refusals.specs.Tests.{headRefused}
+use Rattle.refusals.proofs.Fitting.{HeadFits, head-fits}
+use Rattle.docsis_flow.specs.Departure.{headOf}
+use Rattle.docsis_flow.proofs.Facts.{Facts, facts}
+use Rattle.docsis_capi.specs.Words.{stateOf}
+use Rattle.docsis_capi.proofs.Changed.{kept}
+use Rattle.docsis_burst.proofs.Replies.{departure-empty, departure-late, departure-made, departure-wrong}
+use Rattle.docsis_burst.proofs.Words.{departed-words}
 
--- src/departing.rt:25:32
+known : (a : tie.Start) → Facts (stateOf (now (a .args .w)))
+known a = facts _ (a .pre .1)
+
+some : (c : tie.Else2) → getD (now (c .before .before .before .before .before .before .before .args .w)) 14 0 ≢ 0
+some c = eqb-false _ _ (c .if2 .left)
+
+-- the head's size, once it is known to fit
+abbrev sizeAt : tie.Start → ℕ
+sizeAt a = headOf (stateOf (now (a .args .w))) (now (a .args .sizes))
+
+not-wrong : (c : tie.Else3) → headRefused (stateOf (now (c .before .before .before .before .before .before .before .before .before .before .before .before .args .w)) .backlog) (sizeAt (c .before .before .before .before .before .before .before .before .before .before .before .before)) ≡ false
+unfolding stateOf
+not-wrong c = sym (rw (c .before .before .wide .ensures) at (c .before .wrong-head .ensures)) ∙ c .if3 .left
+
+fit : (c : tie.Else3) → HeadFits (stateOf (now (c .before .before .before .before .before .before .before .before .before .before .before .before .args .w)) .backlog) (sizeAt (c .before .before .before .before .before .before .before .before .before .before .before .before))
+fit c = head-fits _ _ (not-wrong c)
+
 element-copy-out-wrong-clock : tie.Need-element-copy-out-wrong-clock
 element-copy-out-wrong-clock c = search needs
 
--- src/departing.rt:27:9
 returns : tie.Need-returns
-returns c = ?
+unfolding stateOf
+returns c =
+    let q = c .before .before .before .before .pre in
+    λ row fits. rw (departure-late _ row _ (q .1) fits _ _ (q .2) (q .3) (c .if1 .taken)) (refl, kept _ _ (refl, q .0))
 
--- src/departing.rt:29:17
 element-copy-out-count : tie.Need-element-copy-out-count
 element-copy-out-count c = search needs
 
--- src/departing.rt:30:17
 element-copy-out-bytes : tie.Need-element-copy-out-bytes
 element-copy-out-bytes c = search needs
 
--- src/departing.rt:33:9
 returns-2 : tie.Need-returns-2
-returns-2 c = ?
+unfolding stateOf
+returns-2 c =
+    let q = c .before .before .before .before .before .before .before .pre in
+    λ row fits. rw (departure-empty _ row _ (q .1) fits _ _ (q .2) (q .3) (c .before .before .before .if1 .left) (c .if2 .taken)) (refl, kept _ _ (refl, q .0))
 
--- src/departing.rt:35:17
 element-copy-out-first : tie.Need-element-copy-out-first
 element-copy-out-first c = search needs
 
--- src/departing.rt:37:16
 mul-head : tie.Need-mul-head
-mul-head c = ?
+unfolding stateOf
+mul-head c = let f = known (c .before .before .before .before .before .before .before .before) in omega (arith, f .first-high, f .slots-high)
 
--- src/departing.rt:37:16
 shared-slice-read-head : tie.Need-shared-slice-read-head
-shared-slice-read-head c = ?
+unfolding stateOf
+shared-slice-read-head c = let f = known (c .before .before .before .before .before .before .before .before .before) in omega (arith, f .first-high, c .before .before .before .before .before .before .before .before .before .pre .3)
 
--- src/departing.rt:38:9
 wide-requires : tie.Need-wide-requires
 wide-requires c κs = search needs
 
--- src/departing.rt:43:9
 wrong-head-requires : tie.Need-wrong-head-requires
-wrong-head-requires c κs = ?
+unfolding stateOf
+wrong-head-requires c κs =
+    let n = some (c .before .before .before) in
+    let f = known (c .before .before .before .before .before .before .before .before .before .before) in omega (arith, f .count-high, f .slots-high)
 
--- src/departing.rt:45:9
 returns-3 : tie.Need-returns-3
-returns-3 c = ?
+unfolding stateOf
+returns-3 c =
+    let q = c .before .before .before .before .before .before .before .before .before .before .before .before .pre in
+    let wrong = sym (rw (c .before .before .wide .ensures) at (c .before .wrong-head .ensures)) ∙ c .if3 .taken in
+    λ row fits.
+    rw (departure-wrong _ row _ (q .1) fits _ _ (q .2) (q .3) (c .before .before .before .before .before .before .before .before .if1 .left) (c .before .before .before .before .before .if2 .left) wrong) (refl, kept _ _ (refl, q .0))
 
--- src/departing.rt:47:18
 mul-handle : tie.Need-mul-handle
-mul-handle c = ?
+unfolding stateOf
+mul-handle c = let f = known (c .before .before .before .before .before .before .before .before .before .before .before .before) in omega (arith, f .first-high, f .slots-high)
 
--- src/departing.rt:47:18
 shared-slice-read-handle : tie.Need-shared-slice-read-handle
-shared-slice-read-handle c = ?
+unfolding stateOf
+shared-slice-read-handle c = let f = known (c .before .before .before .before .before .before .before .before .before .before .before .before .before) in omega (arith, f .first-high, c .before .before .before .before .before .before .before .before .before .before .before .before .before .pre .2)
 
--- src/departing.rt:48:32
 element-copy-out-place : tie.Need-element-copy-out-place
 element-copy-out-place c = search needs
 
--- src/departing.rt:48:9
 place-requires : tie.Need-place-requires
-place-requires c κs = ?
+unfolding stateOf
+place-requires c κs = let f = known (c .before .before .before .before .before .before .before .before .before .before .before .before .before .before) in (f .first-high, f .slots-low, f .slots-high)
 
--- src/departing.rt:49:5
 element-write-w : tie.Need-element-write-w
 element-write-w c = search needs
 
--- src/departing.rt:50:5
 element-write-w-2 : tie.Need-element-write-w-2
 element-write-w-2 c = search needs
 
--- src/departing.rt:51:13
 sub-w : tie.Need-sub-w
-sub-w c = ?
+sub-w c = let n = some (c .before .before .before .before .before .before .before .before) in omega arith
 
--- src/departing.rt:51:5
 element-write-w-3 : tie.Need-element-write-w-3
 element-write-w-3 c = search needs
 
--- src/departing.rt:52:13
 sub-w-2 : tie.Need-sub-w-2
-sub-w-2 c = ?
+unfolding stateOf
+sub-w-2 c = rw (c .before .before .before .before .before .wide .ensures) (fit (c .before .before .before) .fits)
 
--- src/departing.rt:52:5
 element-write-w-4 : tie.Need-element-write-w-4
 element-write-w-4 c = search needs
 
--- src/departing.rt:53:5
 word-requires : tie.Need-word-requires
-word-requires c κs = ?
+unfolding stateOf
+word-requires c κs = (omega arith, fit (c .before .before .before) .high)
 
--- src/departing.rt:19:1
 returns-4 : tie.Need-returns-4
-returns-4 c = ?
+unfolding stateOf
+returns-4 c =
+    let a = c .before .before .before .before .before .before .before .before .before .before .before .before .before .before .before .before in
+    let q = a .pre in
+    let w = now (a .args .w) in
+    let words = departed-words (a .args .clock) (sizeAt a) w (q .0) in
+    λ row fits.
+    rw (departure-made _ row _ (q .1) fits _ _ (q .2) (q .3) (c .before .before .before .before .before .before .before .before .before .before .before .before .if1 .left) (c .before .before .before .before .before .before .before .before .before .if2 .left) (not-wrong (c .before .before .before .before)))
+    (c .word .ensures, rw (c .before .place .ensures, c .before .before .before .before .before .before .wide .ensures) words)
 
 pub depart-spec : {M : Type 1} → statement M
 depart-spec =
