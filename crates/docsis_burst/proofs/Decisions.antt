@@ -138,13 +138,14 @@ module _ (w : List ℕ) (long : length w ≡ 16) (size u : ℕ) where
         pub stays-decide : stays ≡ true → Decides 0 d
         unfolding stateOf decisionOf decided
         stays-decide e =
-            rw (fit, free, spent, sym stays-as ∙ e)
-            (refl,
-            ed
-            ∙ ap (λ (b : Bool). pieWords c (cond b (pieOf c) (woken (pieOf c)))) e
-            ∙ ap (λ (q : DocsisPie). pieWords c q) cleared-pie
-            ∙ ap (λ (l : List ℕ). pieWords l (cleared (pieOf w))) ec
-            ∙ pie-twice (cleared (pieOf w)) (cleared (pieOf w)) w long)
+            rw (fit, free, spent, sym stays-as ∙ e) (
+              refl,
+              ed
+                  ∙ ap (λ (b : Bool). pieWords c (cond b (pieOf c) (woken (pieOf c)))) e
+                  ∙ ap (λ (q : DocsisPie). pieWords c q) cleared-pie
+                  ∙ ap (λ (l : List ℕ). pieWords l (cleared (pieOf w))) ec
+                  ∙ pie-twice (cleared (pieOf w)) (cleared (pieOf w)) w long,
+            )
 
         module _ (wakes : stays ≡ false) where
           abbrev awake : DocsisPie
@@ -180,12 +181,13 @@ module _ (w : List ℕ) (long : length w ≡ 16) (size u : ℕ) where
           unfolding stateOf decisionOf decided
           drawn-decides place after (e, f) =
               let r = ruled (getD d 7 0) (pieOf d) (getD d 0 0) in
-              rw (fit, free, spent, sym stays-as ∙ wakes)
-              (e ∙ ap (λ (x : Decided). placeOf (x .verdict)) ruled-same,
-              f
-              ∙ ap (λ (l : List ℕ). pieWords l (r .pie)) awake-words
-              ∙ pie-twice awake (r .pie) w long
-              ∙ ap (λ (x : Decided). pieWords w (x .pie)) ruled-same)
+              rw (fit, free, spent, sym stays-as ∙ wakes) (
+                e ∙ ap (λ (x : Decided). placeOf (x .verdict)) ruled-same,
+                f
+                    ∙ ap (λ (l : List ℕ). pieWords l (r .pie)) awake-words
+                    ∙ pie-twice awake (r .pie) w long
+                    ∙ ap (λ (x : Decided). pieWords w (x .pie)) ruled-same,
+              )
 
           -- what the rules are given
           pub awake-long : length d ≡ 16

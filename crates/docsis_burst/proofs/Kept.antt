@@ -76,9 +76,10 @@ module _ (flow : ℕ) (counts : List (List ℕ)) (s : State) where
   accepted-keeps : (c : flow-calls.Call) → Keeps (acceptance s c)
   unfolding arrivedState departedState tickedState countsAfter
   accepted-keeps (flow-calls.arrive row handles sizes clock handle size u) =
-      let v = (decisionOf s size u) .verdict in
-      (refl,
-      row-set (λ (r : List ℕ). total r ≤ total (rowOf counts flow) + 1) counts flow (raised (rowOf counts flow) v) (omega arith) (total-raised (rowOf counts flow) v))
+      let v = (decisionOf s size u) .verdict in (
+        refl,
+        row-set (λ (r : List ℕ). total r ≤ total (rowOf counts flow) + 1) counts flow (raised (rowOf counts flow) v) (omega arith) (total-raised (rowOf counts flow) v),
+      )
   accepted-keeps (flow-calls.depart row handles sizes clock) = (refl, omega arith)
   accepted-keeps (flow-calls.update row clock credits) = (refl, omega arith)
 
@@ -118,13 +119,14 @@ ready-kept flow q (calls.asked r) n (f, (l, good, h, z), room) =
     let k = reply-keeps flow (q .counts) s c in
     let own = own-reply flow q r f in
     let left : stateOf (after flow q (calls.asked r) .words) ≡ a .state =
-        back _ ∙ state-left flow q r (replyTo flow q r) ∙ ap (λ (m : ModemReply). m .state) own in
+    back _ ∙ state-left flow q r (replyTo flow q r) ∙ ap (λ (m : ModemReply). m .state) own in
     let counted : after flow q (calls.asked r) .counts ≡ countsAfter (q .counts) flow (a .answer) = ap (λ (m : ModemReply). m .counts) own in
     let slots : a .state .settings .slots ≡ s .settings .slots = ap (λ (x : Settings). x .slots) (k .0) in
-    let long = after-long flow q (calls.asked r) in
-    (f,
-    (sixteen _, rw left (reply-formed s good c), long .0 ∙ h ∙ sym slots ∙ ap (λ (x : State). x .settings .slots) (sym left), long .1 ∙ z ∙ sym slots ∙ ap (λ (x : State). x .settings .slots) (sym left)),
-    rw counted (omega (arith, k .1, room)))
+    let long = after-long flow q (calls.asked r) in (
+      f,
+      (sixteen _, rw left (reply-formed s good c), long .0 ∙ h ∙ sym slots ∙ ap (λ (x : State). x .settings .slots) (sym left), long .1 ∙ z ∙ sym slots ∙ ap (λ (x : State). x .settings .slots) (sym left)),
+      rw counted (omega (arith, k .1, room)),
+    )
 ready-kept flow q calls.unknown n (f, fit, room) = (f, fit, omega arith)
 
 -- enough for one, where there is enough for more

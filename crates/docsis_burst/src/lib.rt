@@ -221,7 +221,14 @@ pub extern "C" fn obikuteru_modem_calls(
     if !fit {
         return 120;
     }
-    let ahead = ready(words, counts, flow, handles.len() as u64, sizes.len() as u64, n as u64);
+    let ahead = ready(
+        words,
+        counts,
+        flow,
+        handles.len() as u64,
+        sizes.len() as u64,
+        n as u64,
+    );
     if ahead {
         all_known(words, counts, flow, handles, sizes, calls, answers);
         return 0;

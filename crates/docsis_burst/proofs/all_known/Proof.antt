@@ -36,7 +36,7 @@ mul-known c = omega (arith, c .before .before .before .before .before .before .b
 known-requires : tie.Need-known-requires Inv-loop μ-loop
 known-requires c κs =
     let l = c .before .before .before .before .before .loop in
-    (ready-one (l .flow) (lent (l .words) (l .counts) (l .handles) (l .sizes)) _ (omega (arith, l .inv .1, c .before .before .before .before .loop-test .taken)) (l .inv .5), omega (arith, c .before .before .before .before .before .before .before .before .before .before .pre .1, l .inv .1))
+    (ready-one (c .before .before .before .before .before .before .before .before .before .before .args .flow) (lent (l .words) (l .counts) (l .handles) (l .sizes)) _ (omega (arith, l .inv .1, c .before .before .before .before .loop-test .taken)) (l .inv .5), omega (arith, c .before .before .before .before .before .before .before .before .before .before .pre .1, l .inv .1))
 
 mul-answers : tie.Need-mul-answers Inv-loop μ-loop
 mul-answers c = omega arith
@@ -59,8 +59,7 @@ loop-again c =
     let calls = now (a .args .calls) in
     let given = lent (l .words) (l .counts) (l .handles) (l .sizes) in
     let long = after-long flow given (callAt calls (6 * l .i)) in
-    let n = length (now (a .args .answers)) in
-    (
+    let n = length (now (a .args .answers)) in (
       omega (arith, l .inv .1, c .before .before .before .before .before .before .before .before .before .loop-test .taken),
       length-set (l .answers) (l .i) (k .result) ∙ l .inv .1,
       ap (λ (q : Lent). length (q .handles)) (k .ensures .1) ∙ long .0 ∙ l .inv .2,

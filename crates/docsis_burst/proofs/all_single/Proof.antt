@@ -52,8 +52,7 @@ loop-again c =
     let flow = a .args .flow in
     let calls = now (a .args .calls) in
     let given = lent (l .words) (l .counts) (l .handles) (l .sizes) in
-    let long = after-long flow given (callAt calls (6 * l .i)) in
-    (
+    let long = after-long flow given (callAt calls (6 * l .i)) in (
       omega (arith, l .inv .1, c .before .before .before .before .before .before .before .before .before .loop-test .taken),
       length-set (l .answers) (l .i) (k .result) ∙ l .inv .1,
       ap (λ (q : Lent). length (q .handles)) (k .ensures .1) ∙ long .0 ∙ l .inv .2,

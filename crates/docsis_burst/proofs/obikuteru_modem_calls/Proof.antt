@@ -1,59 +1,66 @@
+-- `obikuteru_modem_calls`: both ways are the burst.
 use borrow.Author.Needs.{needs}
 use Rattle.docsis_burst.proofs.obikuteru_modem_calls.Statement.{statement}
 use Rattle.docsis_burst.proofs.obikuteru_modem_calls.Tie as tie
-use Rattle.docsis_burst.proofs.obikuteru_modem_calls.Reads as reads
-use Rattle.docsis_burst.proofs.obikuteru_modem_calls.Lts as lts
-use Rattle.docsis_burst.proofs.all_known.Reads as all-known-reads
-use Rattle.docsis_burst.proofs.all_single.Reads as all-single-reads
-use Rattle.docsis_burst.proofs.ready.Reads as ready-reads
+use mathlib.Core.Path.{_≡_, refl}
+use mathlib.Core.Bool.{true}
+use Prim.Native.Nat.{_*_, _/_, _%_}
+use native.Mathlib.Nat.{mod-add-div}
+use native.Mathlib.Omega.{arith}
+use lib.Dec.{eqb}
+use lib.ListN.{length}
+use denote.Ref.{now}
+use borrow.Author.Tests.{eqb-true, not-false, not-true}
+use Rattle.laws.proofs.Tests.{and-left, and-right}
+use Rattle.docsis_burst.specs.Burst.{fits}
 
--- src/lib.rt:222:9
+fit : (c : tie.Else1) → fits (now (c .before .before .before .before .before .args .calls)) (now (c .before .before .before .before .before .args .answers)) ≡ true
+fit c = not-false _ (c .if1 .left)
+
+six : (c : tie.Else1) → length (now (c .before .before .before .before .before .args .calls)) ≡ 6 * length (now (c .before .before .before .before .before .args .answers))
+six c =
+    let n = length (now (c .before .before .before .before .before .args .calls)) in
+    let whole : n % 6 ≡ 0 = eqb-true _ _ (and-left (eqb (n % 6) 0) _ (fit c)) in
+    let each : n / 6 ≡ length (now (c .before .before .before .before .before .args .answers)) = eqb-true _ _ (and-right (eqb (n % 6) 0) _ (fit c)) in
+    omega (arith, mod-add-div n 6)
+
 returns : tie.Need-returns
-returns c = ?
+returns c =
+    let a = c .before .before .before .before .before in
+    let e = not-true (fits (now (a .args .calls)) (now (a .args .answers))) (c .if1 .taken) in rw e (refl, refl)
 
--- src/lib.rt:224:9
 ready-requires : tie.Need-ready-requires
 ready-requires c κs = search needs
 
--- src/lib.rt:226:9
 all-known-requires : tie.Need-all-known-requires
-all-known-requires c κs = ?
+all-known-requires c κs = (c .before .before .before .before .before .before .ready .ensures (c .before .before .before .before .before .if2 .taken), six (c .before .before .before .before .before .before .before .before .before))
 
--- src/lib.rt:227:9
 same-length : tie.Need-same-length
 same-length c = search needs
 
--- src/lib.rt:227:9
 same-length-2 : tie.Need-same-length-2
 same-length-2 c = search needs
 
--- src/lib.rt:227:9
 same-length-3 : tie.Need-same-length-3
 same-length-3 c = search needs
 
--- src/lib.rt:227:9
 returns-2 : tie.Need-returns-2
-returns-2 c = ?
+returns-2 c = rw (fit (c .before .before .before .before .before .before .before .before .before .before .before .before .before .before .before .before)) (refl, c .before .before .before .before .before .before .all-known .ensures)
 
--- src/lib.rt:229:5
 all-single-requires : tie.Need-all-single-requires
-all-single-requires c κs = ?
+all-single-requires c κs = six (c .before .before .before .before .before .before .before .before .before)
 
--- src/lib.rt:204:1
 same-length-4 : tie.Need-same-length-4
 same-length-4 c = search needs
 
--- src/lib.rt:204:1
 same-length-5 : tie.Need-same-length-5
 same-length-5 c = search needs
 
--- src/lib.rt:204:1
 same-length-6 : tie.Need-same-length-6
 same-length-6 c = search needs
 
--- src/lib.rt:204:1
 returns-3 : tie.Need-returns-3
-returns-3 c = ?
+returns-3 c = rw (fit (c .before .before .before .before .before .before .before .before .before .before .before .before .before .before .before .before)) (refl, c .before .before .before .before .before .before .all-single .ensures)
 
 pub obikuteru-modem-calls-spec : {M : Type 1} → statement M
 obikuteru-modem-calls-spec =
