@@ -8,6 +8,7 @@ use lib.ListN.{getD}
 use borrow.Author.Tests.{leb-true, ltb-true}
 use Rattle.laws.proofs.Tests.{and-left, and-right}
 use Rattle.schedule.specs.Choosing.{choose, chooseIn, look}
+use Rattle.schedule.specs.Entering.{entered}
 use Rattle.schedule.specs.Ring.{deficitOf, occurs, ringOf, zeroDeficit}
 use Rattle.schedule.specs.WellFormed.{areFlows, every, wellListed}
 use Rattle.schedule_guarantees.specs.Stretch.{AllFit, AtEach, Event, Fits, HasPackets, Line, Waits, after, arrives, departs, served}
@@ -65,8 +66,9 @@ waits flow a b c =
 -- ── the stretch ──
 
 pub fairness-reached : FairnessReached
-unfolding after served choose chooseIn look occurs ringOf areFlows every wellListed
+unfolding after served choose chooseIn look entered occurs ringOf areFlows every wellListed
 fairness-reached = (
+  refl,
   record { counts-long = refl; order-long = refl; deficits-long = refl; well = refl },
   all-fit 65535 departures refl,
   waits 0 refl refl refl,

@@ -22,6 +22,7 @@ pub mod Before
 pub mod Levels
 pub mod Fairness
 pub mod FairnessReached
+pub mod Owing
 pub mod Shares
 pub mod NeverStarved
 pub mod TwiceAsMuch

@@ -23,6 +23,8 @@ pub record Moved (counts : List ℕ) (l m : TwoLists) : Type 0 where
   pub kept : (j : ℕ) → (getD counts j 0 ≡ 0 → ⊥) → listed j m ≡ listed j l
   -- deficits stay in range
   pub in-range : ((j : ℕ) → getD (l .deficits) j 0 ≤ highest) → (j : ℕ) → getD (m .deficits) j 0 ≤ highest
+  -- and none falls
+  pub no-less : (j : ℕ) → getD (l .deficits) j 0 ≤ getD (m .deficits) j 0
 
 pub record Served (counts : List ℕ) (l : TwoLists) (flow : ℕ) : Type 0 where
   pub is-listed : 1 ≤ listed flow l
@@ -42,6 +44,13 @@ raised-range ds i h low r j = go (eqb j i) refl
     go true e = rw (eqb-true j i e, getD-set-same ds i (getD ds i 0 + quantum) 0 h) (omega arith)
     go false e = rw (getD-set-other ds i j (getD ds i 0 + quantum) 0 (eqb-false j i e)) (r j)
 
+raised-no-less : (ds : List ℕ) (i : ℕ) → i < length ds → (j : ℕ) → getD ds j 0 ≤ getD (raised ds i) j 0
+raised-no-less ds i h j = go (eqb j i) refl
+  where
+    go : (b : Bool) → eqb j i ≡ b → getD ds j 0 ≤ getD (set ds i (getD ds i 0 + quantum)) j 0
+    go true e = rw (eqb-true j i e, getD-set-same ds i (getD ds i 0 + quantum) 0 h) (omega arith)
+    go false e = rw (getD-set-other ds i j (getD ds i 0 + quantum) 0 (eqb-false j i e)) (omega arith)
+
 -- each flow once, and each has a deficit
 pub record Proper (l : TwoLists) : Type 0 where
   pub once : (j : ℕ) → listed j l ≤ 1
@@ -60,9 +69,10 @@ module _ (counts : List ℕ) (flow : ℕ) (rest old ds : List ℕ) (p : Proper (
   moved : (ds′ : List ℕ) → length ds′ ≡ length ds → oldWeight counts ds′ flow + 1 ≡ newWeight counts ds flow →
       ((j : ℕ) → (j ≡ flow → ⊥) → newWeight counts ds′ j ≡ newWeight counts ds j) →
       ((j : ℕ) → (j ≡ flow → ⊥) → oldWeight counts ds′ j ≡ oldWeight counts ds j) →
-      (((j : ℕ) → getD ds j 0 ≤ highest) → (j : ℕ) → getD ds′ j 0 ≤ highest) → Moved counts was (lists rest (old ++ flow ∷ []) ds′)
+      (((j : ℕ) → getD ds j 0 ≤ highest) → (j : ℕ) → getD ds′ j 0 ≤ highest) → ((j : ℕ) → getD ds j 0 ≤ getD ds′ j 0) →
+      Moved counts was (lists rest (old ++ flow ∷ []) ds′)
   unfolding movesLeft
-  moved ds′ e w new-others old-others range =
+  moved ds′ e w new-others old-others range rises =
       record {
         fewer = omega (
           arith,
@@ -76,6 +86,7 @@ module _ (counts : List ℕ) (flow : ℕ) (rest old ds : List ℕ) (p : Proper (
         no-more = λ j. omega (arith, occurs-end flow j old, occurs-head flow j rest);
         kept = λ j h. omega (arith, occurs-end flow j old, occurs-head flow j rest);
         in-range = range;
+        no-less = rises;
       }
 
   at-new : flow < length ds → Finds counts was (atNewHead counts flow rest old ds)
@@ -84,7 +95,7 @@ module _ (counts : List ℕ) (flow : ℕ) (rest old ds : List ℕ) (p : Proper (
       go2 : (e : Bool) → hasNone counts flow ≡ e → zeroDeficit ≤ getD ds flow 0 →
           Finds counts was (cond e (goesOn (lists rest (old ++ flow ∷ []) ds)) (takes flow))
       go2 true q d =
-          moved ds refl (new-emptied counts ds flow d (eqb-true (getD counts flow 0) 0 q)) (λ j n. refl) (λ j n. refl) (λ r. r)
+          moved ds refl (new-emptied counts ds flow d (eqb-true (getD counts flow 0) 0 q)) (λ j n. refl) (λ j n. refl) (λ r. r) (λ j. omega arith)
       go2 false q d =
           record {
             is-listed = omega (arith, occurs-head flow flow rest, occurs-self flow);
@@ -99,6 +110,7 @@ module _ (counts : List ℕ) (flow : ℕ) (rest old ds : List ℕ) (p : Proper (
           let low = ltb-true (getD ds flow 0) zeroDeficit q in
           moved (raised ds flow) (length-set ds flow (getD ds flow 0 + quantum)) (new-raised counts ds flow h low)
           (new-same counts ds flow (getD ds flow 0 + quantum)) (old-same counts ds flow (getD ds flow 0 + quantum)) (raised-range ds flow h low)
+          (raised-no-less ds flow h)
       go false q = go2 (hasNone counts flow) refl (ltb-false (getD ds flow 0) zeroDeficit q)
 
 module _ (counts : List ℕ) (flow : ℕ) (rest ds : List ℕ) (p : Proper (lists [] (flow ∷ rest) ds)) where
@@ -126,6 +138,7 @@ module _ (counts : List ℕ) (flow : ℕ) (rest ds : List ℕ) (p : Proper (list
         no-more = λ j. omega (arith, occurs-end flow j rest, occurs-head flow j rest);
         kept = λ j k. omega (arith, occurs-end flow j rest, occurs-head flow j rest);
         in-range = raised-range ds flow h low;
+        no-less = raised-no-less ds flow h;
       }
 
   -- emptied: it leaves
@@ -137,6 +150,7 @@ module _ (counts : List ℕ) (flow : ℕ) (rest ds : List ℕ) (p : Proper (list
         long = refl;
         no-more = λ j. omega (arith, occurs-head flow j rest);
         in-range = λ r. r;
+        no-less = λ j. omega arith;
         kept = λ j k. omega (arith, occurs-head flow j rest, occurs-other flow j (λ e. k (ap (λ i. getD counts i 0) (sym e) ∙ no-packet)));
       }
 

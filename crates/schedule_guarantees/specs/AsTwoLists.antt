@@ -1,14 +1,15 @@
--- A look at the ring is a look at its new and its old list, by rule 26's own words; so is choosing, with any number of looks.
+-- The ring is its new and its old list: a look at it is a look at these, by rule 26's own words; so is choosing, with any number of looks;
+-- and so is an admitted packet, by rule 25's.
 use mathlib.Core.Path.{_≡_}
 use mathlib.Core.Bool.{true}
 use mathlib.Core.List.{List}
-use Prim.Native.Nat.{ℕ}
+use Prim.Native.Nat.{ℕ, _<_}
 use lib.ListN.{length}
 use Rattle.schedule.specs.Choosing.{Choice, Look, chooseIn, look, moves, nobody, serves}
 use Rattle.schedule.specs.Ring.{Schedule, newList, oldList}
 use Rattle.schedule.specs.WellFormed.{wellListed}
-use Rattle.schedule_guarantees.specs.Kept.{Sound}
-use Rattle.schedule_guarantees.specs.TwoLists.{Found, Served, TwoLists, found, goesOn, lists, none, serveIn, servedBy, takes}
+use Rattle.schedule_guarantees.specs.Kept.{Sound, arrived}
+use Rattle.schedule_guarantees.specs.TwoLists.{Found, Served, TwoLists, admittedTo, found, goesOn, lists, none, serveIn, servedBy, takes}
 
 abbrev pub twoLists : Schedule → TwoLists
 twoLists s = lists (newList s) (oldList s) (s .deficits)
@@ -30,3 +31,7 @@ abbrev pub ChoosesAsTwoLists : Type 0
 ChoosesAsTwoLists =
     (looks : ℕ) (counts : List ℕ) (s : Schedule) → Sound counts s →
     asServed (chooseIn looks counts s) ≡ serveIn looks counts (twoLists s)
+
+abbrev pub EntersAsTwoLists : Type 0
+EntersAsTwoLists =
+    (counts : List ℕ) (s : Schedule) (flow : ℕ) → Sound counts s → flow < 64 → twoLists (arrived s flow) ≡ admittedTo flow (twoLists s)

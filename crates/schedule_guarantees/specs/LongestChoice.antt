@@ -1,4 +1,4 @@
--- 26: 2,879 moves do happen. All 64 flows stand in the new list, each with a deficit of −65,535, and only flow 63 has a packet.
+-- 26: 2,879 moves do happen, in well-formed lists. All 64 flows stand in the new list, each with a deficit of −65,535, and only flow 63 has a packet.
 use mathlib.Core.Path.{_≡_}
 use mathlib.Core.List.{List, [], _∷_, _++_}
 use Prim.Native.Nat.{ℕ, zero, suc}
@@ -6,6 +6,7 @@ use lib.ListN.{replicate}
 use Rattle.schedule.specs.Choosing.{choose, chooseIn, mostLooks}
 use Rattle.schedule.specs.Ring.{Schedule, scheduleOf}
 use Rattle.schedule_guarantees.specs.ChoosingEnds.{movesIn}
+use Rattle.schedule_guarantees.specs.Kept.{Sound}
 
 -- 0, 1, .., n − 1
 abbrev upTo : (n : ℕ) → List ℕ
@@ -21,6 +22,7 @@ lastOnly = replicate 63 0 ++ 1 ∷ []
 -- with 2,879 looks the flow is not found; with 2,880 it is
 abbrev pub LongestChoice : Type 0
 LongestChoice =
-    (movesIn mostLooks lastOnly longest ≡ 2879)
+    Sound lastOnly longest
+    × (movesIn mostLooks lastOnly longest ≡ 2879)
     × (chooseIn 2879 lastOnly longest .flow ≡ 0)
     × (choose lastOnly longest .flow ≡ 63)

@@ -1,4 +1,4 @@
--- 26 on two plain lists of flows, with no ring: the order of service, and what a look at a head leads to.
+-- 25 and 26 on two plain lists of flows, with no ring: the order of service, what a look at a head leads to, and where a flow enters.
 use mathlib.Core.Bool.{Bool, cond}
 use mathlib.Core.List.{List, [], _∷_, _++_}
 use Prim.Native.Nat.{ℕ, zero, suc, _+_}
@@ -59,6 +59,11 @@ found counts l = foundNew counts (l .deficits) (l .old) (l .new)
 -- how often a flow is listed
 abbrev pub listed : (flow : ℕ) → TwoLists → ℕ
 listed flow l = occurs flow (l .new) + occurs flow (l .old)
+
+-- 25: a packet is admitted to a flow. One in neither list goes to the end of the new list, with one quantum; a listed one stays as it is
+abbrev pub admittedTo : (flow : ℕ) → TwoLists → TwoLists
+admittedTo flow l =
+    cond (eqb (listed flow l) 0) (lists (l .new ++ flow ∷ []) (l .old) (set (l .deficits) flow (zeroDeficit + quantum))) l
 
 -- ── choosing ──
 
