@@ -104,7 +104,7 @@ backlog-bytes : (t : Bool) (b : Backlog) (size : ℕ) → (cond t (entered b siz
 backlog-bytes true b size = refl
 backlog-bytes false b size = refl
 
-arrived-count : (target : ℕ) (f : Flow) (size place : ℕ) (v : Verdict) →
+pub arrived-count : (target : ℕ) (f : Flow) (size place : ℕ) (v : Verdict) →
     (arrivedFlow target f size place v) .count ≡ cond (admitted v) (f .count + 1) (f .count)
 unfolding arrivedFlow flowWith
 arrived-count target f size place v = backlog-count (admitted v) _ size

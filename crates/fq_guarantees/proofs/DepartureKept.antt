@@ -26,7 +26,7 @@ use Rattle.fq_guarantees.proofs.WhenAccepted.{DepartureAccepted}
 use Rattle.fq_guarantees.proofs.WhenAccepted.{departure-accepted}
 use Rattle.fq_guarantees.proofs.PartsKept.{departed-lists, flows-kept, lists-sound}
 
-departed-count : (f : Flow) (sizes : List ℕ) (clock size : ℕ) → (departedFlow f sizes clock size) .count ≡ f .count - 1
+pub departed-count : (f : Flow) (sizes : List ℕ) (clock size : ℕ) → (departedFlow f sizes clock size) .count ≡ f .count - 1
 unfolding departedFlow flowWith
 departed-count f sizes clock size = refl
 

@@ -24,7 +24,7 @@ use Rattle.fq_guarantees.proofs.PartsKept.{flows-kept}
 
 -- ── a tick ──
 
-ticked-count : (target : ℕ) (f : Flow) → (tickedFlow target f) .count ≡ f .count
+pub ticked-count : (target : ℕ) (f : Flow) → (tickedFlow target f) .count ≡ f .count
 unfolding tickedFlow flowWith
 ticked-count target f = refl
 

@@ -21,3 +21,9 @@ pub mod DepartureKept
 pub mod Kept
 pub mod NeverMalformed
 pub mod ServesQueued
+pub mod AsStretch
+pub mod Stretches
+pub mod Fairness
+pub mod NeverStarved
+pub mod Owed
+pub mod FairnessFromFresh

@@ -52,7 +52,7 @@ lists-sound s h =
     }
 
 -- the counts, as one flow is replaced
-counts-set : (flows : List Flow) (i : ℕ) (f : Flow) → countsOf (set flows i f) ≡ set (countsOf flows) i (f .count)
+pub counts-set : (flows : List Flow) (i : ℕ) (f : Flow) → countsOf (set flows i f) ≡ set (countsOf flows) i (f .count)
 counts-set [] i f = refl
 counts-set (x ∷ flows) zero f = refl
 counts-set (x ∷ flows) (suc i) f = ap (λ (l : List ℕ). x .count ∷ l) (counts-set flows i f)

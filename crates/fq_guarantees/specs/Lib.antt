@@ -8,6 +8,9 @@
 --   Refusals              demand 1: refused by the lowest number that applies, and then nothing changes
 --   Kept                  23 is kept by every call; refusal 2 is never given from fresh on
 --   ServesQueued          26: where a packet is queued, choosing ends at a listed flow that has one
+--   AsStretch             each call moves counts, lists and deficits as an arrival, a departure or nothing
+--   Fairness              two flows that have packets are handed out the same bytes, but for two largest packets and two quanta
+--   NeverStarved          a flow that has packets is handed out at least half as much as any other, but for a constant
 --   OwnFlowAlone          a verdict reads the arrival's own flow alone, but for rules 1 and 2
 --   AllowanceLasts        question 2: a flow's allowance lasts its tick periods, whatever ticks are tried; a full one lasts 150 ms
 --   Recovery              demand 3 and question 4: 1,000 ticks on an empty flow, and 150 ms with no early verdict
@@ -23,6 +26,9 @@ pub mod Shedding
 pub mod Refusals
 pub mod Kept
 pub mod ServesQueued
+pub mod AsStretch
+pub mod Fairness
+pub mod NeverStarved
 pub mod OwnFlowAlone
 pub mod AllowanceLasts
 pub mod Recovery

@@ -1,6 +1,6 @@
 -- No flow owes more than a largest packet: choosing lowers no deficit, and what is served has one that is not negative.
 use mathlib.Core.Path.{_≡_, refl}
-use mathlib.Core.Bool.{Bool, true, false, cond}
+use mathlib.Core.Bool.{Bool, true, false}
 use mathlib.Core.List.{List}
 use Prim.Native.Nat.{ℕ, zero, suc, _+_, _-_, _≤_, _<_}
 use native.Mathlib.Omega.{arith}
@@ -19,7 +19,8 @@ use Rattle.schedule_guarantees.specs.Stretch.{after, arrives, departs}
 use Rattle.schedule_guarantees.proofs.ChoosingEnds.{choosing-ends}
 use Rattle.schedule_guarantees.proofs.Kept.{Looked, choosing-keeps, look-law}
 
-chosen-no-less : (n : ℕ) (counts : List ℕ) (s : Schedule) → Sound counts s → (j : ℕ) → deficitOf s j ≤ deficitOf (chooseIn n counts s .schedule) j
+chosen-no-less : (n : ℕ) (counts : List ℕ) (s : Schedule) → Sound counts s → (j : ℕ) →
+    deficitOf s j ≤ deficitOf (chooseIn n counts s .schedule) j
 unfolding chooseIn
 chosen-no-less zero counts s h j = omega arith
 chosen-no-less (suc n) counts s h j = go (look counts s) (look-law counts s h) (λ t k. chosen-no-less n counts t k j)

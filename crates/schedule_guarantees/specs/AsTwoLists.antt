@@ -9,7 +9,8 @@ use Rattle.schedule.specs.Choosing.{Choice, Look, chooseIn, look, moves, nobody
 use Rattle.schedule.specs.Ring.{Schedule, newList, oldList}
 use Rattle.schedule.specs.WellFormed.{wellListed}
 use Rattle.schedule_guarantees.specs.Kept.{Sound, arrived}
-use Rattle.schedule_guarantees.specs.TwoLists.{Found, Served, TwoLists, admittedTo, found, goesOn, lists, none, serveIn, servedBy, takes}
+use Rattle.schedule_guarantees.specs.TwoLists.{Found, Served, TwoLists, admittedTo, found, goesOn, lists, none}
+use Rattle.schedule_guarantees.specs.TwoLists.{serveIn, servedBy, takes}
 
 abbrev pub twoLists : Schedule → TwoLists
 twoLists s = lists (newList s) (oldList s) (s .deficits)

@@ -1,4 +1,5 @@
--- 26: 2,879 moves do happen, in well-formed lists. All 64 flows stand in the new list, each with a deficit of −65,535, and only flow 63 has a packet.
+-- 26: 2,879 moves do happen, in well-formed lists. All 64 flows stand in the new list, each with a deficit of −65,535, and only flow 63 has
+-- a packet.
 use mathlib.Core.Path.{_≡_}
 use mathlib.Core.List.{List, [], _∷_, _++_}
 use Prim.Native.Nat.{ℕ, zero, suc}

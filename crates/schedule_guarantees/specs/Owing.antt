@@ -1,5 +1,5 @@
--- No flow owes more than a largest packet: where each deficit is at least −most, and an event is an arrival or the departure of a packet that
--- is no larger, each is so after it. At fresh each deficit is 0.
+-- No flow owes more than a largest packet: where each deficit is at least −most, and an event is an arrival or the departure of a packet
+-- that is no larger, each is so after it. At fresh each deficit is 0.
 use Prim.Native.Nat.{ℕ, _+_, _≤_, _<_}
 use lib.ListN.{getD}
 use Rattle.schedule.specs.Ring.{Schedule, deficitOf, zeroDeficit}

@@ -1,0 +1,46 @@
+-- Fairness over lists of calls is fairness over the stretch that they are.
+use mathlib.Core.Path.{_≡_}
+use mathlib.Core.List.{List}
+use Prim.Native.Nat.{_≤_}
+use native.Mathlib.Omega.{arith}
+use lib.ListN.{length}
+use Rattle.calls.specs.Traces.{trace}
+use Rattle.calls.proofs.Traces.{along}
+use Rattle.refusals.specs.Rows.{firstRefusal}
+use Rattle.schedule_guarantees.proofs.Fairness as stretch
+use Rattle.fq_state.specs.State.{State}
+use Rattle.fq.specs.Answer.{sizeIn}
+use Rattle.fq_guarantees.specs.Acceptance.{acceptance}
+use Rattle.fq_guarantees.specs.AsStretch.{lineOf}
+use Rattle.fq_guarantees.specs.Calls.{Call, arrive, depart, update}
+use Rattle.fq_guarantees.specs.Fairness.{Fairness, FairnessBySize, HandOutAtMost}
+use Rattle.fq_guarantees.specs.Lists.{fqCalls}
+use Rattle.fq_guarantees.specs.Refusals.{rowsOf}
+use Rattle.fq_guarantees.specs.SixtyFour.{Record64}
+use Rattle.fq_guarantees.proofs.PartsKept.{lists-sound}
+use Rattle.fq_guarantees.proofs.Replies.{by-number}
+use Rattle.fq_guarantees.proofs.Stretches.{all-fit, served-as, stretchOf, waits-as}
+use Rattle.fq_guarantees.proofs.WhenAccepted.{departure-accepted}
+
+pub fairness-by-size : FairnessBySize
+fairness-by-size start calls f g most h ne small fit owed-f owed-g wait-f wait-g =
+    let r = stretch.fairness (lineOf (start .state)) (stretchOf start calls) f g most (lists-sound (start .state) h) ne small
+    (all-fit most start calls fit) (waits-as f most start calls wait-f owed-f) (waits-as g most start calls wait-g owed-g) in
+    omega (arith, r, served-as f start calls, served-as g start calls)
+
+-- ── packets of any size ──
+
+accepted-size : (s : State) (c : Call) → firstRefusal (rowsOf s c) ≡ 0 → sizeIn ((acceptance s c) .answer) ≤ 65535
+accepted-size s (arrive handles sizes clock key handle size ecn u) e = omega arith
+accepted-size s (depart handles sizes clock) e = departure-accepted s (length handles) sizes clock e .head .high
+accepted-size s (update clock) e = omega arith
+
+pub any-size : (start : Record64) (calls : List Call) → HandOutAtMost 65535 (trace fqCalls start calls)
+any-size start calls =
+    along fqCalls (λ s. Unit {0}) (λ a. sizeIn (a .answer .answer) ≤ 65535) (λ s k c. tt)
+    (λ s k c. by-number (λ r. sizeIn (r .answer) ≤ 65535) (s .state) c (λ n some given. omega arith) (accepted-size (s .state) c))
+    start calls tt
+
+pub fairness : Fairness
+fairness start calls f g h ne wait-f wait-g =
+    fairness-by-size start calls f g 65535 h ne (omega arith) (any-size start calls) (omega arith) (omega arith) wait-f wait-g

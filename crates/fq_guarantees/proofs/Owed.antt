@@ -1,0 +1,86 @@
+-- From fresh no flow owes more than the largest packet that was handed out.
+use mathlib.Core.Path.{_≡_, refl}
+use mathlib.Core.Bool.{Bool, true, false, cond, false≢true}
+use mathlib.Core.List.{List, [], _∷_, _++_, List·Memᴰ·head, List·Memᴰ·tail, foldl}
+use Prim.Native.Nat.{ℕ, _≤_, _<_}
+use native.Mathlib.Omega.{arith}
+use lib.ListN.{getD, length}
+use Rattle.pie.specs.Verdicts.{admitted}
+use Rattle.calls.specs.Traces.{trace}
+use Rattle.refusals.specs.Rows.{firstRefusal}
+use Rattle.schedule_guarantees.specs.Kept as lists
+use Rattle.schedule_guarantees.specs.Owing.{OweAtMost}
+use Rattle.schedule_guarantees.specs.Stretch.{Line, after, arrives}
+use Rattle.schedule_guarantees.specs.Stretch as stretch
+use Rattle.schedule_guarantees.proofs.Owing.{owing}
+use Rattle.fq_state.specs.State.{State}
+use Rattle.fq.specs.Answer.{Answer, departed, departs, refused, sizeIn, ticked, verdict}
+use Rattle.fq.specs.Departure.{choiceOf}
+use Rattle.fq_guarantees.specs.Acceptance.{acceptance}
+use Rattle.fq_guarantees.specs.AsStretch.{eventsOf, lineOf}
+use Rattle.fq_guarantees.specs.Calls.{Call, arrive, depart, keyFlow, reply, update}
+use Rattle.fq_guarantees.specs.Fairness.{HandOutAtMost}
+use Rattle.fq_guarantees.specs.Kept.{Sound}
+use Rattle.fq_guarantees.specs.Lists.{fqCalls}
+use Rattle.fq_guarantees.specs.Refusals.{rowsOf}
+use Rattle.fq_guarantees.specs.SixtyFour.{Record64}
+use Rattle.fq_guarantees.proofs.AsStretch.{as-stretch}
+use Rattle.fq_guarantees.proofs.Kept.{kept}
+use Rattle.fq_guarantees.proofs.PartsKept.{lists-sound}
+use Rattle.fq_guarantees.proofs.Replies.{by-number}
+use Rattle.fq_guarantees.proofs.ServesQueued.{serves-queued}
+use Rattle.fq_guarantees.proofs.Stretches.{key-flow-low}
+use Rattle.fq_guarantees.proofs.WhenAccepted.{departure-accepted}
+
+-- ── one call ──
+
+-- some flow has a packet
+abbrev Some : Line → Type 0
+Some l = (flow : ℕ) × (1 ≤ getD (l .counts) flow 0)
+
+accepted-some : (s : State) (c : Call) → Sound s → firstRefusal (rowsOf s c) ≡ 0 → departs ((acceptance s c) .answer) ≡ true →
+    Some (lineOf s)
+accepted-some s (arrive handles sizes clock key handle size ecn u) h e d = absurd (false≢true d)
+accepted-some s (depart handles sizes clock) h e d =
+    (choiceOf s .flow, serves-queued s h (omega (arith, departure-accepted s (length handles) sizes clock e .some)) .may .holds)
+accepted-some s (update clock) h e d = absurd (false≢true d)
+
+departs-some : (s : State) (c : Call) → Sound s → departs ((reply s c) .answer) ≡ true → Some (lineOf s)
+departs-some s c h =
+    by-number (λ r. departs (r .answer) ≡ true → Some (lineOf s)) s c (λ n some given d. absurd (false≢true d)) (accepted-some s c h)
+
+module _ (most : ℕ) where
+  -- with this answer, from l to m
+  moved : (key : ℕ) (a : Answer) (l m : Line) → m ≡ foldl after l (eventsOf key a) → lists.Sound (l .counts) (l .schedule) → key < 64 →
+      sizeIn a ≤ most → (departs a ≡ true → Some l) → OweAtMost most (l .schedule) → OweAtMost most (m .schedule)
+  moved key (refused number) l m e h low fit some owed = rw e owed
+  moved key (verdict v) l m e h low fit some owed = go (admitted v) e
+    where
+      go : (t : Bool) → m ≡ foldl after l (cond t (arrives key ∷ []) []) → OweAtMost most (m .schedule)
+      go true e = rw e (owing l (arrives key) most h low tt owed)
+      go false e = rw e owed
+  moved key (departed from handle size) l m e h low fit some owed = rw e (owing l (stretch.departs size) most h fit (some refl) owed)
+  moved key ticked l m e h low fit some owed = rw e owed
+
+  owed-kept : (s : State) (c : Call) → Sound s → sizeIn ((reply s c) .answer) ≤ most → OweAtMost most (s .schedule) →
+      OweAtMost most ((reply s c) .state .schedule)
+  owed-kept s c h fit owed =
+      moved (keyFlow s c) ((reply s c) .answer) (lineOf s) (lineOf ((reply s c) .state)) (as-stretch s c .line) (lists-sound s h)
+      (key-flow-low s c) fit (departs-some s c h) owed
+
+  -- ── a list of calls, and those after it ──
+
+  pub record Later (start : Record64) (calls : List Call) : Type 0 where
+    pub sound : Sound (start .state)
+    pub owed : OweAtMost most (start .state .schedule)
+    pub fit : HandOutAtMost most (trace fqCalls start calls)
+
+  pub later : (s : Record64) (earlier calls : List Call) → Later s (earlier ++ calls) → Later (foldl (fqCalls .next) s earlier) calls
+  later s [] calls k = k
+  later s (c ∷ earlier) calls k =
+      later (fqCalls .next s c) earlier calls
+      (record {
+        sound = kept (s .state) c (k .sound);
+        owed = owed-kept (s .state) c (k .sound) (k .fit _ (List·Memᴰ·head refl)) (k .owed);
+        fit = λ a m. k .fit a (List·Memᴰ·tail m);
+      })
