@@ -1,5 +1,6 @@
-// The C interface of 64 flows (include/obikuteru.h): the calls over a record that is lent in its parts, as words. Each entry decodes the
-// nineteen words of what all flows have in common, makes the one call and writes them back where it is accepted.
+// The C interface of 64 flows (include/obikuteru.h): the calls over a record that is lent in its parts, as words. An arrival, a departure
+// and a tick decode the nineteen words of what all flows have in common, make the one call and write them back where it is accepted. A
+// fresh call writes the whole record, all zero where it is refused; the test of a record writes nothing; a key's flow needs no record.
 use fq::arrival;
 use fq::departure;
 use fq::tick;

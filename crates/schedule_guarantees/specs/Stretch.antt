@@ -58,7 +58,7 @@ abbrev pub AtEach : (flow : ℕ) → Line → List Event → Type 0
 AtEach flow l [] = Unit {0}
 AtEach flow l (e ∷ events) = HasPackets flow l e × AtEach flow (after l e) events
 
--- it has packets at the start too, and its deficit there is at least −most, as it is where no packet was larger before
+-- it has packets at the start too, and its deficit there is at least −most, as it is where no packet was larger before (Owing)
 pub record Waits (flow most : ℕ) (l : Line) (events : List Event) : Type 0 where
   pub at-start : 1 ≤ getD (l .counts) flow 0
   pub at-each : AtEach flow l events
