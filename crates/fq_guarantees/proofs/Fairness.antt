@@ -1,6 +1,6 @@
 -- Fairness over lists of calls is fairness over the stretch that they are.
 use mathlib.Core.Path.{_≡_}
-use mathlib.Core.List.{List}
+use mathlib.Core.List.{List, foldl}
 use Prim.Native.Nat.{_≤_}
 use native.Mathlib.Omega.{arith}
 use lib.ListN.{length}
@@ -13,10 +13,11 @@ use Rattle.fq.specs.Answer.{sizeIn}
 use Rattle.fq_guarantees.specs.Acceptance.{acceptance}
 use Rattle.fq_guarantees.specs.AsStretch.{lineOf}
 use Rattle.fq_guarantees.specs.Calls.{Call, arrive, depart, update}
-use Rattle.fq_guarantees.specs.Fairness.{Fairness, FairnessBySize, HandOutAtMost}
+use Rattle.fq_guarantees.specs.Fairness.{Fairness, FairnessBySize, FairnessFromFresh, HandOutAtMost}
 use Rattle.fq_guarantees.specs.Lists.{fqCalls}
 use Rattle.fq_guarantees.specs.Refusals.{rowsOf}
-use Rattle.fq_guarantees.specs.SixtyFour.{Record64}
+use Rattle.fq_guarantees.specs.SixtyFour.{Record64, fresh64}
+use Rattle.fq_guarantees.proofs.Owed.{from-fresh, owed-by}
 use Rattle.fq_guarantees.proofs.PartsKept.{lists-sound}
 use Rattle.fq_guarantees.proofs.Replies.{by-number}
 use Rattle.fq_guarantees.proofs.Stretches.{all-fit, served-as, stretchOf, waits-as}
@@ -44,3 +45,12 @@ any-size start calls =
 pub fairness : Fairness
 fairness start calls f g h ne wait-f wait-g =
     fairness-by-size start calls f g 65535 h ne (omega arith) (any-size start calls) (omega arith) (omega arith) wait-f wait-g
+
+-- ── from fresh ──
+
+pub fairness-from-fresh : FairnessFromFresh
+fairness-from-fresh settings clock earlier calls f g most e ne small fit wait-f wait-g =
+    let start = foldl (fqCalls .next) (fresh64 settings clock) earlier in
+    let k = from-fresh most settings clock earlier calls e fit in
+    fairness-by-size start calls f g most (k .sound) ne small (k .fit) (owed-by most f start calls k wait-f)
+    (owed-by most g start calls k wait-g) wait-f wait-g

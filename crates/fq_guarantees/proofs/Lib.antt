@@ -23,7 +23,6 @@ pub mod NeverMalformed
 pub mod ServesQueued
 pub mod AsStretch
 pub mod Stretches
+pub mod Owed
 pub mod Fairness
 pub mod NeverStarved
-pub mod Owed
-pub mod FairnessFromFresh

@@ -1,32 +1,38 @@
--- From fresh no flow owes more than the largest packet that was handed out.
+-- Calls let no flow owe more than the largest packet that they hand out; from fresh none does.
 use mathlib.Core.Path.{_≡_, refl}
 use mathlib.Core.Bool.{Bool, true, false, cond, false≢true}
 use mathlib.Core.List.{List, [], _∷_, _++_, List·Memᴰ·head, List·Memᴰ·tail, foldl}
-use Prim.Native.Nat.{ℕ, _≤_, _<_}
+use Prim.Native.Nat.{ℕ, _+_, _≤_, _<_}
 use native.Mathlib.Omega.{arith}
-use lib.ListN.{getD, length}
+use lib.ListN.{getD, getD-replicate, length}
 use Rattle.pie.specs.Verdicts.{admitted}
 use Rattle.calls.specs.Traces.{trace}
 use Rattle.refusals.specs.Rows.{firstRefusal}
+use Rattle.schedule.specs.Ring.{deficitOf, zeroDeficit}
 use Rattle.schedule_guarantees.specs.Kept as lists
 use Rattle.schedule_guarantees.specs.Owing.{OweAtMost}
 use Rattle.schedule_guarantees.specs.Stretch.{Line, after, arrives}
 use Rattle.schedule_guarantees.specs.Stretch as stretch
+use Rattle.schedule_guarantees.proofs.ChoosingEnds.{holder-low}
 use Rattle.schedule_guarantees.proofs.Owing.{owing}
-use Rattle.fq_state.specs.State.{State}
+use Rattle.fq_state.specs.Fresh.{fresh, freshRefusal}
+use Rattle.fq_state.specs.State.{State, countsOf}
+use Rattle.fq_state.specs.declared.Settings.{Settings}
 use Rattle.fq.specs.Answer.{Answer, departed, departs, refused, sizeIn, ticked, verdict}
 use Rattle.fq.specs.Departure.{choiceOf}
 use Rattle.fq_guarantees.specs.Acceptance.{acceptance}
 use Rattle.fq_guarantees.specs.AsStretch.{eventsOf, lineOf}
 use Rattle.fq_guarantees.specs.Calls.{Call, arrive, depart, keyFlow, reply, update}
-use Rattle.fq_guarantees.specs.Fairness.{HandOutAtMost}
+use Rattle.fq_guarantees.specs.Fairness.{Backlogged, HandOutAtMost}
 use Rattle.fq_guarantees.specs.Kept.{Sound}
 use Rattle.fq_guarantees.specs.Lists.{fqCalls}
 use Rattle.fq_guarantees.specs.Refusals.{rowsOf}
-use Rattle.fq_guarantees.specs.SixtyFour.{Record64}
+use Rattle.fq_guarantees.specs.SixtyFour.{Record64, fresh64}
 use Rattle.fq_guarantees.proofs.AsStretch.{as-stretch}
+use Rattle.fq_guarantees.proofs.FreshFormed.{fresh-accepted}
 use Rattle.fq_guarantees.proofs.Kept.{kept}
-use Rattle.fq_guarantees.proofs.PartsKept.{lists-sound}
+use Rattle.fq_guarantees.proofs.NeverMalformed.{fresh-sound}
+use Rattle.fq_guarantees.proofs.PartsKept.{count-at, lists-sound}
 use Rattle.fq_guarantees.proofs.Replies.{by-number}
 use Rattle.fq_guarantees.proofs.ServesQueued.{serves-queued}
 use Rattle.fq_guarantees.proofs.Stretches.{key-flow-low}
@@ -84,3 +90,25 @@ module _ (most : ℕ) where
         owed = owed-kept (s .state) c (k .sound) (k .fit _ (List·Memᴰ·head refl)) (k .owed);
         fit = λ a m. k .fit a (List·Memᴰ·tail m);
       })
+
+-- ── from fresh ──
+
+-- each deficit is 0
+fresh-owes : (settings : Settings) (clock most : ℕ) → freshRefusal settings clock ≡ 0 → OweAtMost most ((fresh settings clock) .schedule)
+unfolding fresh
+fresh-owes settings clock most e j low = rw (fresh-accepted settings clock e) (omega (arith, getD-replicate 64 j zeroDeficit 0 low))
+
+pub from-fresh : (most : ℕ) (settings : Settings) (clock : ℕ) (earlier calls : List Call) → freshRefusal settings clock ≡ 0 →
+    HandOutAtMost most (trace fqCalls (fresh64 settings clock) (earlier ++ calls)) →
+    Later most (foldl (fqCalls .next) (fresh64 settings clock) earlier) calls
+from-fresh most settings clock earlier calls e fit =
+    later most (fresh64 settings clock) earlier calls
+    (record { sound = fresh-sound settings clock e; owed = fresh-owes settings clock most e; fit = fit })
+
+-- a flow with a packet is one of the 64
+pub owed-by : (most f : ℕ) (start : Record64) (calls : List Call) → Later most start calls → Backlogged f start calls →
+    zeroDeficit ≤ deficitOf (start .state .schedule) f + most
+owed-by most f start calls k b =
+    let s = start .state in
+    k .owed f
+    (holder-low (countsOf (s .flows)) (s .schedule) f (lists-sound s (k .sound)) (omega (arith, b .at-start, count-at (s .flows) f)))

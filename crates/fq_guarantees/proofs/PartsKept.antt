@@ -14,7 +14,7 @@ use Rattle.schedule.specs.Entering.{isListed}
 use Rattle.schedule.specs.Entering as new
 use Rattle.schedule.specs.Ring.{Schedule}
 use Rattle.schedule_guarantees.specs.Kept as lists
-use Rattle.schedule_guarantees.proofs.Kept.{arrival-keeps, departure-keeps}
+use Rattle.schedule_guarantees.proofs.Kept.{arrival-keeps, departure-keeps, entered-or-same}
 use Rattle.fq_state.specs.Flow.{emptyFlow}
 use Rattle.fq_state.specs.State.{State, countOf, countsOf, flowAt}
 use Rattle.fq_state.specs.WellFormed.{flowsFit}
@@ -68,13 +68,9 @@ unfolding arrivedSchedule
 arrived-lists flows s i v f h low is =
     subst (λ counts. lists.Sound counts (arrivedSchedule s i v)) (sym (counts-set flows i f)) (go (admitted v) is)
   where
-    turned : (b : Bool) → cond (not b) (new.entered s i) s ≡ cond b s (new.entered s i)
-    turned true = refl
-    turned false = refl
-
     go : (t : Bool) → f .count ≡ cond t (flowAt flows i .count + 1) (flowAt flows i .count) →
         lists.Sound (set (countsOf flows) i (f .count)) (cond (t && not (isListed s i)) (new.entered s i) s)
-    go true e = rw (e, sym (count-at flows i), turned (isListed s i)) (arrival-keeps (countsOf flows) s i h low)
+    go true e = rw (e, sym (count-at flows i), entered-or-same s i) (arrival-keeps (countsOf flows) s i h low)
     go false e = rw (e, sym (count-at flows i), set-getD (countsOf flows) i 0) h
 
 pub departed-lists : (flows : List Flow) (s : Schedule) (i size : ℕ) (f : Flow) → lists.Sound (countsOf flows) s → i < 64 →
