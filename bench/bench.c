@@ -19,18 +19,6 @@
 
 static size_t inactive; /* events of the mixed run that met the queue so */
 
-static bool same(struct plain_state a, struct plain_state b)
-{
-    return a.target == b.target && a.buffer == b.buffer && a.slots == b.slots
-        && a.old_delay == b.old_delay && a.clock == b.clock && a.last == b.last
-        && a.probability == b.probability && a.accumulated == b.accumulated
-        && a.start == b.start && a.allowance == b.allowance && a.average == b.average
-        && a.counted == b.counted && a.measuring == b.measuring
-        && a.first == b.first && a.count == b.count && a.bytes == b.bytes
-        && a.profile == b.profile && a.active == b.active
-        && memcmp(a.verdicts, b.verdicts, sizeof a.verdicts) == 0;
-}
-
 static void met(const struct event *e)
 {
     (void)e;

@@ -33,25 +33,6 @@ static void met(const struct fq_event *e)
         holding += on_plain_queues[0].flow[i].count > 0;
 }
 
-static const uint32_t (*const tables[])[MOST_SLOTS] = {
-    on_plain_sizes, on_library_sizes, on_rust_sizes,
-#ifdef WITH_CLANG
-    on_clang_sizes,
-#endif
-};
-
-/* The sizes are compared too: links stand in them. */
-static bool agrees(size_t s, const struct fq_event *e)
-{
-    (void)e;
-    return memcmp(tables[s], tables[0], stream->slots * sizeof(uint32_t)) == 0;
-}
-
-static bool agree(size_t s)
-{
-    return agrees(s, NULL);
-}
-
 /* How the arrivals were answered, and how many flows were listed and held packets, in hundredths. */
 static void print_answers(void)
 {
@@ -68,13 +49,6 @@ struct elements {
     uint32_t handles[MOST_FQ_SLOTS];
     uint32_t sizes[MOST_FQ_SLOTS];
 };
-
-static bool clashes(const struct fq_event *e, size_t block)
-{
-    (void)e;
-    (void)block;
-    return false;
-}
 
 static struct elements elements_of(const struct fq_event *e, size_t block)
 {
@@ -95,4 +69,5 @@ static void place(size_t i, const struct plain_fq *before, const struct fq_event
     memcpy(block_sizes[i], x->sizes, sizeof x->sizes);
 }
 
+#include "linked.h"
 #include "rounds.h"

@@ -1,5 +1,4 @@
-/* The implementations of the 64 flows on the bench: plain C first, since the others are measured against
- * it. All records have the same words. */
+/* The implementations of the 64 flows on the bench. All records have the same words. */
 #ifndef FQ_SIDES_H
 #define FQ_SIDES_H
 
@@ -24,6 +23,8 @@ static const struct fq_stream *stream;
 #define UPDATE(s, c, e) CALL(tick)(s, (e)->clock)
 #define BLOCK 4 /* a record has 7,064 bytes */
 #define OWN_TABLES
+#define PLAIN_PACKET struct plain_flow_packet
+#define LIBRARY_PACKET struct obikuteru_flow_packet
 
 #include "kind.h"
 
@@ -40,61 +41,22 @@ DECLARE(clang_fq)
 
 _Static_assert(sizeof(struct plain_fq) == sizeof(struct obikuteru_fq), "the records differ in size");
 
-static struct obikuteru_fq library_state(const struct plain_fq *r)
+static struct obikuteru_fq library_state(struct plain_fq r)
 {
     struct obikuteru_fq s;
-    memcpy(&s, r, sizeof s);
+    memcpy(&s, &r, sizeof s);
     return s;
 }
 
-static struct plain_fq library_record(const struct obikuteru_fq *s)
+static struct plain_fq library_record(struct obikuteru_fq s)
 {
     struct plain_fq r;
-    memcpy(&r, s, sizeof r);
+    memcpy(&r, &s, sizeof r);
     return r;
 }
 
-#define SIDE(name) on_plain_##name
-#define CALL(name) plain_fq_##name
-#define STATE RECORD
-#define PACKET struct plain_flow_packet
-#define READ(state) (state)
-#define WRITE(record) (record)
-#include "side.h"
-
-#define SIDE(name) on_library_##name
-#define CALL(name) obikuteru_fq_##name
-#define STATE struct obikuteru_fq
-#define PACKET struct obikuteru_flow_packet
-#define READ(state) library_record(&(state))
-#define WRITE(record) library_state(&(record))
-#include "side.h"
-
-#define SIDE(name) on_rust_##name
-#define CALL(name) twin_fq_##name
-#define STATE RECORD
-#define PACKET struct plain_flow_packet
-#define READ(state) (state)
-#define WRITE(record) (record)
-#include "side.h"
-
-#ifdef WITH_CLANG
-#define SIDE(name) on_clang_##name
-#define CALL(name) clang_fq_##name
-#define STATE RECORD
-#define PACKET struct plain_flow_packet
-#define READ(state) (state)
-#define WRITE(record) (record)
-#include "side.h"
-#endif
-
-static const struct side sides[] = {
-    ENTRIES(plain),
-    ENTRIES(library),
-    ENTRIES(rust),
-#ifdef WITH_CLANG
-    ENTRIES(clang),
-#endif
-};
+#define NAMED(side, name) side##fq_##name
+#define LIBRARY_STATE struct obikuteru_fq
+#include "every_side.h"
 
 #endif

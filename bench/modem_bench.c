@@ -20,15 +20,6 @@
 
 static uint64_t activities[3]; /* calls that met a flow inactive, quiescent, active */
 
-static bool same(struct plain_modem a, struct plain_modem b)
-{
-    return a.target == b.target && a.buffer == b.buffer && a.slots == b.slots && a.peak == b.peak
-        && a.sustained == b.sustained && a.old_delay == b.old_delay && a.clock == b.clock
-        && a.last == b.last && a.probability == b.probability && a.accumulated == b.accumulated
-        && a.allowance == b.allowance && a.reset == b.reset && a.activity == b.activity
-        && a.first == b.first && a.count == b.count && a.bytes == b.bytes;
-}
-
 static void met(const struct modem_event *e)
 {
     activities[on_plain_queues[e->flow].activity]++;

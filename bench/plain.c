@@ -89,7 +89,7 @@ static void turn_active(struct plain_state *s)
 
 /* Rules 1 to 7 of an arrival. After rule 5 the probability is added to those before. A queue that
  * turns active has the full allowance, and rule 3 decides there as if it were inactive. */
-static uint32_t decide(struct plain_state *s, uint32_t size, bool ecn, uint32_t u)
+static inline uint32_t decide(struct plain_state *s, uint32_t size, bool ecn, uint32_t u)
 {
     if (s->buffer < s->bytes + size) /* 1 */
         return PLAIN_DROPPED_BYTES;
@@ -110,19 +110,17 @@ static uint32_t decide(struct plain_state *s, uint32_t size, bool ecn, uint32_t 
     return ecn && s->probability < TENTH ? PLAIN_MARKED : PLAIN_DROPPED_EARLY;
 }
 
-uint32_t plain_arrival(struct plain_state *s, uint32_t *handles, size_t handles_len,
-                       uint32_t *sizes, size_t sizes_len, uint64_t clock, uint32_t handle,
-                       uint32_t size, bool ecn, uint32_t u)
+/* An arrival at a well-formed record with tables that fit; `room`: it is known that no refusal 8 is
+ * due. */
+static inline uint32_t arrive(struct plain_state *s, uint32_t *handles, uint32_t *sizes,
+                              uint64_t clock, uint32_t handle, uint32_t size, bool ecn, uint32_t u,
+                              bool room)
 {
-    if (!well_formed(s))
-        return PLAIN_REFUSED_STATE; /* 2 */
-    if (handles_len != s->slots || sizes_len != s->slots)
-        return PLAIN_REFUSED_TABLES; /* 3 */
     if (clock < s->clock || LIMIT < clock)
         return PLAIN_REFUSED_CLOCK; /* 4 */
     if (size == 0 || LARGEST < size)
         return PLAIN_REFUSED_SIZE; /* 7 */
-    if (arrivals_counted(s->verdicts) == LIMIT)
+    if (!room && arrivals_counted(s->verdicts) == LIMIT)
         return PLAIN_REFUSED_COUNTS; /* 8 */
 
     bool turns = !s->active && above_third(s);
@@ -141,6 +139,17 @@ uint32_t plain_arrival(struct plain_state *s, uint32_t *handles, size_t handles_
     return verdict;
 }
 
+uint32_t plain_arrival(struct plain_state *s, uint32_t *handles, size_t handles_len,
+                       uint32_t *sizes, size_t sizes_len, uint64_t clock, uint32_t handle,
+                       uint32_t size, bool ecn, uint32_t u)
+{
+    if (!well_formed(s))
+        return PLAIN_REFUSED_STATE; /* 2 */
+    if (handles_len != s->slots || sizes_len != s->slots)
+        return PLAIN_REFUSED_TABLES; /* 3 */
+    return arrive(s, handles, sizes, clock, handle, size, ecn, u, false);
+}
+
 /* The measurement has reached its threshold: take the sample into the average. */
 static void end_measurement(struct plain_state *s, uint64_t clock)
 {
@@ -150,16 +159,10 @@ static void end_measurement(struct plain_state *s, uint64_t clock)
     stop_measurement(s);
 }
 
-uint32_t plain_departure(struct plain_state *s, const uint32_t *handles, size_t handles_len,
-                         const uint32_t *sizes, size_t sizes_len, uint64_t clock,
-                         struct plain_packet *packet)
+/* A departure from a well-formed record with tables that fit; the packet is {0, 0} before. */
+static inline uint32_t depart(struct plain_state *s, const uint32_t *handles, const uint32_t *sizes,
+                              uint64_t clock, struct plain_packet *packet)
 {
-    packet->handle = 0;
-    packet->size = 0;
-    if (!well_formed(s))
-        return PLAIN_REFUSED_STATE; /* 2 */
-    if (handles_len != s->slots || sizes_len != s->slots)
-        return PLAIN_REFUSED_TABLES; /* 3 */
     if (clock < s->clock || LIMIT < clock)
         return PLAIN_REFUSED_CLOCK; /* 4 */
     if (s->count == 0)
@@ -190,6 +193,19 @@ uint32_t plain_departure(struct plain_state *s, const uint32_t *handles, size_t 
     return PLAIN_ACCEPTED;
 }
 
+uint32_t plain_departure(struct plain_state *s, const uint32_t *handles, size_t handles_len,
+                         const uint32_t *sizes, size_t sizes_len, uint64_t clock,
+                         struct plain_packet *packet)
+{
+    packet->handle = 0;
+    packet->size = 0;
+    if (!well_formed(s))
+        return PLAIN_REFUSED_STATE; /* 2 */
+    if (handles_len != s->slots || sizes_len != s->slots)
+        return PLAIN_REFUSED_TABLES; /* 3 */
+    return depart(s, handles, sizes, clock, packet);
+}
+
 /* Rule 3 of a tick: k by the probability before it. */
 static uint32_t divisor(uint64_t p)
 {
@@ -217,7 +233,7 @@ static uint64_t next_probability(uint32_t profile, uint64_t before, uint32_t del
 }
 
 /* Rules 1 to 9 of a tick, but for the clock of the last one. */
-static void update(struct plain_state *s)
+static inline void update(struct plain_state *s)
 {
     uint64_t product = (uint64_t)s->bytes * s->average / THRESHOLD;
     uint32_t delay = LONGEST < product ? LONGEST : (uint32_t)product; /* 1 */
@@ -231,10 +247,9 @@ static void update(struct plain_state *s)
     s->old_delay = delay; /* 9 */
 }
 
-uint32_t plain_tick(struct plain_state *s, uint64_t clock)
+/* A tick of a well-formed record. */
+static inline uint32_t tick(struct plain_state *s, uint64_t clock)
 {
-    if (!well_formed(s))
-        return PLAIN_REFUSED_STATE; /* 2 */
     if (clock < s->clock || LIMIT < clock)
         return PLAIN_REFUSED_CLOCK; /* 4 */
     if (clock < s->last + PERIOD)
@@ -245,4 +260,11 @@ uint32_t plain_tick(struct plain_state *s, uint64_t clock)
     s->last = clock;
     s->clock = clock;
     return PLAIN_ACCEPTED;
+}
+
+uint32_t plain_tick(struct plain_state *s, uint64_t clock)
+{
+    if (!well_formed(s))
+        return PLAIN_REFUSED_STATE; /* 2 */
+    return tick(s, clock);
 }

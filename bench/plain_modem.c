@@ -71,7 +71,7 @@ uint32_t plain_modem_fresh(struct plain_modem *s, uint64_t (*counts)[5], uint32_
 }
 
 /* Rules 4 to 15 of an arrival: what the probability decides. */
-static uint32_t decide_early(struct plain_modem *s, uint32_t size, uint32_t u)
+static inline uint32_t decide_early(struct plain_modem *s, uint32_t size, uint32_t u)
 {
     if (s->probability == 0) /* 4 */
         s->accumulated = 0;
@@ -98,7 +98,7 @@ static uint32_t decide_early(struct plain_modem *s, uint32_t size, uint32_t u)
     return PLAIN_DROPPED_EARLY;
 }
 
-static uint32_t decide(struct plain_modem *s, uint32_t size, uint32_t u)
+static inline uint32_t decide(struct plain_modem *s, uint32_t size, uint32_t u)
 {
     if (s->buffer < s->bytes + size) { /* 1 */
         s->accumulated = 0;
@@ -113,23 +113,17 @@ static uint32_t decide(struct plain_modem *s, uint32_t size, uint32_t u)
     return decide_early(s, size, u);
 }
 
-uint32_t plain_modem_arrival(struct plain_modem *s, uint64_t (*counts)[5], uint32_t flow,
-                             uint32_t *handles, size_t handles_len, uint32_t *sizes,
-                             size_t sizes_len, uint64_t clock, uint32_t handle, uint32_t size,
-                             uint32_t u)
+/* An arrival at a well-formed record with tables that fit; `room`: it is known that no refusal 8 is
+ * due. */
+static inline uint32_t arrive(struct plain_modem *s, uint64_t *row, uint32_t *handles,
+                              uint32_t *sizes, uint64_t clock, uint32_t handle, uint32_t size,
+                              uint32_t u, bool room)
 {
-    if (PLAIN_FLOWS <= flow)
-        return PLAIN_REFUSED_FLOW; /* 10 */
-    uint64_t *row = counts[flow];
-    if (!well_formed(s, row))
-        return PLAIN_REFUSED_STATE; /* 2 */
-    if (handles_len != s->slots || sizes_len != s->slots)
-        return PLAIN_REFUSED_TABLES; /* 3 */
     if (clock < s->clock || LIMIT < clock)
         return PLAIN_REFUSED_CLOCK; /* 4 */
     if (size == 0 || LARGEST < size)
         return PLAIN_REFUSED_SIZE; /* 7 */
-    if (arrivals_counted(row) == LIMIT)
+    if (!room && arrivals_counted(row) == LIMIT)
         return PLAIN_REFUSED_COUNTS; /* 8 */
 
     uint32_t verdict = decide(s, size, u);
@@ -145,19 +139,24 @@ uint32_t plain_modem_arrival(struct plain_modem *s, uint64_t (*counts)[5], uint3
     return verdict;
 }
 
-uint32_t plain_modem_departure(struct plain_modem *s, uint64_t (*counts)[5], uint32_t flow,
-                               const uint32_t *handles, size_t handles_len,
-                               const uint32_t *sizes, size_t sizes_len, uint64_t clock,
-                               struct plain_packet *packet)
+uint32_t plain_modem_arrival(struct plain_modem *s, uint64_t (*counts)[5], uint32_t flow,
+                             uint32_t *handles, size_t handles_len, uint32_t *sizes,
+                             size_t sizes_len, uint64_t clock, uint32_t handle, uint32_t size,
+                             uint32_t u)
 {
-    packet->handle = 0;
-    packet->size = 0;
     if (PLAIN_FLOWS <= flow)
         return PLAIN_REFUSED_FLOW; /* 10 */
     if (!well_formed(s, counts[flow]))
         return PLAIN_REFUSED_STATE; /* 2 */
     if (handles_len != s->slots || sizes_len != s->slots)
         return PLAIN_REFUSED_TABLES; /* 3 */
+    return arrive(s, counts[flow], handles, sizes, clock, handle, size, u, false);
+}
+
+/* A departure from a well-formed record with tables that fit; the packet is {0, 0} before. */
+static inline uint32_t depart(struct plain_modem *s, const uint32_t *handles, const uint32_t *sizes,
+                              uint64_t clock, struct plain_packet *packet)
+{
     if (clock < s->clock || LIMIT < clock)
         return PLAIN_REFUSED_CLOCK; /* 4 */
     if (s->count == 0)
@@ -175,6 +174,22 @@ uint32_t plain_modem_departure(struct plain_modem *s, uint64_t (*counts)[5], uin
     s->bytes = bytes;
     s->clock = clock;
     return PLAIN_ACCEPTED;
+}
+
+uint32_t plain_modem_departure(struct plain_modem *s, uint64_t (*counts)[5], uint32_t flow,
+                               const uint32_t *handles, size_t handles_len,
+                               const uint32_t *sizes, size_t sizes_len, uint64_t clock,
+                               struct plain_packet *packet)
+{
+    packet->handle = 0;
+    packet->size = 0;
+    if (PLAIN_FLOWS <= flow)
+        return PLAIN_REFUSED_FLOW; /* 10 */
+    if (!well_formed(s, counts[flow]))
+        return PLAIN_REFUSED_STATE; /* 2 */
+    if (handles_len != s->slots || sizes_len != s->slots)
+        return PLAIN_REFUSED_TABLES; /* 3 */
+    return depart(s, handles, sizes, clock, packet);
 }
 
 /* Rule 1 of a tick. */
@@ -201,7 +216,7 @@ static uint32_t divisor(uint64_t p)
 }
 
 /* Rules 3 to 8 of a tick. */
-static uint64_t next_probability(uint64_t before, uint32_t delay, uint32_t old, uint32_t target)
+static inline uint64_t next_probability(uint64_t before, uint32_t delay, uint32_t old, uint32_t target)
 {
     int64_t x = ((int64_t)delay - target) + 10 * ((int64_t)delay - old);  /* 3 */
     int64_t step = x * 536870912 / (15625 * (int64_t)divisor(before));    /* 5 */
@@ -232,13 +247,9 @@ static void update_activity(struct plain_modem *s, uint32_t delay, uint32_t old)
     }
 }
 
-uint32_t plain_modem_tick(struct plain_modem *s, uint64_t (*counts)[5], uint32_t flow,
-                          uint64_t clock, uint32_t credits)
+/* A tick of a well-formed record. */
+static inline uint32_t tick(struct plain_modem *s, uint64_t clock, uint32_t credits)
 {
-    if (PLAIN_FLOWS <= flow)
-        return PLAIN_REFUSED_FLOW; /* 10 */
-    if (!well_formed(s, counts[flow]))
-        return PLAIN_REFUSED_STATE; /* 2 */
     if (clock < s->clock || LIMIT < clock)
         return PLAIN_REFUSED_CLOCK; /* 4 */
     if (clock < s->last + PERIOD)
@@ -257,6 +268,16 @@ uint32_t plain_modem_tick(struct plain_modem *s, uint64_t (*counts)[5], uint32_t
     s->last = clock;
     s->clock = clock;
     return PLAIN_ACCEPTED;
+}
+
+uint32_t plain_modem_tick(struct plain_modem *s, uint64_t (*counts)[5], uint32_t flow,
+                          uint64_t clock, uint32_t credits)
+{
+    if (PLAIN_FLOWS <= flow)
+        return PLAIN_REFUSED_FLOW; /* 10 */
+    if (!well_formed(s, counts[flow]))
+        return PLAIN_REFUSED_STATE; /* 2 */
+    return tick(s, clock, credits);
 }
 
 bool plain_modem_well_formed(const struct plain_modem *s, uint64_t (*counts)[5], uint32_t flow)

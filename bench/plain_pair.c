@@ -142,21 +142,19 @@ static inline void enter(struct plain_pair_queue *q, uint32_t place, uint32_t *h
     q->bytes += size;
 }
 
-uint32_t plain_pair_arrival(struct plain_shared *shared, struct plain_pair_queue *intercom,
-                            struct plain_pair_queue *passengers, bool second, uint32_t *handles,
-                            size_t handles_len, uint32_t *sizes, size_t sizes_len, uint64_t clock,
-                            uint32_t handle, uint32_t size, bool ecn, uint32_t u)
+/* An arrival with well-formed records and tables that fit; `room`: it is known that no refusal 8 is
+ * due. */
+static inline uint32_t arrive(struct plain_shared *shared, struct plain_pair_queue *intercom,
+                              struct plain_pair_queue *passengers, bool second,
+                              struct plain_pair_queue *q, uint32_t *handles, uint32_t *sizes,
+                              uint64_t clock, uint32_t handle, uint32_t size, bool ecn, uint32_t u,
+                              bool room)
 {
-    struct plain_pair_queue *q = second ? passengers : intercom;
-    if (!well_formed(shared, intercom, passengers))
-        return PLAIN_REFUSED_STATE; /* 2 */
-    if (handles_len != shared->slots || sizes_len != shared->slots)
-        return PLAIN_REFUSED_TABLES; /* 3 */
     if (clock < q->clock || LIMIT < clock)
         return PLAIN_REFUSED_CLOCK; /* 4 */
     if (size == 0 || LARGEST < size)
         return PLAIN_REFUSED_SIZE; /* 7 */
-    if (arrivals_counted(q) == LIMIT)
+    if (!room && arrivals_counted(q) == LIMIT)
         return PLAIN_REFUSED_COUNTS; /* 8 */
 
     uint64_t sum;
@@ -180,6 +178,20 @@ uint32_t plain_pair_arrival(struct plain_shared *shared, struct plain_pair_queue
     q->verdicts[verdict]++;
     q->clock = clock;
     return verdict;
+}
+
+uint32_t plain_pair_arrival(struct plain_shared *shared, struct plain_pair_queue *intercom,
+                            struct plain_pair_queue *passengers, bool second, uint32_t *handles,
+                            size_t handles_len, uint32_t *sizes, size_t sizes_len, uint64_t clock,
+                            uint32_t handle, uint32_t size, bool ecn, uint32_t u)
+{
+    struct plain_pair_queue *q = second ? passengers : intercom;
+    if (!well_formed(shared, intercom, passengers))
+        return PLAIN_REFUSED_STATE; /* 2 */
+    if (handles_len != shared->slots || sizes_len != shared->slots)
+        return PLAIN_REFUSED_TABLES; /* 3 */
+    return arrive(shared, intercom, passengers, second, q, handles, sizes, clock, handle, size, ecn,
+                  u, false);
 }
 
 static void stop_measurement(struct plain_pair_queue *q)
@@ -214,18 +226,11 @@ static inline void measure(struct plain_pair_queue *q, uint32_t size, uint64_t c
     }
 }
 
-uint32_t plain_pair_departure(struct plain_shared *shared, struct plain_pair_queue *intercom,
-                              struct plain_pair_queue *passengers, bool second,
-                              const uint32_t *handles, size_t handles_len, uint32_t *sizes,
-                              size_t sizes_len, uint64_t clock, struct plain_packet *packet)
+/* A departure with well-formed records and tables that fit; the packet is {0, 0} before. */
+static inline uint32_t depart(struct plain_shared *shared, struct plain_pair_queue *q,
+                              const uint32_t *handles, uint32_t *sizes, uint64_t clock,
+                              struct plain_packet *packet)
 {
-    struct plain_pair_queue *q = second ? passengers : intercom;
-    packet->handle = 0;
-    packet->size = 0;
-    if (!well_formed(shared, intercom, passengers))
-        return PLAIN_REFUSED_STATE; /* 2 */
-    if (handles_len != shared->slots || sizes_len != shared->slots)
-        return PLAIN_REFUSED_TABLES; /* 3 */
     if (clock < q->clock || LIMIT < clock)
         return PLAIN_REFUSED_CLOCK; /* 4 */
     if (q->count == 0)
@@ -252,12 +257,24 @@ uint32_t plain_pair_departure(struct plain_shared *shared, struct plain_pair_que
     return PLAIN_ACCEPTED;
 }
 
-uint32_t plain_pair_tick(struct plain_shared *shared, struct plain_pair_queue *intercom,
-                         struct plain_pair_queue *passengers, bool second, uint64_t clock)
+uint32_t plain_pair_departure(struct plain_shared *shared, struct plain_pair_queue *intercom,
+                              struct plain_pair_queue *passengers, bool second,
+                              const uint32_t *handles, size_t handles_len, uint32_t *sizes,
+                              size_t sizes_len, uint64_t clock, struct plain_packet *packet)
 {
     struct plain_pair_queue *q = second ? passengers : intercom;
+    packet->handle = 0;
+    packet->size = 0;
     if (!well_formed(shared, intercom, passengers))
         return PLAIN_REFUSED_STATE; /* 2 */
+    if (handles_len != shared->slots || sizes_len != shared->slots)
+        return PLAIN_REFUSED_TABLES; /* 3 */
+    return depart(shared, q, handles, sizes, clock, packet);
+}
+
+/* A tick of a well-formed record. */
+static inline uint32_t tick(struct plain_pair_queue *q, uint64_t clock)
+{
     if (clock < q->clock || LIMIT < clock)
         return PLAIN_REFUSED_CLOCK; /* 4 */
     if (clock < q->last + PERIOD)
@@ -274,4 +291,13 @@ uint32_t plain_pair_tick(struct plain_shared *shared, struct plain_pair_queue *i
     q->last = clock;
     q->clock = clock;
     return PLAIN_ACCEPTED;
+}
+
+uint32_t plain_pair_tick(struct plain_shared *shared, struct plain_pair_queue *intercom,
+                         struct plain_pair_queue *passengers, bool second, uint64_t clock)
+{
+    struct plain_pair_queue *q = second ? passengers : intercom;
+    if (!well_formed(shared, intercom, passengers))
+        return PLAIN_REFUSED_STATE; /* 2 */
+    return tick(q, clock);
 }

@@ -3,25 +3,25 @@
  * once for each implementation of a kind (kind.h), with these defined:
  *
  *   SIDE(name)   a name in this file        CALL(name)   the measured call of that name
- *
- * and, where its records are not plain C's:
- *
- *   STATE        its state record           PACKET       its packet record
- *   READ(state)  state to plain record      WRITE(record)  plain record to state
+ *   STATE        its record, if that is not plain C's but the library's
  *
  * The calls are direct, into an object file of their own: none is inlined into a loop. Each loop
  * returns a sum of the answers, so that none can be left out.
  */
-#ifndef STATE
+#ifdef STATE
+#define PACKET LIBRARY_PACKET
+#define READ(state) library_record(state)
+#define WRITE(record) library_state(record)
+#else
 #define STATE RECORD
-#define PACKET struct plain_packet
+#define PACKET PLAIN_PACKET
 #define READ(state) (state)
 #define WRITE(record) (record)
 #endif
 
 static STATE SIDE(queues)[QUEUES];
-static uint32_t SIDE(handles)[QUEUES][MOST_SLOTS];
-static uint32_t SIDE(sizes)[QUEUES][MOST_SLOTS];
+static uint32_t SIDE(handles)[QUEUES][TABLE];
+static uint32_t SIDE(sizes)[QUEUES][TABLE];
 static STATE SIDE(states)[BLOCK];
 #ifdef COUNTED
 static uint64_t SIDE(counts)[QUEUES][5];
@@ -30,6 +30,13 @@ static uint64_t SIDE(block_counts)[QUEUES][5];
 static const uint64_t *SIDE(row)(size_t queue)
 {
     return SIDE(counts)[queue];
+}
+#endif
+
+#ifdef OWN_TABLES
+static const uint32_t *SIDE(words)(void)
+{
+    return SIDE(sizes)[0];
 }
 #endif
 
