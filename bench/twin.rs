@@ -1,17 +1,14 @@
 //! The rules of document 01, as changed by the requests that have landed, in idiomatic Rust, for
 //! comparison with the library and plain C. Numbers in comments are the rules' and refusals' own.
 
+#[path = "twin_pie.rs"]
+mod pie;
 #[path = "twin_rules.rs"]
 mod rules;
 
+use pie::*;
 use rules::*;
 
-const FORCED: u64 = 36_507_222_016; // 8.5: the sum of probabilities that is early by itself
-const LONGEST: u32 = 10_000_000; // longest delay and rate sample
-const PERIOD: u32 = 15_000;
-const ALLOWANCE: u32 = 150_000;
-const THRESHOLD: u32 = 16_384; // bytes of one rate measurement
-const SMALL: u32 = 3_000; // bytes of a small queue
 const CALM: u32 = 1; // the profile with switching and capped adjustment
 const CAP: i64 = 85_899_345; // the calm profile's greatest step from one tenth on
 
@@ -38,43 +35,6 @@ pub struct State {
     bytes: u32,
     profile: u32,
     verdicts: [u64; 5],
-}
-
-#[derive(Clone, Copy)]
-pub enum Verdict {
-    Enqueued,
-    Marked,
-    DroppedBytes,
-    DroppedSlots,
-    DroppedEarly,
-}
-
-/// Rule 3 of a tick: k by the probability before it.
-fn divisor(p: u64) -> i64 {
-    match p {
-        0..=4_294 => 2_048,
-        4_295..=42_949 => 512,
-        42_950..=429_496 => 128,
-        429_497..=4_294_967 => 32,
-        4_294_968..=42_949_672 => 8,
-        42_949_673..=429_496_729 => 2,
-        _ => 1,
-    }
-}
-
-/// Rules 2 to 6 of a tick.
-fn next_probability(calm: bool, before: u64, delay: u32, old: u32, target: u32) -> u64 {
-    let delayed = i64::from(delay);
-    let x = (delayed - i64::from(target)) + 10 * (delayed - i64::from(old)); // 2
-    let mut step = x * 8_388_608 / (15_625 * divisor(before)); // 4
-    if calm && before >= TENTH {
-        step = step.min(CAP);
-    }
-    let mut p = before as i64 + step;
-    if delay == 0 && old == 0 && p > 0 {
-        p -= p / 64; // 5
-    }
-    p.clamp(0, WHOLE as i64) as u64 // 6
 }
 
 impl State {
@@ -161,22 +121,10 @@ impl State {
         {
             Verdict::Enqueued // 5
         } else {
-            self.decide_by_probability(ecn, u)
-        }
-    }
-
-    /// Rules 6 and 7 of an arrival. The probability is added to those before.
-    fn decide_by_probability(&mut self, ecn: bool, u: u32) -> Verdict {
-        let sum = self.accumulated + self.probability;
-        if 20 * sum < 17 * WHOLE || (sum < FORCED && u64::from(u) >= self.probability) {
-            self.accumulated = sum;
-            return Verdict::Enqueued; // 7
-        }
-        self.accumulated = 0;
-        if ecn && self.probability < TENTH {
-            Verdict::Marked // 6
-        } else {
-            Verdict::DroppedEarly // 6
+            let verdict;
+            (verdict, self.accumulated) =
+                decide_by_probability(self.accumulated, self.probability, ecn, u);
+            verdict
         }
     }
 
@@ -229,11 +177,7 @@ impl State {
         if self.measuring {
             self.counted += size;
             if self.counted >= THRESHOLD {
-                let sample = (self.clock - self.start).clamp(1, u64::from(LONGEST)) as u32;
-                self.average = match self.average {
-                    0 => sample,
-                    average => (sample + 3 * average) / 4,
-                };
+                self.average = averaged(self.average, self.clock - self.start);
                 self.stop_measurement();
             } else if self.count == 0 {
                 self.stop_measurement(); // no sample across an empty queue
@@ -267,10 +211,16 @@ impl State {
 
     /// Rules 1 to 9 of a tick, but for the clock of the last one.
     fn update(&mut self) {
-        let product = u64::from(self.bytes) * u64::from(self.average) / u64::from(THRESHOLD);
-        let delay = product.min(u64::from(LONGEST)) as u32; // 1
+        let delay = delay(self.bytes, self.average); // 1
         let (old, calm) = (self.old_delay, self.profile == CALM);
-        self.probability = next_probability(calm, self.probability, delay, old, self.target);
+        let before = self.probability;
+        self.probability = next_probability(before, delay, old, self.target, |step| {
+            if calm && before >= TENTH {
+                step.min(CAP)
+            } else {
+                step
+            }
+        });
         self.allowance = self.allowance.saturating_sub(PERIOD); // 7
         if self.probability == 0 && 2 * delay < self.target && 2 * old < self.target {
             self.allowance = ALLOWANCE; // 8

@@ -1,16 +1,14 @@
 //! The rules of docs/SHARED-TABLES.md for 64 flows, in idiomatic Rust, for comparison with the library
 //! and plain C. Numbers in comments are those of document 01's rules and refusals.
 
-#[allow(dead_code)]
 #[path = "twin_pie.rs"]
-mod twin_pie;
-#[allow(dead_code)]
+mod pie;
 #[path = "twin_rules.rs"]
-mod twin_rules;
+mod rules;
 
+use pie::*;
+use rules::*;
 use std::slice;
-use twin_pie::{next_probability, ALLOWANCE, FORCED, LONGEST, PERIOD, SMALL, THRESHOLD};
-use twin_rules::*;
 
 const FLOWS: usize = 64;
 const LINK: u32 = 65_536; // a word of the sizes table: a size, and so many times a link
@@ -76,15 +74,6 @@ pub struct FlowPacket {
     size: u32,
 }
 
-#[derive(Clone, Copy)]
-pub enum Verdict {
-    Enqueued,
-    Marked,
-    DroppedBytes,
-    DroppedSlots,
-    DroppedEarly,
-}
-
 /// What arrives.
 pub struct Arriving<'a> {
     key: &'a Key,
@@ -141,18 +130,6 @@ impl Flow {
             || self.bytes <= u64::from(SMALL) // 5
     }
 
-    /// Rules 6 and 7 of an arrival. The probability is added to those before.
-    fn decide_by_probability(&self, ecn: bool, u: u32) -> (Verdict, u64) {
-        let sum = self.accumulated + self.probability;
-        if 20 * sum < 17 * WHOLE || (sum < FORCED && u64::from(u) >= self.probability) {
-            (Verdict::Enqueued, sum) // 7
-        } else if ecn && self.probability < TENTH {
-            (Verdict::Marked, 0) // 6
-        } else {
-            (Verdict::DroppedEarly, 0) // 6
-        }
-    }
-
     /// Whether the head may have this size: refusal 9 otherwise.
     fn head_fits(&self, size: u64) -> bool {
         if size == 0 || size > self.bytes {
@@ -167,11 +144,7 @@ impl Flow {
         if self.measuring != 0 {
             self.counted += size;
             if self.counted >= u64::from(THRESHOLD) {
-                let sample = (clock - self.start).clamp(1, u64::from(LONGEST));
-                self.average = match self.average {
-                    0 => sample,
-                    average => (sample + 3 * average) / 4,
-                };
+                self.average = u64::from(averaged(self.average as u32, clock - self.start));
                 self.stop_measurement();
             } else if self.count == 0 {
                 self.stop_measurement(); // no sample across an empty queue
@@ -188,15 +161,14 @@ impl Flow {
     }
 
     fn tick(&mut self, target: u64) {
-        let product = self.bytes * self.average / u64::from(THRESHOLD);
-        let delay = product.min(u64::from(LONGEST)); // 1
-        let old = self.old_delay;
-        self.probability = next_probability(self.probability, delay as u32, old as u32, target as u32);
+        let delay = delay(self.bytes as u32, self.average as u32); // 1
+        let (old, target) = (self.old_delay as u32, target as u32);
+        self.probability = next_probability(self.probability, delay, old, target, |step| step);
         self.allowance = self.allowance.saturating_sub(u64::from(PERIOD)); // 7
         if self.probability == 0 && 2 * delay < target && 2 * old < target {
             self.allowance = u64::from(ALLOWANCE); // 8
         }
-        self.old_delay = delay; // 9
+        self.old_delay = u64::from(delay); // 9
     }
 }
 
@@ -302,7 +274,7 @@ impl Fq {
         } else if flow.is_calm(self.target) {
             (Verdict::Enqueued, flow.accumulated) // 3 to 5
         } else {
-            flow.decide_by_probability(p.ecn, p.u)
+            decide_by_probability(flow.accumulated, flow.probability, p.ecn, p.u)
         }
     }
 

@@ -2,10 +2,13 @@
 //! and plain C. Numbers in comments are those of document 01's rules and refusals.
 
 #[path = "twin_pie.rs"]
-mod twin_pie;
+mod pie;
+#[path = "twin_rules.rs"]
+mod rules;
 
+use pie::*;
+use rules::*;
 use std::slice;
-use twin_pie::*;
 
 const LINK: u32 = 65_536; // a word of the sizes table: a size, and so many times a link
 
@@ -40,40 +43,7 @@ pub struct Queue {
     bytes: u32,
     head: u32,
     tail: u32,
-    verdicts: [u64; 5],
-}
-
-#[repr(C)]
-#[derive(Default)]
-pub struct Packet {
-    handle: u32,
-    size: u32,
-}
-
-#[derive(Clone, Copy)]
-pub enum Verdict {
-    Enqueued,
-    Marked,
-    DroppedBytes,
-    DroppedSlots,
-    DroppedEarly,
-}
-
-#[derive(Clone, Copy)]
-pub enum Refusal {
-    Settings = 1,
-    State = 2,
-    Tables = 3,
-    Clock = 4,
-    Early = 5,
-    Empty = 6,
-    Size = 7,
-    Counts = 8,
-    Head = 9,
-}
-
-fn settings_in_range(target: u32, buffer: u32) -> bool {
-    (1_000..=100_000).contains(&target) && (1..=16_777_216).contains(&buffer)
+    verdicts: Counts,
 }
 
 impl Shared {
@@ -97,17 +67,8 @@ impl Queue {
         Queue { target, buffer, clock, last: clock, allowance: ALLOWANCE, ..Queue::default() }
     }
 
-    fn arrivals_counted(&self) -> u64 {
-        self.verdicts.iter().sum()
-    }
-
-    /// Each count is tested first, so that the sum does not wrap.
-    fn counts_fit(&self) -> bool {
-        self.verdicts.iter().all(|&n| n <= LIMIT) && self.arrivals_counted() <= LIMIT
-    }
-
     fn well_formed(&self, slots: u32) -> bool {
-        settings_in_range(self.target, self.buffer)
+        limits_in_range(self.target, self.buffer)
             && self.last <= self.clock
             && self.clock <= LIMIT
             && self.probability <= WHOLE
@@ -127,14 +88,7 @@ impl Queue {
                 true => self.count > 0,
                 false => self.start == 0 && self.counted == 0,
             }
-            && self.counts_fit()
-    }
-
-    fn check_clock(&self, clock: u64) -> Result<(), Refusal> {
-        if clock < self.clock || clock > LIMIT {
-            return Err(Refusal::Clock);
-        }
-        Ok(())
+            && counts_fit(&self.verdicts)
     }
 
     /// Rules 1 to 5 of an arrival, and then what the probability decides; the accumulated
@@ -150,29 +104,8 @@ impl Queue {
         {
             (Verdict::Enqueued, self.accumulated) // 5
         } else {
-            self.decide_by_probability(ecn, u)
+            decide_by_probability(self.accumulated, self.probability, ecn, u)
         }
-    }
-
-    /// Rules 6 and 7 of an arrival. The probability is added to those before.
-    fn decide_by_probability(&self, ecn: bool, u: u32) -> (Verdict, u64) {
-        let sum = self.accumulated + self.probability;
-        if 20 * sum < 17 * WHOLE || (sum < FORCED && u64::from(u) >= self.probability) {
-            (Verdict::Enqueued, sum) // 7
-        } else if ecn && self.probability < TENTH {
-            (Verdict::Marked, 0) // 6
-        } else {
-            (Verdict::DroppedEarly, 0) // 6
-        }
-    }
-
-    /// Whether the head may have this size: refusal 9 otherwise.
-    fn head_fits(&self, size: u32) -> bool {
-        if size == 0 || size > self.bytes {
-            return false;
-        }
-        let (count, bytes) = (self.count - 1, self.bytes - size);
-        count <= bytes && bytes <= LARGEST * count
     }
 
     /// The departure rate after a packet of this size has left.
@@ -180,11 +113,7 @@ impl Queue {
         if self.measuring {
             self.counted += size;
             if self.counted >= THRESHOLD {
-                let sample = (self.clock - self.start).clamp(1, u64::from(LONGEST)) as u32;
-                self.average = match self.average {
-                    0 => sample,
-                    average => (sample + 3 * average) / 4,
-                };
+                self.average = averaged(self.average, self.clock - self.start);
                 self.stop_measurement();
             } else if self.count == 0 {
                 self.stop_measurement(); // no sample across an empty queue
@@ -226,15 +155,18 @@ impl Pair<'_> {
     }
 
     /// Refusals 2, 3 and 4.
-    fn check(&self, second: bool, handles: &[u32], sizes: &[u32], clock: u64) -> Result<(), Refusal> {
+    fn check(
+        &self,
+        second: bool,
+        handles: &[u32],
+        sizes: &[u32],
+        clock: u64,
+    ) -> Result<(), Refusal> {
         if !self.well_formed() {
             return Err(Refusal::State);
         }
-        let slots = self.shared.slots as usize;
-        if handles.len() != slots || sizes.len() != slots {
-            return Err(Refusal::Tables);
-        }
-        self.queues[usize::from(second)].check_clock(clock)
+        check_tables(self.shared.slots, handles, sizes)?;
+        check_clock(self.queues[usize::from(second)].clock, clock)
     }
 
     /// Rule 2: the reserve and the common slots are taken.
@@ -271,12 +203,7 @@ impl Pair<'_> {
     ) -> Result<Verdict, Refusal> {
         self.check(second, handles, sizes, clock)?;
         let number = usize::from(second);
-        if size == 0 || size > LARGEST {
-            return Err(Refusal::Size);
-        }
-        if self.queues[number].arrivals_counted() == LIMIT {
-            return Err(Refusal::Counts);
-        }
+        check_arrival(size, &self.queues[number].verdicts)?;
         let (verdict, sum) = self.queues[number].decide(self.no_slot(number), size, ecn, u);
         if matches!(verdict, Verdict::Enqueued | Verdict::Marked) {
             self.enter(number, handles, sizes, handle, size)?;
@@ -333,7 +260,7 @@ impl Pair<'_> {
         let word = sizes[head as usize];
         let size = word % LINK;
         let next = if queue.count > 1 { word / LINK } else { head };
-        if !queue.head_fits(size) || next >= self.shared.slots {
+        if !head_fits(queue.count, queue.bytes, size) || next >= self.shared.slots {
             return Err(Refusal::Head);
         }
         sizes[head as usize] = LINK * self.shared.freed;
@@ -352,14 +279,13 @@ impl Pair<'_> {
             return Err(Refusal::State);
         }
         let queue = &mut self.queues[usize::from(second)];
-        queue.check_clock(clock)?;
+        check_clock(queue.clock, clock)?;
         if clock < queue.last + u64::from(PERIOD) {
             return Err(Refusal::Early);
         }
-        let product = u64::from(queue.bytes) * u64::from(queue.average) / u64::from(THRESHOLD);
-        let delay = product.min(u64::from(LONGEST)) as u32; // 1
+        let delay = delay(queue.bytes, queue.average); // 1
         let old = queue.old_delay;
-        queue.probability = next_probability(queue.probability, delay, old, queue.target);
+        queue.probability = next_probability(queue.probability, delay, old, queue.target, |step| step);
         queue.allowance = queue.allowance.saturating_sub(PERIOD); // 7
         if queue.probability == 0 && 2 * delay < queue.target && 2 * old < queue.target {
             queue.allowance = ALLOWANCE; // 8
@@ -371,11 +297,7 @@ impl Pair<'_> {
     }
 }
 
-// The four calls for C: pointers and lengths become slices, and answers the header's numbers.
-
-fn refused(refusal: Refusal) -> u32 {
-    100 + refusal as u32
-}
+// The four calls for C.
 
 #[no_mangle]
 pub extern "C" fn twin_pair_fresh(
@@ -395,12 +317,12 @@ pub extern "C" fn twin_pair_fresh(
     (*shared, *intercom, *passengers) = Default::default();
     let made = Shared { slots, reserve: [reserve0, reserve1], ..Shared::default() };
     let in_range = made.in_range()
-        && settings_in_range(target0, buffer0)
-        && settings_in_range(target1, buffer1)
+        && limits_in_range(target0, buffer0)
+        && limits_in_range(target1, buffer1)
         && clock0 <= LIMIT
         && clock1 <= LIMIT;
     if !in_range {
-        return refused(Refusal::Settings);
+        return answer(Err(Refusal::Settings));
     }
     *shared = made;
     *intercom = Queue::fresh(target0, buffer0, clock0);
@@ -426,13 +348,10 @@ pub unsafe extern "C" fn twin_pair_arrival(
     ecn: bool,
     u: u32,
 ) -> u32 {
-    let handles = slice::from_raw_parts_mut(handles, handles_len);
-    let sizes = slice::from_raw_parts_mut(sizes, sizes_len);
+    let (handles, sizes) = tables_mut((handles, handles_len), (sizes, sizes_len));
     let mut pair = Pair { shared, queues: [intercom, passengers] };
-    match pair.arrival(second, handles, sizes, clock, handle, size, ecn, u) {
-        Ok(verdict) => verdict as u32,
-        Err(refusal) => refused(refusal),
-    }
+    let verdict = pair.arrival(second, handles, sizes, clock, handle, size, ecn, u);
+    answer(verdict.map(|verdict| verdict as u32))
 }
 
 /// # Safety
@@ -453,16 +372,7 @@ pub unsafe extern "C" fn twin_pair_departure(
     let handles = slice::from_raw_parts(handles, handles_len);
     let sizes = slice::from_raw_parts_mut(sizes, sizes_len);
     let mut pair = Pair { shared, queues: [intercom, passengers] };
-    match pair.departure(second, handles, sizes, clock) {
-        Ok(head) => {
-            *packet = head;
-            0
-        }
-        Err(refusal) => {
-            *packet = Packet::default();
-            refused(refusal)
-        }
-    }
+    handed(pair.departure(second, handles, sizes, clock), packet)
 }
 
 #[no_mangle]
@@ -474,8 +384,5 @@ pub extern "C" fn twin_pair_tick(
     clock: u64,
 ) -> u32 {
     let mut pair = Pair { shared, queues: [intercom, passengers] };
-    match pair.tick(second, clock) {
-        Ok(()) => 0,
-        Err(refusal) => refused(refusal),
-    }
+    answer(pair.tick(second, clock).map(|()| 0))
 }

@@ -1,4 +1,5 @@
-//! What the twins of every kind of queue share.
+//! What the twins of every kind of queue share; each uses a part.
+#![allow(dead_code)]
 
 use std::slice;
 
@@ -16,7 +17,6 @@ pub struct Packet {
     pub size: u32,
 }
 
-#[allow(dead_code)]
 #[derive(Clone, Copy)]
 pub enum Refusal {
     Settings = 1,
@@ -32,10 +32,13 @@ pub enum Refusal {
 }
 
 #[inline(always)]
+pub fn limits_in_range(target: u32, buffer: u32) -> bool {
+    (1_000..=100_000).contains(&target) && (1..=16_777_216).contains(&buffer)
+}
+
+#[inline(always)]
 pub fn settings_in_range(target: u32, buffer: u32, slots: u32) -> bool {
-    (1_000..=100_000).contains(&target)
-        && (1..=16_777_216).contains(&buffer)
-        && (1..=65_536).contains(&slots)
+    limits_in_range(target, buffer) && (1..=65_536).contains(&slots)
 }
 
 #[inline(always)]
@@ -97,8 +100,9 @@ pub fn head(
     }
 }
 
+/// Whether a head may have this size: refusal 9 otherwise.
 #[inline(always)]
-fn head_fits(count: u32, bytes: u32, size: u32) -> bool {
+pub fn head_fits(count: u32, bytes: u32, size: u32) -> bool {
     if size == 0 || size > LARGEST || size > bytes {
         return false;
     }
