@@ -285,7 +285,8 @@ impl Pair<'_> {
         }
         let delay = delay(queue.bytes, queue.average); // 1
         let old = queue.old_delay;
-        queue.probability = next_probability(queue.probability, delay, old, queue.target, |step| step);
+        queue.probability =
+            next_probability(queue.probability, delay, old, queue.target, |step| step);
         queue.allowance = queue.allowance.saturating_sub(PERIOD); // 7
         if queue.probability == 0 && 2 * delay < queue.target && 2 * old < queue.target {
             queue.allowance = ALLOWANCE; // 8
