@@ -7,7 +7,7 @@
 //!   tick:      any two of 2, 4, 5
 //! Refusal 1 stands alone: it is the only one of fresh.
 
-use crate::bursts;
+use crate::burst;
 use crate::calm;
 use crate::events;
 use crate::model::{self, Refusals, BANDS, CONDITIONS};
@@ -100,7 +100,7 @@ impl Coverage {
         coverage.add("sum of probabilities", single, owned(&events::SUMS));
         coverage.add("calm profile", both, owned(&calm::CALM_EVENTS));
         coverage.add("calm profile, edges", single, owned(&calm::CALM_EDGES));
-        coverage.add("burst", single, owned(&bursts::BURSTS));
+        coverage.add("burst", single, burst::labels());
         coverage
     }
 
@@ -136,7 +136,7 @@ impl Coverage {
         self.hit(EVENTS + 2, label);
     }
 
-    /// Counts one of `bursts::BURSTS`.
+    /// Counts one of `burst::LABELS`.
     pub fn note_burst(&mut self, label: usize) {
         self.hit(BURST, label);
     }

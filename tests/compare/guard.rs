@@ -1,7 +1,7 @@
 //! Lends memory beside pages that nobody may touch. Tables are read-only during a departure, and
 //! the state while it is asked whether it is well formed.
 
-use crate::bursts::{Burst, UNANSWERED};
+use crate::burst::{Burst, Lists};
 use crate::library::{self, Packet, Record};
 use crate::shared::area::{Area, READ, READ_WRITE};
 use crate::side::{handed_back, state_of, words, Call, Lender, Lent, Side, UNWRITTEN};
@@ -13,8 +13,7 @@ pub struct Guarded {
     packet: Area,
     handles: Area,
     sizes: Area,
-    calls: Area,
-    answers: Area,
+    lists: Lists,
 }
 
 impl Guarded {
@@ -24,8 +23,7 @@ impl Guarded {
             packet: Area::new(1, at_end),
             handles: Area::new(5, at_end),
             sizes: Area::new(5, at_end),
-            calls: Area::new(1, at_end),
-            answers: Area::new(1, at_end),
+            lists: Lists::new(at_end),
         }
     }
 
@@ -85,19 +83,13 @@ impl Lender for Guarded {
         *record = Record(words(&side.state));
         let h = self.handles.table(&side.handles[..handles]);
         let s = self.sizes.table(&side.sizes[..sizes]);
-        let calls = self.calls.table(&burst.calls);
-        self.calls.access(READ);
-        let answers = self.answers.place(8 * burst.answers) as *mut u64;
         let h = unsafe { from_raw_parts_mut(h, handles) };
         let s = unsafe { from_raw_parts_mut(s, sizes) };
-        let calls = unsafe { from_raw_parts(calls, burst.calls.len()) };
-        let answers = unsafe { from_raw_parts_mut(answers, burst.answers) };
-        answers.fill(UNANSWERED);
-        let answer = library::calls(record, h, s, calls, answers);
-        self.calls.access(READ_WRITE);
+        let run = |calls: &[u32], answers: &mut [u64]| library::calls(record, h, s, calls, answers);
+        let said = self.lists.run(burst, run);
         side.handles[..handles].copy_from_slice(h);
         side.sizes[..sizes].copy_from_slice(s);
         side.state = state_of(&record.0);
-        (answer, answers.to_vec())
+        said
     }
 }

@@ -9,6 +9,8 @@
 //! It ends with 1 at the first difference, with 2 if the calls did not reach everything, and
 //! with 3 if it was not understood.
 
+#[path = "../shared/bursts.rs"]
+mod burst;
 mod bursts;
 mod calm;
 mod coverage;

@@ -1,6 +1,6 @@
 //! One side of the comparison: a state, two tables, and what the last call gave.
 
-use crate::bursts::{Burst, UNANSWERED};
+use crate::burst::{self, Burst};
 use crate::library::{self, Packet, Record, WORDS};
 use crate::model::{self, Arriving, Asked, State};
 pub use crate::shared::answers::UNWRITTEN;
@@ -116,12 +116,13 @@ impl Lender for Direct {
 
     fn burst(&mut self, side: &mut Side, burst: &Burst) -> (u32, Vec<u64>) {
         let mut record = Record(words(&side.state));
-        let mut answers = vec![UNANSWERED; burst.answers];
         let handles = &mut side.handles[..burst.lent.handles];
         let sizes = &mut side.sizes[..burst.lent.sizes];
-        let answer = library::calls(&mut record, handles, sizes, &burst.calls, &mut answers);
+        let said = burst::directly(burst, |calls, answers| {
+            library::calls(&mut record, handles, sizes, calls, answers)
+        });
         side.state = state_of(&record.0);
-        (answer, answers)
+        said
     }
 }
 

@@ -1,6 +1,6 @@
 //! Single calls on random states: accepted ones, and ones to which chosen refusals apply.
 
-use crate::bursts;
+use crate::burst;
 use crate::coverage::Coverage;
 use crate::model::{Arriving, Asked, Refusals, State, CLOCK_MAX};
 use crate::shared::numbers::{self, Lent};
@@ -38,7 +38,7 @@ pub fn run(
             call = next_call(r, kind, &pair.model, &wanted);
         }
     }
-    bursts::run(r, starts / 20, lender, coverage)
+    burst::run(r, starts / 20, lender, coverage)
 }
 
 /// Runs fresh with every setting at, beside and far from the ends of its range, and a tick on

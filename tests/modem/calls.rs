@@ -60,7 +60,7 @@ pub fn any_u(r: &mut Random, probability: u64, size: u32) -> u32 {
     r.pick(&list).min(u64::from(u32::MAX)) as u32
 }
 
-fn packet(r: &mut Random, s: &State, wrong: bool) -> Arriving {
+pub fn packet(r: &mut Random, s: &State, wrong: bool) -> Arriving {
     let room = s.settings.buffer.saturating_sub(s.bytes).min(SIZE.1);
     let any = u64::from(any_size(r));
     let size = if wrong {

@@ -7,6 +7,7 @@
 //!   departure: any two of 2, 3, 4, 6, 9, 10, but 6 and 9, as a count of 0 has no head
 //!   tick:      any two of 2, 4, 5, 10
 
+use crate::burst;
 use crate::call::{Call, Kind, KINDS};
 use crate::edges::{arrival, departure, ends, tick, Found};
 use crate::model::numbers::BANDS;
@@ -30,9 +31,10 @@ const STEP_UP: usize = 5;
 const STEP_DOWN: usize = 6;
 const BAND_FIRST: usize = 7;
 const BAND_LAST: usize = 8;
-const REFUSALS: usize = 9; // and 10, 11, 12: fresh, arrival, departure, tick
-const PAIRS: usize = 13; // and 14, 15, 16
-const EDGES: usize = 17; // and the following: the lists of `edges`
+const BURST: usize = 9;
+const REFUSALS: usize = 10; // and 11, 12, 13: fresh, arrival, departure, tick
+const PAIRS: usize = 14; // and 15, 16, 17
+const EDGES: usize = 18; // and the following: the lists of `edges`
 
 const APPLY: [&[usize]; 4] = [&[1, 10], &[2, 3, 4, 7, 8, 10], &[2, 3, 4, 6, 9, 10], &[2, 4, 5, 10]];
 
@@ -96,6 +98,7 @@ impl Coverage {
         groups.add("probability at the first of a band", single, first);
         let last = BANDS.iter().map(|band| band.0.to_string()).collect();
         groups.add("probability at the last of a band", single, last);
+        groups.add("burst", single, burst::labels());
         for (kind, name) in REFUSAL_NAMES.into_iter().enumerate() {
             groups.add(name, both, refusal_labels(kind, runs));
         }
@@ -119,6 +122,11 @@ impl Coverage {
         if after.well_formed && !call.is_fresh() {
             self.list(ENDS, ends::ends(before, call));
         }
+    }
+
+    /// Counts one of `burst::LABELS`.
+    pub fn note_burst(&mut self, label: usize) {
+        self.groups.hit(BURST, label);
     }
 
     fn list(&mut self, place: usize, found: Found) {

@@ -6,6 +6,7 @@
 //! across the edge of a guarded page: the rows after the call's, or those before it, lie on the
 //! page that nobody may touch; of a flow that has no row, all of them do.
 
+use crate::burst::{Burst, Lists};
 use crate::call::{Call, Kind, Lent};
 use crate::library::{Memory, Packet, Record};
 use crate::model::{Counts, Row};
@@ -22,6 +23,7 @@ pub struct Guarded {
     rows: Area,
     handles: Area,
     sizes: Area,
+    lists: Lists,
 }
 
 impl Guarded {
@@ -33,6 +35,7 @@ impl Guarded {
             rows: Area::new(1, at_end),
             handles: Area::new(5, at_end),
             sizes: Area::new(5, at_end),
+            lists: Lists::new(at_end),
         }
     }
 
@@ -132,5 +135,23 @@ impl Lender for Guarded {
         };
         side.state = state_of(unsafe { &(*record).0 });
         self.rows_back(&memory, &mut side.counts, call.flow);
+    }
+
+    fn burst(&mut self, side: &mut Side, burst: &Burst) -> (u32, Vec<u64>) {
+        let Burst { flow, lent: Lent { handles, sizes }, .. } = *burst;
+        let record = self.state.place(size_of::<Record>()) as *mut Record;
+        unsafe { *record = Record(words(&side.state)) };
+        let memory = Memory { record, counts: self.lend_rows(&side.counts, flow) };
+        let h = self.handles.table(&side.handles[..handles]);
+        let s = self.sizes.table(&side.sizes[..sizes]);
+        let h = unsafe { from_raw_parts_mut(h, handles) };
+        let s = unsafe { from_raw_parts_mut(s, sizes) };
+        let run = |c: &[u32], answers: &mut [u64]| memory.calls(flow, (&mut *h, &mut *s), c, answers);
+        let said = self.lists.run(burst, run);
+        side.handles[..handles].copy_from_slice(h);
+        side.sizes[..sizes].copy_from_slice(s);
+        side.state = state_of(unsafe { &(*record).0 });
+        self.rows_back(&memory, &mut side.counts, flow);
+        said
     }
 }

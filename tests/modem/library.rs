@@ -51,6 +51,19 @@ extern "C" {
         clock: u64,
         credits: u32,
     ) -> u32;
+    fn obikuteru_modem_calls(
+        state: *mut Record,
+        counts: *mut Counts,
+        flow: u32,
+        handles: *mut u32,
+        handles_len: usize,
+        sizes: *mut u32,
+        sizes_len: usize,
+        calls: *const u32,
+        calls_len: usize,
+        answers: *mut u64,
+        answers_len: usize,
+    ) -> u32;
     fn obikuteru_modem_well_formed(state: *const Record, counts: *mut Counts, flow: u32) -> bool;
 }
 
@@ -103,6 +116,23 @@ impl Memory {
 
     pub fn tick(&self, flow: u32, clock: u64, credits: u32) -> u32 {
         unsafe { obikuteru_modem_tick(self.record, self.counts, flow, clock, credits) }
+    }
+
+    pub fn calls(
+        &self,
+        flow: u32,
+        (handles, sizes): (&mut [u32], &mut [u32]),
+        calls: &[u32],
+        answers: &mut [u64],
+    ) -> u32 {
+        let (h, h_len) = (handles.as_mut_ptr(), handles.len());
+        let (s, s_len) = (sizes.as_mut_ptr(), sizes.len());
+        let (c, c_len) = (calls.as_ptr(), calls.len());
+        let (a, a_len) = (answers.as_mut_ptr(), answers.len());
+        let (state, counts) = (self.record, self.counts);
+        unsafe {
+            obikuteru_modem_calls(state, counts, flow, h, h_len, s, s_len, c, c_len, a, a_len)
+        }
     }
 
     pub fn well_formed(&self, flow: u32) -> bool {

@@ -12,6 +12,9 @@
 mod aims;
 mod alone;
 mod broken;
+#[path = "../shared/bursts.rs"]
+mod burst;
+mod bursts;
 mod call;
 mod calls;
 mod coverage;

@@ -1,6 +1,7 @@
 //! One side of the comparison: a record, the counts of all flows, two tables, and what the last
 //! call gave.
 
+use crate::burst::{self, Burst};
 pub use crate::call::Call;
 use crate::call::Kind;
 use crate::library::{Memory, Packet, Record};
@@ -75,6 +76,9 @@ impl Side {
 /// A way to lend memory to the library and run a call by it.
 pub trait Lender {
     fn call(&mut self, side: &mut Side, call: &Call);
+
+    /// Runs a burst: its answer and the words of its calls' answers.
+    fn burst(&mut self, side: &mut Side, burst: &Burst) -> (u32, Vec<u64>);
 }
 
 /// Lends the memory of the side itself.
@@ -101,6 +105,17 @@ impl Lender for Direct {
         };
         side.state = state_of(&record.0);
         side.packet = handed_back(call, packet);
+    }
+
+    fn burst(&mut self, side: &mut Side, burst: &Burst) -> (u32, Vec<u64>) {
+        let mut record = Record(words(&side.state));
+        let memory = Memory { record: &mut record, counts: &mut side.counts };
+        let Burst { flow, lent, .. } = *burst;
+        let tables = (&mut side.handles[..lent.handles], &mut side.sizes[..lent.sizes]);
+        let run = |calls: &[u32], answers: &mut [u64]| memory.calls(flow, tables, calls, answers);
+        let said = burst::directly(burst, run);
+        side.state = state_of(&record.0);
+        said
     }
 }
 

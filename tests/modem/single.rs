@@ -2,6 +2,7 @@
 
 use crate::aims;
 use crate::broken;
+use crate::burst;
 use crate::call::{Call, Kind};
 use crate::calls::{self, What};
 use crate::coverage::Coverage;
@@ -13,7 +14,7 @@ use crate::shared::random::Random;
 use crate::side::{Lender, Side};
 use crate::states;
 
-/// Runs `starts` random records, each with a few calls in succession.
+/// Runs `starts` random records, each with a few calls in succession, then a few bursts.
 pub fn run(
     r: &mut Random,
     starts: u64,
@@ -36,7 +37,7 @@ pub fn run(
             call = calls::next(r, what, flow.min(15), &pair.model, &wanted);
         }
     }
-    Ok(())
+    burst::run(r, starts / 20, lender, coverage)
 }
 
 /// Runs fresh with each setting at, beside and far from the ends of its range, one setting or two
@@ -92,12 +93,12 @@ fn fresh_call(
     Ok(())
 }
 
-fn what(r: &mut Random) -> What {
+pub fn what(r: &mut Random) -> What {
     r.pick(&[What::Arrival, What::Departure, What::Tick])
 }
 
 /// None, one, two or more of the refusals that the call can get.
-fn wanted(r: &mut Random, what: What) -> Refusals {
+pub fn wanted(r: &mut Random, what: What) -> Refusals {
     let list: &[usize] = match what {
         What::Arrival => &[2, 3, 4, 7, 8, 10],
         What::Departure => &[2, 3, 4, 6, 9, 10],
@@ -107,7 +108,7 @@ fn wanted(r: &mut Random, what: What) -> Refusals {
 }
 
 /// A record with counts and tables, and a call to which the wanted refusals apply where they can.
-fn case(r: &mut Random) -> (Side, Call) {
+pub fn case(r: &mut Random) -> (Side, Call) {
     let what = what(r);
     let wanted = wanted(r, what);
     let size = calls::any_size(r);

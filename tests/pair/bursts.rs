@@ -1,157 +1,80 @@
-//! Bursts: a list of calls in one entry, against the same calls by the single entries.
+//! What the lists of bursts on two queues are made of.
 
+use crate::burst::{room, six, Burst, Standing};
 use crate::call::{Call, Kind, Lent};
-use crate::calls;
-use crate::library::{Memory, QueueRecord, SharedRecord};
+use crate::calls::{self, What};
+use crate::model::formed::{verdict_sum, well_formed};
+use crate::model::numbers::{CLOCK_MAX, COUNTS_MAX, TICK_PERIOD};
 use crate::model::refusals::Refusals;
-use crate::shared::numbers::wanted;
+pub use crate::report::fields;
+use crate::shared::numbers::{split, wanted};
 use crate::shared::random::Random;
-use crate::side::{Packet, Side, UNWRITTEN};
+use crate::side::Side;
 use crate::single;
 
-/// What stands in the answers before a burst: it shows that nothing was written.
-const UNANSWERED: u64 = 0xA5A5_5A5A_A5A5_5A5A;
+pub const UNKNOWN: [u32; 5] = [8, 9, 256, 1 << 16, u32::MAX];
 
-/// The answer to an unknown kind, and to lengths that do not fit.
-const REFUSED: u32 = 120;
+pub const IMPOSSIBLE: [&str; 2] = ["calm", "a flow above 15"];
 
-/// The words and tables that a burst is lent.
-#[derive(Clone, PartialEq)]
-struct Held {
-    shared: [u64; 6],
-    queues: [[u64; 21]; 2],
-    handles: Vec<u32>,
-    sizes: Vec<u32>,
+/// Records, sometimes with counts that have just room for so many arrivals or just do not.
+pub fn start(r: &mut Random, length: usize) -> (Side, Call, Burst) {
+    let (mut side, first) = single::case(r);
+    if r.one_in(5) {
+        let room = room(r, length);
+        side.records.queues[first.queue].verdicts = split(r, COUNTS_MAX - room);
+    }
+    let slots = side.records.shared.slots;
+    let lent = match first.kind {
+        Kind::Arrival { lent, .. } | Kind::Departure { lent } => lent,
+        _ => Lent::random(r, side.handles.len(), slots, false),
+    };
+    (side, first, Burst { flow: 0, lent, calls: Vec::new(), answers: length })
 }
 
-impl Held {
-    fn new(side: &Side) -> Held {
-        let mut held = Held {
-            shared: [0; 6],
-            queues: [[0; 21]; 2],
-            handles: side.handles.clone(),
-            sizes: side.sizes.clone(),
-        };
-        held.memory().write(&side.records);
-        held
+/// The next call: one for which refusals may have been chosen, or one of steady traffic.
+pub fn next(r: &mut Random, side: &Side, burst: &Burst, wild: bool) -> Call {
+    let (what, queue, lent) = (single::what(r), single::queue(r), burst.lent);
+    if wild || r.one_in(20) {
+        let none = Refusals::default();
+        let wanted = if r.one_in(3) { wanted(r, single::refusals(what)) } else { none };
+        return lend(calls::next(r, what, queue, side, &wanted), lent);
     }
-
-    fn memory(&mut self) -> Memory {
-        let [first, second] = &mut self.queues;
-        Memory {
-            shared: self.shared.as_mut_ptr() as *mut SharedRecord,
-            queues: [first, second].map(|words| words.as_mut_ptr() as *mut QueueRecord),
-        }
-    }
-
-    fn side(&mut self) -> Side {
-        Side::new(self.memory().read(), self.handles.clone(), self.sizes.clone())
-    }
-
-    /// The single entry's answer, as a word.
-    fn single(&mut self, call: &Call, lent: Lent) -> u64 {
-        let memory = self.memory();
-        let Call { queue, clock, kind } = *call;
-        let (h, s) = (&mut self.handles[..lent.handles], &mut self.sizes[..lent.sizes]);
-        match kind {
-            Kind::Arrival { packet, .. } => {
-                u64::from(memory.arrival(queue, (h, s), clock, &packet))
-            }
-            Kind::Departure { .. } => {
-                let mut packet: Packet = UNWRITTEN;
-                let code = memory.departure(queue, (h, s), clock, &mut packet);
-                u64::from(code) | u64::from(packet.size) << 16 | u64::from(packet.handle) << 32
-            }
-            _ => u64::from(memory.tick(queue, clock)),
-        }
+    let q = &side.records.queues[queue];
+    let clock = q.clock.saturating_add(r.spread(0, 2_000)).min(CLOCK_MAX).max(q.clock);
+    match what {
+        What::Arrival => Call::arrival(queue, lent, clock, calls::packet(r, q, false)),
+        What::Departure => Call::departure(queue, lent, clock),
+        What::Tick => Call::tick(queue, clock.max(q.last.saturating_add(TICK_PERIOD))),
     }
 }
 
-/// A call's six numbers.
-fn numbers(call: &Call) -> [u32; 6] {
-    let (low, high) = (call.clock as u32, (call.clock >> 32) as u32);
+fn lend(mut call: Call, to_all: Lent) -> Call {
+    if let Kind::Arrival { lent, .. } | Kind::Departure { lent } = &mut call.kind {
+        *lent = to_all;
+    }
+    call
+}
+
+/// What the kind of a call does not use is not 0.
+pub fn numbers(call: &Call) -> [u32; 6] {
     let base = 4 * call.queue as u32;
     match call.kind {
         Kind::Arrival { packet: p, .. } => {
-            [low, high, p.handle, p.size, p.u, base + u32::from(p.ecn)]
+            six(call.clock, [p.handle, p.size, p.u], base + u32::from(p.ecn))
         }
-        Kind::Departure { .. } => [low, high, 7, 7, 7, base + 2],
-        _ => [low, high, 7, 7, 7, base + 3],
+        Kind::Departure { .. } => six(call.clock, [7, 65_537, u32::MAX], base + 2),
+        Kind::Tick => six(call.clock, [u32::MAX, 1, 2], base + 3),
+        Kind::Fresh { .. } => unreachable!(),
     }
 }
 
-fn lent_to(call: &Call, side: &Side) -> Lent {
-    match call.kind {
-        Kind::Arrival { lent, .. } | Kind::Departure { lent } => lent,
-        _ => Lent { handles: side.handles.len(), sizes: side.sizes.len() },
-    }
+pub fn kind_of(number: u32) -> Option<u32> {
+    (number < 8).then_some(number % 4)
 }
 
-/// Random lists of calls on random records, sound and damaged; the first that differs is told.
-pub fn run(r: &mut Random, bursts: u64) -> Result<(), String> {
-    for _ in 0..bursts {
-        let (side, mut call) = single::case(r);
-        let lent = lent_to(&call, &side);
-        let mut alone = Held::new(&side);
-        let mut together = alone.clone();
-        let (mut list, mut expected) = (Vec::new(), Vec::new());
-        for _ in 0..r.pick(&[0, 1, 2, 8, 31, 32, 33]) {
-            if r.one_in(20) {
-                let kind = r.pick(&[8, 9, 256, u32::MAX]);
-                list.extend([call.clock as u32, 0, 1, 100, 0, kind]);
-                expected.push(u64::from(REFUSED));
-                continue;
-            }
-            if call.clock >> 48 > 1 {
-                call.clock = u64::MAX;
-            }
-            list.extend(numbers(&call));
-            expected.push(alone.single(&call, lent));
-            let what = single::what(r);
-            let none = Refusals::default();
-            let refused = if r.one_in(4) { wanted(r, single::refusals(what)) } else { none };
-            let queue = r.range(0, 1) as usize;
-            call = calls::next(r, what, queue, &alone.side(), &refused);
-        }
-        compare(&mut together, lent, &list, &expected, 0).and_then(|()| {
-            if together == alone {
-                Ok(())
-            } else {
-                Err("what is left".into())
-            }
-        })?;
-        misfit(r, &mut together, lent, list, expected.len())?;
-    }
-    Ok(())
-}
-
-fn compare(h: &mut Held, lent: Lent, l: &[u32], expected: &[u64], code: u32) -> Result<(), String> {
-    let mut answers = vec![UNANSWERED; expected.len()];
-    let memory = h.memory();
-    let tables = (&mut h.handles[..lent.handles], &mut h.sizes[..lent.sizes]);
-    let given = memory.calls(tables, l, &mut answers);
-    if given != code || answers != expected {
-        return Err(format!("burst {l:?}: {given} {answers:x?}, expected {code} {expected:x?}"));
-    }
-    Ok(())
-}
-
-/// Lengths that do not fit: nothing is done.
-fn misfit(
-    r: &mut Random,
-    h: &mut Held,
-    lent: Lent,
-    mut l: Vec<u32>,
-    n: usize,
-) -> Result<(), String> {
-    let before = h.clone();
-    let more = r.range(1, 5) as usize;
-    let n = if r.one_in(2) { n + more } else { n };
-    l.extend(std::iter::repeat(0).take(r.range(1, 5) as usize));
-    compare(h, lent, &l, &vec![UNANSWERED; n], REFUSED)?;
-    if *h == before {
-        Ok(())
-    } else {
-        Err("a burst of unfit lengths changed something".into())
-    }
+pub fn standing(side: &Side, _: &Burst) -> Standing {
+    let r = &side.records;
+    let [first, second] = r.queues.map(|queue| verdict_sum(&queue));
+    let counted = first.max(second);
+    Standing { formed: well_formed(r), slots: r.shared.slots, calm: false, counted }
 }

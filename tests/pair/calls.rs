@@ -40,7 +40,7 @@ fn right_clock(r: &mut Random, q: &Queue) -> u64 {
     r.pick(&list).max(q.clock).min(CLOCK_MAX)
 }
 
-fn packet(r: &mut Random, q: &Queue, wrong: bool) -> Arriving {
+pub fn packet(r: &mut Random, q: &Queue, wrong: bool) -> Arriving {
     let room = q.buffer.saturating_sub(q.bytes).min(SIZE.1);
     let any = r.spread(1, SIZE.1);
     let size = if wrong {

@@ -7,6 +7,7 @@
 //!   tick:      any two of 2, 4, 5
 //! Refusal 1 stands alone: it is the only one of fresh.
 
+use crate::burst;
 use crate::call::{Call, Kind, KINDS, QUEUES};
 use crate::edges::{self, LISTS};
 use crate::shared::groups::Groups;
@@ -30,9 +31,10 @@ const CONDITION: usize = 3;
 const STEP_UP: usize = 4;
 const STEP_DOWN: usize = 5;
 const RUN_EVENT: usize = 6;
-const REFUSALS: usize = 7; // and 8, 9, 10: fresh, arrival, departure, tick
-const PAIRS: usize = 11; // and 12, 13: arrival, departure, tick
-const EDGES: usize = 14; // and the following: the lists of `edges`
+const BURST: usize = 7;
+const REFUSALS: usize = 8; // and 9, 10, 11: fresh, arrival, departure, tick
+const PAIRS: usize = 12; // and 13, 14: arrival, departure, tick
+const EDGES: usize = 15; // and the following: the lists of `edges`
 
 const APPLY: [&[usize]; 4] = [&[1], &[2, 3, 4, 7, 8, 9], &[2, 3, 4, 6, 9], &[2, 4, 5]];
 const APART: [(usize, usize, usize); 3] = [(1, 2, 9), (1, 3, 9), (2, 6, 9)];
@@ -109,6 +111,7 @@ impl Coverage {
         groups.add("band with a step above zero", both, bands.clone());
         groups.add("band with a step below zero", both, bands);
         groups.add("long runs", (true, false), RUN_EVENTS.map(String::from).to_vec());
+        groups.add("burst", single, burst::labels());
         for (kind, name) in REFUSAL_NAMES.into_iter().enumerate() {
             groups.add(name, both, refusal_labels(kind, runs));
         }
@@ -144,6 +147,11 @@ impl Coverage {
     /// Counts one of `RUN_EVENTS`.
     pub fn note_run_event(&mut self, label: usize) {
         self.groups.hit(RUN_EVENT, label);
+    }
+
+    /// Counts one of `burst::LABELS`.
+    pub fn note_burst(&mut self, label: usize) {
+        self.groups.hit(BURST, label);
     }
 
     fn note_refusals(&mut self, before: &Side, call: &Call, after: &Side) {

@@ -2,6 +2,7 @@
 //! for themselves. Handles are read-only during a departure, and the records while they are asked
 //! whether they are well formed.
 
+use crate::burst::{Burst, Lists};
 use crate::call::{Call, Kind, Lent};
 use crate::library::{Memory, QueueRecord, SharedRecord};
 use crate::model::Arriving;
@@ -16,6 +17,7 @@ pub struct Guarded {
     packet: Area,
     handles: Area,
     sizes: Area,
+    lists: Lists,
 }
 
 impl Guarded {
@@ -26,6 +28,7 @@ impl Guarded {
             packet: Area::new(1, at_end),
             handles: Area::new(5, at_end),
             sizes: Area::new(5, at_end),
+            lists: Lists::new(at_end),
         }
     }
 
@@ -107,5 +110,20 @@ impl Lender for Guarded {
             Kind::Tick => memory.tick(call.queue, call.clock),
         };
         side.records = memory.read();
+    }
+
+    fn burst(&mut self, side: &mut Side, burst: &Burst) -> (u32, Vec<u64>) {
+        let (memory, lent) = (self.records(), burst.lent);
+        memory.write(&side.records);
+        let mut answers = Vec::new();
+        let answer = self.with_tables(side, lent, |guarded, h, s| {
+            let h = unsafe { from_raw_parts_mut(h, lent.handles) };
+            let run = |calls: &[u32], answers: &mut [u64]| memory.calls((h, s), calls, answers);
+            let said = guarded.lists.run(burst, run);
+            answers = said.1;
+            said.0
+        });
+        side.records = memory.read();
+        (answer, answers)
     }
 }

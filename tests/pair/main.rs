@@ -14,6 +14,8 @@ mod aims;
 mod alone;
 mod broken;
 mod broken_queue;
+#[path = "../shared/bursts.rs"]
+mod burst;
 mod bursts;
 mod call;
 mod calls;
@@ -52,10 +54,6 @@ const NAME: &str = "pair";
 fn main() {
     if std::env::args().skip(1).eq(["script"]) {
         return script::run();
-    }
-    if let Err(difference) = bursts::run(&mut shared::random::Random::new(80_338), 20_000) {
-        println!("{NAME}: {difference}");
-        std::process::exit(1);
     }
     let round = Round {
         seed: 80_337,

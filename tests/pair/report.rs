@@ -58,7 +58,7 @@ pub fn print_before(before: &Side, call: &Call) {
 }
 
 /// Every field of the three records, by name.
-fn fields(side: &Side) -> Vec<(String, u64)> {
+pub fn fields(side: &Side) -> Vec<(String, u64)> {
     let named = |name: &&str| name.to_string();
     let mut all: Vec<(String, u64)> =
         SHARED_FIELDS.iter().map(named).zip(shared_words(&side.records.shared)).collect();

@@ -1,5 +1,6 @@
 //! One side of the comparison: three records, two tables, and what the last call gave.
 
+use crate::burst::{self, Burst};
 pub use crate::call::Call;
 use crate::call::Kind;
 use crate::library::{Memory, QueueRecord, SharedRecord};
@@ -75,6 +76,9 @@ impl Side {
 /// A way to lend memory to the library and run a call by it.
 pub trait Lender {
     fn call(&mut self, side: &mut Side, call: &Call);
+
+    /// Runs a burst: its answer and the words of its calls' answers.
+    fn burst(&mut self, side: &mut Side, burst: &Burst) -> (u32, Vec<u64>);
 }
 
 /// Lends the memory of the side itself.
@@ -103,6 +107,18 @@ impl Lender for Direct {
         };
         side.records = memory.read();
         side.packet = handed_back(call, packet);
+    }
+
+    fn burst(&mut self, side: &mut Side, burst: &Burst) -> (u32, Vec<u64>) {
+        let mut shared = SharedRecord([0; 6]);
+        let (mut first, mut second) = (QueueRecord([0; 21]), QueueRecord([0; 21]));
+        let memory = Memory { shared: &mut shared, queues: [&mut first, &mut second] };
+        memory.write(&side.records);
+        let lent = burst.lent;
+        let tables = (&mut side.handles[..lent.handles], &mut side.sizes[..lent.sizes]);
+        let said = burst::directly(burst, |calls, answers| memory.calls(tables, calls, answers));
+        side.records = memory.read();
+        said
     }
 }
 

@@ -3,6 +3,7 @@
 
 use crate::aims;
 use crate::broken;
+use crate::burst;
 use crate::call::Call;
 use crate::calls::{self, What};
 use crate::coverage::Coverage;
@@ -18,9 +19,9 @@ use crate::shared::random::Random;
 use crate::side::{Lender, Side};
 use crate::states;
 
-/// Runs `starts` random records, each with a few calls in succession.
 pub use crate::fresh_calls::run as fresh_calls;
 
+/// Runs `starts` random records, each with a few calls in succession, then a few bursts.
 pub fn run(
     r: &mut Random,
     starts: u64,
@@ -42,14 +43,14 @@ pub fn run(
             call = calls::next(r, what, queue, &pair.model, &wanted);
         }
     }
-    Ok(())
+    burst::run(r, starts / 20, lender, coverage)
 }
 
 pub fn what(r: &mut Random) -> What {
     r.pick(&[What::Arrival, What::Arrival, What::Departure, What::Departure, What::Tick])
 }
 
-fn queue(r: &mut Random) -> usize {
+pub fn queue(r: &mut Random) -> usize {
     r.range(0, 1) as usize
 }
 
