@@ -64,6 +64,7 @@ static void constants(void)
     expect("PAIR_VERSION", OBIKUTERU_PAIR_VERSION, 1);
     expect("INTERCOM", OBIKUTERU_INTERCOM, 0);
     expect("PASSENGERS", OBIKUTERU_PASSENGERS, 1);
+    expect("CALL_PASSENGERS", OBIKUTERU_CALL_PASSENGERS, 4);
 }
 
 /* Well-formed records, no two fields of a queue alike. The intercom's packets stand at the places 1,
@@ -286,6 +287,61 @@ static void run_refusals(void)
     expect("a call on them", tick(OBIKUTERU_INTERCOM, 15000), OBIKUTERU_REFUSED_STATE);
 }
 
+enum { CALLS = 5 };
+
+/* A clock above 2^32, so that both of its halves count. */
+#define START (UINT64_C(5) << 32)
+
+/* A burst on the intercom by struct, and its numbers by hand; on the passengers each kind is greater by 4. */
+static const struct obikuteru_call calls[CALLS] = {
+    {START, 70, 500, 9, OBIKUTERU_CALL_ARRIVAL},
+    {START + 1, 71, 60000, 9, OBIKUTERU_CALL_ECN_ARRIVAL},
+    {START + 2, 0, 0, 0, OBIKUTERU_CALL_DEPARTURE},
+    {START + 15000, 0, 0, 0, OBIKUTERU_CALL_TICK},
+    {START + 15001, 72, 1, 0, 256},
+};
+
+static const uint32_t numbers[CALLS][6] = {
+    {0, 5, 70, 500, 9, 0}, {1, 5, 71, 60000, 9, 1}, {2, 5, 0, 0, 0, 2}, {15000, 5, 0, 0, 0, 3}, {15001, 5, 72, 1, 0, 256},
+};
+
+static const uint64_t answered[CALLS] = {0, 0, 65536u * 500u + (UINT64_C(70) << 32), 0, 120};
+
+static uint32_t burst(const struct obikuteru_call *list, size_t calls_len, uint64_t *answers)
+{
+    return obikuteru_pair_calls(&shared, &queues[0], &queues[1], handles, SLOTS, sizes, SLOTS, (const uint32_t *)list, calls_len,
+                                answers, CALLS);
+}
+
+/* One burst on a queue; the other's record stays as it was. */
+static void run_burst(bool second)
+{
+    struct obikuteru_call list[CALLS];
+    uint64_t answers[CALLS] = {7, 7, 7, 7, 7};
+
+    expect("the numbers of the calls", memcmp(calls, numbers, sizeof calls), 0);
+    memcpy(list, calls, sizeof list);
+    for (int i = 0; i < CALLS; i++)
+        list[i].kind += second ? OBIKUTERU_CALL_PASSENGERS : 0;
+    expect("fresh", obikuteru_pair_fresh(&shared, &queues[0], &queues[1], SLOTS, 15000, 64000, 2, START, 15000, 64000, 1, START),
+           OBIKUTERU_ACCEPTED);
+    expect("a burst that is too short", burst(list, 6 * CALLS - 1, answers), OBIKUTERU_REFUSED_CALL);
+    expect("its answers", answers[0], 7);
+    expect("what it leaves", shared.used, 0);
+    expect("a burst", burst(list, 6 * CALLS, answers), OBIKUTERU_ACCEPTED);
+    for (int i = 0; i < CALLS; i++)
+        expect("a word of an answer", answers[i], answered[i]);
+    expect_shared(2, 0, 1);
+    expect("its packets", queues[second].count, 1);
+    expect("its bytes", queues[second].bytes, 60000);
+    expect("its clock", queues[second].clock, START + 15000);
+    expect("its last tick", queues[second].last, START + 15000);
+    expect("its arrivals", queues[second].verdicts[0], 2);
+    expect("the other's packets", queues[!second].count, 0);
+    expect("the other's clock", queues[!second].clock, START);
+    expect("the other's arrivals", queues[!second].verdicts[0], 0);
+}
+
 int main(void)
 {
     shared_record();
@@ -296,5 +352,7 @@ int main(void)
     run_departures();
     run_arrivals();
     run_refusals();
+    run_burst(OBIKUTERU_INTERCOM);
+    run_burst(OBIKUTERU_PASSENGERS);
     return result();
 }

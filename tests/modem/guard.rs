@@ -146,7 +146,8 @@ impl Lender for Guarded {
         let s = self.sizes.table(&side.sizes[..sizes]);
         let h = unsafe { from_raw_parts_mut(h, handles) };
         let s = unsafe { from_raw_parts_mut(s, sizes) };
-        let run = |c: &[u32], answers: &mut [u64]| memory.calls(flow, (&mut *h, &mut *s), c, answers);
+        let run =
+            |c: &[u32], answers: &mut [u64]| memory.calls(flow, (&mut *h, &mut *s), c, answers);
         let said = self.lists.run(burst, run);
         side.handles[..handles].copy_from_slice(h);
         side.sizes[..sizes].copy_from_slice(s);

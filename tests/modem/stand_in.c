@@ -2,16 +2,19 @@
  * The modem's calls by bench/plain_modem.c, under the library's names: with it the comparison runs
  * on plain C, which shows that the bench measures against the same rules, refusals and all.
  *
- *   cc -O2 -Iinclude -c tests/modem/stand_in.c bench/plain_modem.c
- *   ar rcs libstand.a stand_in.o plain_modem.o
+ *   cc -O2 -Iinclude -c tests/modem/stand_in.c bench/plain_modem.c bench/plain_modem_burst.c
+ *   ar rcs libstand.a stand_in.o plain_modem.o plain_modem_burst.o
  *   rustc --edition 2021 -O -L native=. -l static=stand tests/modem/main.rs -o modem
  *
  * A word that the narrower field of plain C cannot hold becomes the greatest number, which is out
- * of every range; a record is written back only where the call was accepted.
+ * of every range; a record is written back only where the call was accepted, and where one call of a
+ * burst was.
  */
 #include <obikuteru.h>
 
-#include "../../bench/plain_modem.h"
+#include <string.h>
+
+#include "../../bench/plain_modem_burst.h"
 
 static uint32_t narrow(uint64_t word)
 {
@@ -86,6 +89,25 @@ uint32_t obikuteru_modem_tick(struct obikuteru_modem_state *state, uint64_t coun
 {
     struct plain_modem p = read(state);
     return answered(state, &p, plain_modem_tick(&p, counts, flow, clock, credits));
+}
+
+uint32_t obikuteru_modem_calls(struct obikuteru_modem_state *state, uint64_t counts[16][5],
+                               uint32_t flow, uint32_t *handles, size_t handles_len,
+                               uint32_t *sizes, size_t sizes_len, const uint32_t *calls,
+                               size_t calls_len, uint64_t *answers, size_t answers_len)
+{
+    struct plain_modem p = read(state);
+    bool accepted = false;
+    if (calls_len % 6 != 0 || calls_len / 6 != answers_len)
+        return OBIKUTERU_REFUSED_CALL;
+    plain_modem_calls(&p, counts, flow, handles, handles_len, sizes, sizes_len,
+                      (const struct plain_call *)calls, (struct plain_answered *)answers,
+                      answers_len);
+    for (size_t i = 0; i < answers_len; i++)
+        accepted |= !obikuteru_refused(answers[i] & 0xffff);
+    if (accepted)
+        write(state, &p);
+    return OBIKUTERU_ACCEPTED;
 }
 
 bool obikuteru_modem_well_formed(const struct obikuteru_modem_state *state,

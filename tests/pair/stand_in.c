@@ -3,19 +3,19 @@
  * with it the comparison runs on plain C, which shows that the bench measures against the same
  * rules, refusals and all.
  *
- *   cc -O2 -Iinclude -c tests/pair/stand_in.c bench/plain_pair.c bench/plain.c
- *   ar rcs libstand.a stand_in.o plain_pair.o plain.o
+ *   cc -O2 -Iinclude -c tests/pair/stand_in.c bench/plain_pair.c bench/plain_pair_burst.c bench/plain.c
+ *   ar rcs libstand.a stand_in.o plain_pair.o plain_pair_burst.o plain.o
  *   rustc --edition 2021 -O -L native=. -l static=stand tests/pair/main.rs -o pair
  *
  * A word that the narrower field of plain C cannot hold becomes the greatest number, which is out
- * of every range; a record is written back only where the call was accepted. Of the queue only what
- * a run from fresh needs is here.
+ * of every range; a record is written back only where the call was accepted. A burst runs in bursts
+ * of one call. Of the queue only what a run from fresh needs is here.
  */
 #include <obikuteru.h>
 
 #include <string.h>
 
-#include "../../bench/plain_pair.h"
+#include "../../bench/plain_pair_burst.h"
 
 static uint32_t narrow(uint64_t word)
 {
@@ -148,6 +148,32 @@ uint32_t obikuteru_pair_tick_of(const struct obikuteru_shared *shared,
     if (!obikuteru_refused(answer))
         write_queue(own, &r.queues[second]);
     return answer;
+}
+
+uint32_t obikuteru_pair_calls(struct obikuteru_shared *shared,
+                              struct obikuteru_pair_queue *intercom,
+                              struct obikuteru_pair_queue *passengers, uint32_t *handles,
+                              size_t handles_len, uint32_t *sizes, size_t sizes_len,
+                              const uint32_t *calls, size_t calls_len, uint64_t *answers,
+                              size_t answers_len)
+{
+    if (calls_len % 6 != 0 || calls_len / 6 != answers_len)
+        return OBIKUTERU_REFUSED_CALL;
+    for (size_t i = 0; i < answers_len; i++) {
+        struct records r = read(shared, intercom, passengers);
+        struct plain_call call;
+        struct plain_answered answer;
+        memcpy(&call, &calls[6 * i], sizeof call);
+        plain_pair_calls(&r.shared, &r.queues[0], &r.queues[1], handles, handles_len, sizes,
+                         sizes_len, &call, &answer, 1);
+        memcpy(&answers[i], &answer, sizeof answer);
+        if (!obikuteru_refused(answer.code)) {
+            bool second = PLAIN_PASSENGERS <= call.kind;
+            write_shared(shared, &r.shared);
+            write_queue(second ? passengers : intercom, &r.queues[second]);
+        }
+    }
+    return OBIKUTERU_ACCEPTED;
 }
 
 bool obikuteru_pair_well_formed(const struct obikuteru_shared *shared,
