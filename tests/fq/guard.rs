@@ -10,6 +10,7 @@ use crate::library::{self, Memory, Packet, KEY_BYTES};
 use crate::model::Arriving;
 use crate::shared::area::{Area, READ, READ_WRITE};
 use crate::side::{handed_back, Lender, Side, UNWRITTEN};
+use std::mem::size_of;
 use std::ptr::copy_nonoverlapping;
 use std::slice::{from_raw_parts, from_raw_parts_mut};
 

@@ -4,6 +4,7 @@
 use crate::flows::hash::Key;
 use crate::flows::{Record, Settings};
 use crate::model::Arriving;
+use std::mem::size_of;
 
 /// What a departure hands back: flow, handle, size.
 pub type Packet = [u32; 3];

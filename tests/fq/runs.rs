@@ -231,7 +231,7 @@ impl Run<'_> {
                 self.coverage.note_run_event(ARRIVAL_AFTER_TICKS);
             }
             let sender = self.senders[library.flow as usize].replace(key);
-            if sender.is_some_and(|sender| sender != key) {
+            if sender.map_or(false, |sender| sender != key) {
                 self.coverage.note_run_event(SHARED_FLOW);
             }
         }
@@ -252,7 +252,7 @@ impl Run<'_> {
         if library.record.common.count > before.record.common.count {
             let flow = library.flow as usize;
             let place = library.record.flows[flow].tail as usize;
-            if self.left_by[place].is_some_and(|other| other != flow) {
+            if self.left_by[place].map_or(false, |other| other != flow) {
                 self.coverage.note_run_event(OTHERS_SLOT);
             }
         } else if library.record.common.count < before.record.common.count {

@@ -65,7 +65,8 @@ impl Side {
             }
             Kind::Departure { lent } => {
                 let tables = (&self.handles[..lent.handles], &mut self.sizes[..lent.sizes]);
-                self.packet = departure(r, tables, call.clock)?.into();
+                let (flow, handle, size) = departure(r, tables, call.clock)?;
+                self.packet = [flow, handle, size];
                 Ok(0)
             }
             Kind::Tick => tick(r, call.clock).map(|()| 0),

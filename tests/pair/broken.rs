@@ -85,7 +85,7 @@ fn break_common(r: &mut Random, records: &mut Records) {
         let left = s.slots - s.reserve[queue];
         s.reserve[1 - queue] = r.pick(&[left, left, left.saturating_sub(1)]);
         let common = common_slots(&records.shared).map(u128::from);
-        if common.is_some_and(|common| common_use(records) > common) {
+        if common.map_or(false, |common| common_use(records) > common) {
             return;
         }
     }

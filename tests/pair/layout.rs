@@ -101,7 +101,7 @@ fn choose_reserves(r: &mut Random, records: &mut Records) {
         let second = if r.one_in(4) { slots - first } else { second.min(slots - first) };
         records.shared.reserve = [first, second];
         let common = common_slots(&records.shared).map(u128::from);
-        if common.is_some_and(|common| common_use(records) <= common) {
+        if common.map_or(false, |common| common_use(records) <= common) {
             return;
         }
     }

@@ -32,16 +32,16 @@ pub fn departure(before: &Side, _call: &Call, after: &Side) -> Found {
     let (size, link) = (u64::from(size_of(word)), link_of(word));
     let left = q.count.saturating_sub(1);
     let rest = q.bytes.checked_sub(size);
-    let fits = size > 0 && rest.is_some_and(|rest| left <= rest && rest <= 65_535 * left);
+    let fits = size > 0 && rest.map_or(false, |rest| left <= rest && rest <= 65_535 * left);
     let linked = q.count < 2 || link < c.slots;
     vec![
         ("6, both lists empty", !nine && c.listed == 0),
         ("6, emptied flows listed and owing", !nine && choice.total() > 0 && (0..64).any(|f| r.deficit(f) < 0)),
         ("size 0", nine && size == 0 && linked),
         ("bytes below 0", nine && rest.is_none() && linked),
-        ("bytes one below the count left", nine && rest.is_some_and(|rest| rest + 1 == left) && linked),
+        ("bytes one below the count left", nine && rest.map_or(false, |rest| rest + 1 == left) && linked),
         ("bytes one above 65,535 x count left", nine && rest == Some(65_535 * left + 1) && linked),
-        ("bytes left of the only packet", nine && size > 0 && left == 0 && rest.is_some_and(|rest| rest > 0)),
+        ("bytes left of the only packet", nine && size > 0 && left == 0 && rest.map_or(false, |rest| rest > 0)),
         ("link is the number of slots", nine && fits && !linked && link == c.slots),
         ("link 65,535", nine && fits && !linked && link == 65_535),
         ("size and link", nine && !fits && !linked),

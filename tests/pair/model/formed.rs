@@ -96,7 +96,7 @@ pub fn queue_conditions(q: &Queue, slots: u64) -> [bool; 21] {
 fn both_conditions(r: &Records) -> [bool; 2] {
     let [first, second] = r.queues.map(|q| u128::from(q.count));
     [
-        common_slots(&r.shared).is_none_or(|common| common_use(r) <= u128::from(common)),
+        common_slots(&r.shared).map_or(true, |common| common_use(r) <= u128::from(common)),
         first + second + u128::from(r.shared.spare) == u128::from(r.shared.used),
     ]
 }
