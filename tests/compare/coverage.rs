@@ -11,7 +11,7 @@ use crate::burst;
 use crate::calm;
 use crate::events;
 use crate::model::{self, Refusals, BANDS, CONDITIONS};
-use crate::shared::groups::{owned, Groups};
+use crate::shared::groups::{only_broken, owned, pair_labels, Groups, PAIR_NAMES, REFUSAL_NAMES};
 use crate::side::{Call, Side};
 
 pub struct Coverage {
@@ -46,18 +46,6 @@ fn refusal_labels(kind: usize, runs: bool) -> Vec<String> {
     numbered(&list, 10)
 }
 
-fn pair_labels(kind: usize) -> Vec<String> {
-    let mut labels = vec![String::new(); 100];
-    for &low in APPLY[kind] {
-        for &high in APPLY[kind].iter().filter(|&&high| high > low) {
-            if (low, high) != (6, 9) {
-                labels[low * 10 + high] = format!("{low} and {high}");
-            }
-        }
-    }
-    labels
-}
-
 fn band_ends() -> (Vec<String>, Vec<String>) {
     let last: Vec<String> = BANDS.iter().map(|band| band.0.to_string()).collect();
     let first = |i: usize| if i == 0 { 0 } else { BANDS[i - 1].0 + 1 };
@@ -74,16 +62,12 @@ impl Coverage {
         let single = (false, true);
         coverage.add("verdict", both, owned(&events::VERDICTS));
         coverage.add("arrival rule", both, owned(&events::RULES));
-        for (kind, name) in
-            ["refusal of fresh", "refusal of arrival", "refusal of departure", "refusal of tick"]
-                .into_iter()
-                .enumerate()
-        {
+        for (kind, name) in REFUSAL_NAMES.into_iter().enumerate() {
             coverage.add(name, both, refusal_labels(kind, runs));
         }
-        coverage.add("pair of refusals, arrival", single, pair_labels(1));
-        coverage.add("pair of refusals, departure", single, pair_labels(2));
-        coverage.add("pair of refusals, tick", single, pair_labels(3));
+        for (kind, name) in PAIR_NAMES.into_iter().enumerate().skip(1) {
+            coverage.add(name, single, pair_labels(APPLY[kind], &[(6, 9)], 10));
+        }
         coverage.add("band with a step above zero", both, bands.clone());
         coverage.add("band with a step below zero", both, bands);
         coverage.add("probability at the first of a band", single, first);
@@ -146,17 +130,12 @@ impl Coverage {
         if (101..=109).contains(&after.answer) {
             self.hit(REFUSALS + kind, after.answer as usize - 100);
         }
-        for low in 2..10 {
-            for high in (low + 1..10).filter(|&high| applying[low] && applying[high]) {
-                self.hit(PAIRS + kind - 1, low * 10 + high);
-            }
+        if kind == 0 {
+            return;
         }
-        if kind > 0 && applying[2] {
-            let conditions = model::conditions(&before.state);
-            if conditions.iter().filter(|&&holds| !holds).count() == 1 {
-                let broken = conditions.iter().position(|&holds| !holds);
-                self.hit(CONDITION, broken.unwrap_or(0));
-            }
+        self.groups.hit_pairs(PAIRS + kind - 1, &applying);
+        if let Some(broken) = only_broken(&model::conditions(&before.state)) {
+            self.hit(CONDITION, broken);
         }
     }
 

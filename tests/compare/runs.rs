@@ -63,8 +63,7 @@ fn begin(
     let Plan { target, buffer, slots, profile, clock, .. } = *plan;
     for (target, profile) in [(999, profile), (target, 2), (target, profile)] {
         let call = Call::Fresh(Asked { target, buffer, slots, profile, clock });
-        pair.call(&call)?;
-        coverage.note(&pair.before, &call, &pair.library);
+        pair.noted(&call, coverage)?;
     }
     if plan.arrivals_left > 0 {
         let counts = split(r, CLOCK_MAX - plan.arrivals_left);

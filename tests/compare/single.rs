@@ -25,18 +25,11 @@ pub fn run(
 ) -> Result<(), Failure> {
     for _ in 0..starts {
         let (side, first) = case(r);
-        let mut pair = Pair::new(&side, lender);
-        let mut call = first;
-        for _ in 0..1 + r.range(0, 4) {
-            pair.call(&call)?;
-            coverage.note(&pair.before, &call, &pair.library);
-            if pair.library.answer == 102 {
-                break;
-            }
+        Pair::new(&side, lender).several(r, first, coverage, |r, side| {
             let kind = kind(r);
             let wanted = if r.one_in(3) { wanted(r, kind) } else { Refusals::default() };
-            call = next_call(r, kind, &pair.model, &wanted);
-        }
+            next_call(r, kind, side, &wanted)
+        })?;
     }
     burst::run(r, starts / 20, lender, coverage)
 }
@@ -59,8 +52,7 @@ pub fn fresh_calls(lender: &mut dyn Lender, coverage: &mut Coverage) -> Result<(
                         let mut pair = Pair::new(&side, lender);
                         let asked = Asked { target, buffer, slots, profile, clock };
                         for call in [Call::Fresh(asked), Call::Tick { clock }] {
-                            pair.call(&call)?;
-                            coverage.note(&pair.before, &call, &pair.library);
+                            pair.noted(&call, coverage)?;
                         }
                     }
                 }

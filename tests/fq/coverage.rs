@@ -16,7 +16,7 @@ use crate::flows::FLOWS;
 use crate::model::numbers::BANDS;
 use crate::model::refusals::Refusals;
 use crate::model::tick::{band, queueing_delay, step};
-use crate::shared::groups::{owned, Groups};
+use crate::shared::groups::{only_broken, owned, pair_labels, Groups, PAIR_NAMES, REFUSAL_NAMES};
 use crate::shared::lines::VERDICTS;
 use crate::side::Side;
 
@@ -38,7 +38,7 @@ const PAIRS: usize = 12; // and 13, 14: arrival, departure, tick
 const EDGES: usize = 15; // and the following: the lists of `edges`
 
 const APPLY: [&[usize]; 4] = [&[1], &[2, 3, 4, 7, 8, 9], &[2, 3, 4, 6, 9], &[2, 4, 5]];
-const APART: [(usize, usize, usize); 4] = [(1, 2, 9), (1, 3, 9), (2, 2, 9), (2, 6, 9)];
+const APART: [&[(usize, usize)]; 4] = [&[], &[(2, 9), (3, 9)], &[(2, 9), (6, 9)], &[]];
 
 const RULES: [&str; 9] = [
     "1 bytes",
@@ -67,18 +67,6 @@ pub const ARRIVAL_AFTER_TICKS: usize = 3;
 fn refusal_labels(kind: usize, runs: bool) -> Vec<String> {
     let given = |n: usize| APPLY[kind].contains(&n) && (!runs || (n != 2 && n != 9));
     (0..10).map(|n| if given(n) { n.to_string() } else { String::new() }).collect()
-}
-
-fn pair_labels(kind: usize) -> Vec<String> {
-    let mut labels = vec![String::new(); 100];
-    for &low in APPLY[kind] {
-        for &high in APPLY[kind].iter().filter(|&&high| high > low) {
-            if !APART.contains(&(kind, low, high)) {
-                labels[low * 10 + high] = format!("{low} and {high}");
-            }
-        }
-    }
-    labels
 }
 
 /// A flow with a count above the slots or bytes above the buffer breaks a total too. Of the flows, the
@@ -128,8 +116,8 @@ impl Coverage {
         for (kind, name) in REFUSAL_NAMES.into_iter().enumerate() {
             groups.add(name, both, refusal_labels(kind, runs));
         }
-        for (kind, name) in PAIR_NAMES.into_iter().enumerate() {
-            groups.add(name, single, pair_labels(kind + 1));
+        for (kind, name) in PAIR_NAMES.into_iter().enumerate().skip(1) {
+            groups.add(name, single, pair_labels(APPLY[kind], APART[kind], 10));
         }
         for list in &LISTS {
             groups.add(list.name, list.needed, edges::labels(list));
@@ -145,12 +133,7 @@ impl Coverage {
             self.note_accepted(before, call, after);
         }
         for (place, list) in LISTS.iter().enumerate() {
-            if list.about.holds(call, after) {
-                let found = (list.find)(before, call, after);
-                for (label, _) in found.iter().enumerate().filter(|(_, (_, happened))| *happened) {
-                    self.groups.hit(EDGES + place, label);
-                }
-            }
+            self.groups.hit_all(EDGES + place, list.found(before, call, after));
         }
     }
 
@@ -164,17 +147,12 @@ impl Coverage {
         if (101..=109).contains(&after.answer) {
             self.groups.hit(REFUSALS + kind, after.answer as usize - 100);
         }
-        for low in 2..10 {
-            for high in (low + 1..10).filter(|&high| applying[low] && applying[high]) {
-                self.groups.hit(PAIRS + kind - 1, low * 10 + high);
-            }
+        if kind == 0 {
+            return;
         }
-        if kind > 0 && applying[2] {
-            let conditions = conditions(&before.record);
-            let mut broken = (0..CONDITIONS).filter(|&place| !conditions[place]);
-            if let (Some(place), None) = (broken.next(), broken.next()) {
-                self.groups.hit(CONDITION, condition_label(place));
-            }
+        self.groups.hit_pairs(PAIRS + kind - 1, &applying);
+        if let Some(broken) = only_broken(&conditions(&before.record)) {
+            self.groups.hit(CONDITION, condition_label(broken));
         }
     }
 
@@ -212,12 +190,6 @@ impl Coverage {
         self.groups.print(runs, all);
     }
 }
-
-const REFUSAL_NAMES: [&str; 4] =
-    ["refusal of fresh", "refusal of arrival", "refusal of departure", "refusal of tick"];
-
-const PAIR_NAMES: [&str; 3] =
-    ["pair of refusals, arrival", "pair of refusals, departure", "pair of refusals, tick"];
 
 /// The refusals that apply to a call.
 fn applying(before: &Side, call: &Call) -> Refusals {

@@ -88,8 +88,7 @@ fn begin<'a>(
     let mut pair = Pair::new(&start, lender);
     for settings in [Settings { target: 0, ..plan.settings }, plan.settings] {
         let call = Call::fresh(settings);
-        pair.call(&call)?;
-        coverage.note(&pair.before, &call, &pair.library);
+        pair.noted(&call, coverage)?;
     }
     if plan.arrivals_left > 0 {
         let counts = split(r, COUNTS_MAX - plan.arrivals_left);

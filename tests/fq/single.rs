@@ -29,19 +29,13 @@ pub fn run(
     coverage: &mut Coverage,
 ) -> Result<(), Failure> {
     for _ in 0..starts {
-        let (side, mut call) = case(r);
-        let mut pair = Pair::new(&side, lender);
-        for _ in 0..1 + r.range(0, 4) {
-            pair.call(&call)?;
-            coverage.note(&pair.before, &call, &pair.library);
-            if pair.library.answer == 102 {
-                break;
-            }
+        let (side, first) = case(r);
+        Pair::new(&side, lender).several(r, first, coverage, |r, side| {
             let what = what(r);
             let wanted = if r.one_in(3) { wanted(r, refusals(what)) } else { Refusals::default() };
             let key = calls::key(r);
-            call = calls::next(r, what, &key, &pair.model, &wanted);
-        }
+            calls::next(r, what, &key, side, &wanted)
+        })?;
     }
     Ok(())
 }

@@ -13,7 +13,7 @@ use crate::edges::{arrival, departure, ends, tick, Found};
 use crate::model::numbers::BANDS;
 use crate::model::{self, Refusals, CONDITIONS};
 use crate::sample;
-use crate::shared::groups::{owned, Groups};
+use crate::shared::groups::{only_broken, owned, pair_labels, Groups, PAIR_NAMES, REFUSAL_NAMES};
 use crate::shared::lines::VERDICTS;
 use crate::side::Side;
 
@@ -48,18 +48,6 @@ const RULES: [usize; 10] = [1, 2, 3, 5, 9, 10, 11, 12, 13, 14];
 fn refusal_labels(kind: usize, runs: bool) -> Vec<String> {
     let given = |n: usize| APPLY[kind].contains(&n) && (!runs || (n != 2 && n != 9));
     (0..11).map(|n| if given(n) { n.to_string() } else { String::new() }).collect()
-}
-
-fn pair_labels(kind: usize) -> Vec<String> {
-    let mut labels = vec![String::new(); 121];
-    for &low in APPLY[kind] {
-        for &high in APPLY[kind].iter().filter(|&&high| high > low) {
-            if (low, high) != (6, 9) && (low, high) != (8, 10) {
-                labels[low * 11 + high] = format!("{low} and {high}");
-            }
-        }
-    }
-    labels
 }
 
 /// A label for each flow and each kind of call.
@@ -103,7 +91,7 @@ impl Coverage {
             groups.add(name, both, refusal_labels(kind, runs));
         }
         for (kind, name) in PAIR_NAMES.into_iter().enumerate() {
-            groups.add(name, single, pair_labels(kind));
+            groups.add(name, single, pair_labels(APPLY[kind], &[(6, 9), (8, 10)], 11));
         }
         for (place, (name, needed)) in EDGE_LISTS.into_iter().enumerate() {
             groups.add(name, needed, sample::labels(place));
@@ -145,17 +133,11 @@ impl Coverage {
         if let Some(place) = WRONG_FLOWS.iter().position(|&flow| flow == call.flow) {
             self.groups.hit(WRONG_FLOW, 4 * place + kind);
         }
-        for low in 1..11 {
-            for high in (low + 1..11).filter(|&high| applying[low] && applying[high]) {
-                self.groups.hit(PAIRS + kind, low * 11 + high);
-            }
-        }
+        self.groups.hit_pairs(PAIRS + kind, &applying);
         if kind > 0 && applying[2] && !applying[10] {
             let row = model::row(&before.counts, call.flow);
-            let conditions = model::conditions(&before.state, &row);
-            if conditions.iter().filter(|&&holds| !holds).count() == 1 {
-                let broken = conditions.iter().position(|&holds| !holds);
-                self.groups.hit(CONDITION, broken.unwrap_or(0));
+            if let Some(broken) = only_broken(&model::conditions(&before.state, &row)) {
+                self.groups.hit(CONDITION, broken);
             }
         }
         if kind == 2 && after.answer == 109 {
@@ -219,16 +201,6 @@ impl Coverage {
         self.groups.print(runs, all);
     }
 }
-
-const REFUSAL_NAMES: [&str; 4] =
-    ["refusal of fresh", "refusal of arrival", "refusal of departure", "refusal of tick"];
-
-const PAIR_NAMES: [&str; 4] = [
-    "pair of refusals, fresh",
-    "pair of refusals, arrival",
-    "pair of refusals, departure",
-    "pair of refusals, tick",
-];
 
 /// The lists of `edges`, and whether the long runs and the single calls must reach all of each.
 pub const EDGE_LISTS: [(&str, (bool, bool)); 12] = [

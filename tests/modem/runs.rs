@@ -89,8 +89,7 @@ impl Run<'_> {
             (number, plan.settings),
         ] {
             let call = Call::fresh(flow, settings, plan.clock);
-            self.pair.call(&call)?;
-            self.coverage.note(&self.pair.before, &call, &self.pair.library);
+            self.pair.noted(&call, self.coverage)?;
         }
         self.counts = self.pair.library.counts;
         if plan.arrivals_left > 0 {

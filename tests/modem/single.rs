@@ -24,18 +24,11 @@ pub fn run(
     for _ in 0..starts {
         let (side, first) = case(r);
         let flow = first.flow;
-        let mut pair = Pair::new(&side, lender);
-        let mut call = first;
-        for _ in 0..1 + r.range(0, 4) {
-            pair.call(&call)?;
-            coverage.note(&pair.before, &call, &pair.library);
-            if pair.library.answer == 102 {
-                break;
-            }
+        Pair::new(&side, lender).several(r, first, coverage, |r, side| {
             let what = what(r);
             let wanted = if r.one_in(3) { wanted(r, what) } else { Refusals::default() };
-            call = calls::next(r, what, flow.min(15), &pair.model, &wanted);
-        }
+            calls::next(r, what, flow.min(15), side, &wanted)
+        })?;
     }
     burst::run(r, starts / 20, lender, coverage)
 }
@@ -43,36 +36,15 @@ pub fn run(
 /// Runs fresh with each setting at, beside and far from the ends of its range, one setting or two
 /// at a time, for flows of all kinds, and a tick on the record that it returned.
 pub fn fresh_calls(lender: &mut dyn Lender, coverage: &mut Coverage) -> Result<(), Failure> {
-    let ends: [(u64, u64); 5] = [TARGET, BUFFER, SLOTS, RATE, RATE];
-    let mut places: Vec<Vec<u64>> = ends.iter().map(|&ends| around(ends)).collect();
-    places.push(around((0, CLOCK_MAX)));
-    let sound = [10_000, 30_000, 64, 20_000, 10_000, 5];
+    let ranges = [TARGET, BUFFER, SLOTS, RATE, RATE, (0, CLOCK_MAX)];
     let mut turn = 0;
-    for (first, firsts) in places.iter().enumerate() {
-        for (second, seconds) in places.iter().enumerate().skip(first) {
-            for &one in firsts {
-                for &other in seconds {
-                    let mut words = sound;
-                    words[first] = one;
-                    words[second] = other;
-                    turn += 1;
-                    for flow in [turn % 16, 15, 16, 17, u32::MAX] {
-                        fresh_call(words, flow, lender, coverage)?;
-                    }
-                }
-            }
+    numbers::around_ends(ranges, [10_000, 30_000, 64, 20_000, 10_000, 5], |words| {
+        turn += 1;
+        for flow in [turn % 16, 15, 16, 17, u32::MAX] {
+            fresh_call(words, flow, lender, coverage)?;
         }
-    }
-    Ok(())
-}
-
-/// Numbers at, beside and far from both ends of a range.
-fn around((least, most): (u64, u64)) -> Vec<u64> {
-    let far = [(1 << 32) + 1_500, 1 << 63, u64::MAX];
-    let mut list = vec![0, least.saturating_sub(1), least, least + 1, most - 1, most, most + 1];
-    list.extend(far);
-    list.dedup();
-    list
+        Ok(())
+    })
 }
 
 fn fresh_call(
@@ -87,8 +59,7 @@ fn fresh_call(
     let side = Side::new(dirty, [[7, 6, u64::MAX, 4, 3]; 16], Vec::new(), Vec::new());
     let mut pair = Pair::new(&side, lender);
     for call in [Call::fresh(flow, settings, clock), Call::tick(flow, clock, 0)] {
-        pair.call(&call)?;
-        coverage.note(&pair.before, &call, &pair.library);
+        pair.noted(&call, coverage)?;
     }
     Ok(())
 }

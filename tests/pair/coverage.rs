@@ -10,13 +10,13 @@
 use crate::burst;
 use crate::call::{Call, Kind, KINDS, QUEUES};
 use crate::edges::{self, LISTS};
-use crate::shared::groups::Groups;
 use crate::model::arrival::decide;
 use crate::model::formed::{condition_names, conditions};
 use crate::model::numbers::BANDS;
 use crate::model::refusals::*;
 use crate::model::tick::{band, queueing_delay, step};
 use crate::report::VERDICTS;
+use crate::shared::groups::{only_broken, owned, pair_labels, Groups, PAIR_NAMES, REFUSAL_NAMES};
 use crate::side::Side;
 
 pub struct Coverage {
@@ -37,7 +37,7 @@ const PAIRS: usize = 12; // and 13, 14: arrival, departure, tick
 const EDGES: usize = 15; // and the following: the lists of `edges`
 
 const APPLY: [&[usize]; 4] = [&[1], &[2, 3, 4, 7, 8, 9], &[2, 3, 4, 6, 9], &[2, 4, 5]];
-const APART: [(usize, usize, usize); 3] = [(1, 2, 9), (1, 3, 9), (2, 6, 9)];
+const APART: [&[(usize, usize)]; 4] = [&[], &[(2, 9), (3, 9)], &[(6, 9)], &[]];
 
 const RULES: [&str; 9] = [
     "1 bytes",
@@ -73,18 +73,6 @@ fn refusal_labels(kind: usize, runs: bool) -> Vec<String> {
     (0..20).map(label).collect()
 }
 
-fn pair_labels(kind: usize) -> Vec<String> {
-    let mut labels = vec![String::new(); 100];
-    for &low in APPLY[kind] {
-        for &high in APPLY[kind].iter().filter(|&&high| high > low) {
-            if !APART.contains(&(kind, low, high)) {
-                labels[low * 10 + high] = format!("{low} and {high}");
-            }
-        }
-    }
-    labels
-}
-
 /// That a count is above the slots cannot be the only condition broken.
 fn condition_labels() -> Vec<String> {
     let alone = |name: String| if name.ends_with("count <= slots") { String::new() } else { name };
@@ -110,13 +98,13 @@ impl Coverage {
         groups.add("only this condition broken", single, condition_labels());
         groups.add("band with a step above zero", both, bands.clone());
         groups.add("band with a step below zero", both, bands);
-        groups.add("long runs", (true, false), RUN_EVENTS.map(String::from).to_vec());
+        groups.add("long runs", (true, false), owned(&RUN_EVENTS));
         groups.add("burst", single, burst::labels());
         for (kind, name) in REFUSAL_NAMES.into_iter().enumerate() {
             groups.add(name, both, refusal_labels(kind, runs));
         }
-        for (kind, name) in PAIR_NAMES.into_iter().enumerate() {
-            groups.add(name, single, pair_labels(kind + 1));
+        for (kind, name) in PAIR_NAMES.into_iter().enumerate().skip(1) {
+            groups.add(name, single, pair_labels(APPLY[kind], APART[kind], 10));
         }
         for list in &LISTS {
             groups.add(list.name, list.needed, edges::labels(list));
@@ -132,15 +120,7 @@ impl Coverage {
             self.note_accepted(before, call, after);
         }
         for (place, list) in LISTS.iter().enumerate() {
-            if list.about.holds(call, after) {
-                for (label, (_, happened)) in
-                    (list.find)(before, call, after).into_iter().enumerate()
-                {
-                    if happened {
-                        self.groups.hit(EDGES + place, label);
-                    }
-                }
-            }
+            self.groups.hit_all(EDGES + place, list.found(before, call, after));
         }
     }
 
@@ -159,17 +139,12 @@ impl Coverage {
         if (101..=109).contains(&after.answer) {
             self.groups.hit(REFUSALS + kind, 10 * call.queue + after.answer as usize - 100);
         }
-        for low in 2..10 {
-            for high in (low + 1..10).filter(|&high| applying[low] && applying[high]) {
-                self.groups.hit(PAIRS + kind - 1, low * 10 + high);
-            }
+        if kind == 0 {
+            return;
         }
-        if kind > 0 && applying[2] {
-            let conditions = conditions(&before.records);
-            if conditions.iter().filter(|&&holds| !holds).count() == 1 {
-                let broken = conditions.iter().position(|&holds| !holds);
-                self.groups.hit(CONDITION, broken.unwrap_or(0));
-            }
+        self.groups.hit_pairs(PAIRS + kind - 1, &applying);
+        if let Some(broken) = only_broken(&conditions(&before.records)) {
+            self.groups.hit(CONDITION, broken);
         }
     }
 
@@ -205,12 +180,6 @@ impl Coverage {
         self.groups.print(runs, all);
     }
 }
-
-const REFUSAL_NAMES: [&str; 4] =
-    ["refusal of fresh", "refusal of arrival", "refusal of departure", "refusal of tick"];
-
-const PAIR_NAMES: [&str; 3] =
-    ["pair of refusals, arrival", "pair of refusals, departure", "pair of refusals, tick"];
 
 /// The refusals that apply to a call.
 fn applying(before: &Side, call: &Call) -> Refusals {

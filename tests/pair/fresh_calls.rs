@@ -4,6 +4,7 @@ use crate::call::Call;
 use crate::coverage::Coverage;
 use crate::model::numbers::*;
 use crate::model::{Records, Settings};
+use crate::shared::numbers::around_ends;
 use crate::shared::pair::{Failure, Pair};
 use crate::side::{Lender, Side};
 
@@ -12,20 +13,8 @@ use crate::side::{Lender, Side};
 pub fn run(lender: &mut dyn Lender, coverage: &mut Coverage) -> Result<(), Failure> {
     let ranges =
         [SLOTS, TARGET, BUFFER, (0, 64), (0, CLOCK_MAX), TARGET, BUFFER, (0, 64), (0, CLOCK_MAX)];
-    let places = ranges.map(around);
     let sound = [64, 15_000, 64_000, 20, 5, 20_000, 30_000, 30, 1_000_000];
-    for (first, firsts) in places.iter().enumerate() {
-        for (second, seconds) in places.iter().enumerate().skip(first) {
-            for &one in firsts {
-                for &other in seconds {
-                    let mut words = sound;
-                    words[first] = one;
-                    words[second] = other;
-                    fresh_call(words, lender, coverage)?;
-                }
-            }
-        }
-    }
+    around_ends(ranges, sound, |words| fresh_call(words, lender, coverage))?;
     for (slots, reserves) in RESERVES {
         let mut words = sound;
         (words[0], words[3], words[7]) = (slots, reserves.0, reserves.1);
@@ -48,15 +37,6 @@ const RESERVES: [(u64, (u64, u64)); 10] = [
     (64, (1 << 63, 1 << 63)),
 ];
 
-/// Numbers at, beside and far from both ends of a range.
-fn around((least, most): (u64, u64)) -> Vec<u64> {
-    let far = [(1 << 32) + 1_500, 1 << 63, u64::MAX];
-    let mut list = vec![0, least.saturating_sub(1), least, least + 1, most - 1, most, most + 1];
-    list.extend(far);
-    list.dedup();
-    list
-}
-
 fn fresh_call(
     words: [u64; 9],
     lender: &mut dyn Lender,
@@ -73,8 +53,7 @@ fn fresh_call(
     let mut pair = Pair::new(&Side::new(dirty, Vec::new(), Vec::new()), lender);
     let fresh = Call::fresh(slots, [first, second]);
     for call in [fresh, Call::tick(0, first.clock), Call::tick(1, second.clock)] {
-        pair.call(&call)?;
-        coverage.note(&pair.before, &call, &pair.library);
+        pair.noted(&call, coverage)?;
     }
     Ok(())
 }

@@ -85,8 +85,7 @@ fn begin<'a>(
     let nothing = [Settings { target: 0, ..settings[0] }, settings[1]];
     for settings in [wrong, nothing, settings] {
         let call = Call::fresh(slots, settings);
-        pair.call(&call)?;
-        coverage.note(&pair.before, &call, &pair.library);
+        pair.noted(&call, coverage)?;
     }
     for (queue, plan) in plans.iter().enumerate().filter(|(_, plan)| plan.arrivals_left > 0) {
         let counts = states::split(r, COUNTS_MAX - plan.arrivals_left);

@@ -13,6 +13,36 @@ struct Group {
 #[derive(Default)]
 pub struct Groups(Vec<Group>);
 
+pub const REFUSAL_NAMES: [&str; 4] =
+    ["refusal of fresh", "refusal of arrival", "refusal of departure", "refusal of tick"];
+
+pub const PAIR_NAMES: [&str; 4] = [
+    "pair of refusals, fresh",
+    "pair of refusals, arrival",
+    "pair of refusals, departure",
+    "pair of refusals, tick",
+];
+
+/// A label for each two of these refusals, below `limit`, that are not apart.
+pub fn pair_labels(apply: &[usize], apart: &[(usize, usize)], limit: usize) -> Vec<String> {
+    let mut labels = vec![String::new(); limit * limit];
+    for &low in apply {
+        for &high in apply.iter().filter(|&&high| high > low && !apart.contains(&(low, high))) {
+            labels[low * limit + high] = format!("{low} and {high}");
+        }
+    }
+    labels
+}
+
+/// The place of the only condition that does not hold, if it is one alone.
+pub fn only_broken(conditions: &[bool]) -> Option<usize> {
+    let mut broken = (0..conditions.len()).filter(|&place| !conditions[place]);
+    match (broken.next(), broken.next()) {
+        (place, None) => place,
+        _ => None,
+    }
+}
+
 pub fn owned(list: &[&str]) -> Vec<String> {
     list.iter().map(|label| label.to_string()).collect()
 }
@@ -25,6 +55,21 @@ impl Groups {
 
     pub fn hit(&mut self, group: usize, label: usize) {
         self.0[group].counts[label] += 1;
+    }
+
+    #[allow(dead_code)]
+    pub fn hit_all(&mut self, group: usize, labels: Vec<usize>) {
+        labels.into_iter().for_each(|label| self.hit(group, label));
+    }
+
+    /// Counts each two refusals that apply to one call.
+    pub fn hit_pairs(&mut self, group: usize, applying: &[bool]) {
+        let numbers: Vec<usize> = (0..applying.len()).filter(|&n| applying[n]).collect();
+        for (place, low) in numbers.iter().enumerate() {
+            for high in &numbers[place + 1..] {
+                self.hit(group, low * applying.len() + high);
+            }
+        }
     }
 
     /// What was needed and not reached.

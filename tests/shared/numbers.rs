@@ -114,6 +114,38 @@ pub fn too_many(r: &mut Random) -> [u64; 5] {
     counts
 }
 
+/// Numbers at, beside and far from both ends of a range.
+fn around((least, most): (u64, u64)) -> Vec<u64> {
+    let far = [(1 << 32) + 1_500, 1 << 63, u64::MAX];
+    let mut list = vec![0, least.saturating_sub(1), least, least + 1, most - 1, most, most + 1];
+    list.extend(far);
+    list.dedup();
+    list
+}
+
+/// Sound numbers, but for one or two of them, which are at, beside and far from the ends of their ranges.
+#[allow(dead_code)]
+pub fn around_ends<const N: usize, E>(
+    ranges: [(u64, u64); N],
+    sound: [u64; N],
+    mut run: impl FnMut([u64; N]) -> Result<(), E>,
+) -> Result<(), E> {
+    let places = ranges.map(around);
+    for (first, firsts) in places.iter().enumerate() {
+        for (second, seconds) in places.iter().enumerate().skip(first) {
+            for &one in firsts {
+                for &other in seconds {
+                    let mut words = sound;
+                    words[first] = one;
+                    words[second] = other;
+                    run(words)?;
+                }
+            }
+        }
+    }
+    Ok(())
+}
+
 /// A number far outside most ranges, or one that looks in range if its high bits are lost.
 pub fn wild(r: &mut Random, value: u64) -> u64 {
     let any = r.number();

@@ -1,6 +1,8 @@
 //! Model and library side by side: each call runs on both, and everything is compared.
 
+use super::random::Random;
 use super::stop;
+use crate::coverage::Coverage;
 use crate::report;
 use crate::side::{Call, Direct, Lender, Side};
 use crate::NAME;
@@ -48,6 +50,34 @@ impl<'a> Pair<'a> {
             model: self.model.clone(),
             library: self.library.clone(),
         })))
+    }
+}
+
+impl Pair<'_> {
+    /// Runs one call on both sides, and counts what it reached.
+    pub fn noted(&mut self, call: &Call, coverage: &mut Coverage) -> Result<(), Failure> {
+        self.call(call)?;
+        coverage.note(&self.before, call, &self.library);
+        Ok(())
+    }
+
+    /// Runs this call and a few more in succession; a record that is refused is left at once.
+    pub fn several(
+        &mut self,
+        r: &mut Random,
+        first: Call,
+        coverage: &mut Coverage,
+        next: impl Fn(&mut Random, &Side) -> Call,
+    ) -> Result<(), Failure> {
+        let mut call = first;
+        for _ in 0..1 + r.range(0, 4) {
+            self.noted(&call, coverage)?;
+            if self.library.answer == 102 {
+                break;
+            }
+            call = next(r, &self.model);
+        }
+        Ok(())
     }
 }
 

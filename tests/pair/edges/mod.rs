@@ -1,42 +1,18 @@
 //! Names what happens at a call, with both sides of the edges of the rules. Each list pairs a name
 //! with whether it happened; the coverage counts them by their places.
 
+pub mod about;
 pub mod ends;
 pub mod refused;
 pub mod rules;
 pub mod store;
 
-use crate::call::{Call, Kind, Lent};
+pub use about::Found;
+use about::{packet, About, List, BOTH, SINGLE};
+use crate::call::{Call, Lent};
 use crate::model::fresh::fresh;
 use crate::model::{Arriving, Queue, Settings};
 use crate::side::Side;
-
-/// Names, each with whether it happened.
-pub type Found = Vec<(&'static str, bool)>;
-
-/// The calls that a list is about.
-#[derive(Clone, Copy, PartialEq)]
-pub enum About {
-    Arrivals,
-    Departures,
-    Ticks,
-    /// Refused by 9.
-    WrongArrivals,
-    WrongDepartures,
-    /// All calls but fresh on well-formed records.
-    Sound,
-}
-
-pub struct List {
-    pub name: &'static str,
-    pub about: About,
-    /// Whether the long runs must reach every label, and whether the single calls must.
-    pub needed: (bool, bool),
-    pub find: fn(&Side, &Call, &Side) -> Found,
-}
-
-const BOTH: (bool, bool) = (true, true);
-const SINGLE: (bool, bool) = (false, true);
 
 #[rustfmt::skip]
 pub const LISTS: [List; 14] = [
@@ -61,45 +37,11 @@ fn called(before: &Side, call: &Call, after: &Side) -> [Queue; 2] {
     [before.records.queues[call.queue], after.records.queues[call.queue]]
 }
 
-fn packet(call: &Call) -> &Arriving {
-    match &call.kind {
-        Kind::Arrival { packet, .. } => packet,
-        _ => unreachable!(),
-    }
-}
-
-impl About {
-    pub fn holds(self, call: &Call, after: &Side) -> bool {
-        let accepted = after.answer < 100;
-        let wrong = after.answer == 109;
-        match call.kind {
-            _ if self == About::Sound => !call.is_fresh() && after.well_formed,
-            Kind::Fresh { .. } => false,
-            Kind::Arrival { .. } => {
-                (self == About::Arrivals && accepted) || (self == About::WrongArrivals && wrong)
-            }
-            Kind::Departure { .. } => {
-                (self == About::Departures && accepted) || (self == About::WrongDepartures && wrong)
-            }
-            Kind::Tick => self == About::Ticks && accepted,
-        }
-    }
-}
-
 /// The names in a list, taken from a sample call.
 pub fn labels(list: &List) -> Vec<String> {
     let set = Settings { target: 15_000, buffer: 64_000, reserve: 1, clock: 0 };
-    let mut side = Side::new(fresh(4, [set, set]).1, vec![0; 4], vec![0; 4]);
-    let lent = Lent::both(4);
-    let packet = Arriving { handle: 7, size: 100, ecn: false, u: 0 };
+    let side = Side::new(fresh(4, [set, set]).1, vec![0; 4], vec![0; 4]);
+    let (lent, packet) = (Lent::both(4), Arriving { handle: 7, size: 100, ecn: false, u: 0 });
     let arrival = Call::arrival(0, lent, 0, packet);
-    side.call_model(&arrival);
-    let call = match list.about {
-        About::Arrivals | About::WrongArrivals => arrival,
-        About::Ticks => Call::tick(0, 15_000),
-        _ => Call::departure(0, lent, 0),
-    };
-    let before = side.clone();
-    side.call_model(&call);
-    (list.find)(&before, &call, &side).into_iter().map(|(label, _)| label.to_string()).collect()
+    list.labels(side, [arrival, Call::departure(0, lent, 0), Call::tick(0, 15_000)])
 }
