@@ -184,9 +184,8 @@ bool obikuteru_well_formed(const struct obikuteru_state *state);
 /*
  * Many calls in one: a burst. Each call is answered as its single entry would answer it, refused
  * ones included, each given what the last one left; so a list of calls may be cut into bursts
- * anywhere. The record of a plain queue is tested once, and a call in a burst of 32 costs less
- * than half of a single one; that of a calm queue is tested at each call, which then costs as much
- * as a single one. The modem has no bursts.
+ * anywhere. The record is tested once, and a call in a burst of 32 costs less than half of a
+ * single one, of a plain queue and of a calm one. The modem has no bursts.
  */
 struct obikuteru_call {
     uint64_t clock;
