@@ -27,25 +27,18 @@ admitted-place DroppedEarly = refl
 pub admits-as : (d : Decided) (place : ℕ) → place ≡ placeOf (d .verdict) → (b : Bool) → ltb place 2 ≡ b → admitted (d .verdict) ≡ b
 admits-as d place e b t = sym (admitted-place (d .verdict)) ∙ ap (λ (n : ℕ). ltb n 2) (sym e) ∙ t
 
--- where the words w are d after the rules have decided: first place, count, slots and bytes are read as they were
-abbrev pub Reads : (w d : List ℕ) (clock : ℕ) → Type 0
-Reads w d clock =
-    let next = set d 5 clock in
-    (getD next 13 0 ≡ getD w 13 0)
-    × (getD next 14 0 ≡ getD w 14 0)
-    × (getD next 2 0 ≡ getD w 2 0)
-    × ((n : ℕ) → getD (set next 14 n) 15 0 ≡ getD w 15 0)
-
+-- the words w after the rules have decided are d
 module _ (w d : List ℕ) (long : length w ≡ 16) where
-  pub read : (q : DocsisPie) → d ≡ pieWords w q → (clock : ℕ) → Reads w d clock
-  read q k clock = rw k (past-decision clock q w long)
+  -- the first place is read as it was
+  pub first-read : (q : DocsisPie) → d ≡ pieWords w q → (clock : ℕ) → getD (set d 5 clock) 13 0 ≡ getD w 13 0
+  first-read q k clock = rw k (past-decision clock q w long)
 
   module _ (clock size u place : ℕ) (e : place ≡ placeOf ((decisionOf (stateOf w) size u) .verdict))
       (k : d ≡ pieWords w ((decisionOf (stateOf w) size u) .pie)) where
     abbrev decided : Decided
     decided = decisionOf (stateOf w) size u
 
-    pub entered-ok : ltb place 2 ≡ true → enteredWords (set d 5 clock) size ≡ stateWords (arrivedState (stateOf w) clock size decided)
+    pub entered-ok : ltb place 2 ≡ true → enteredWords (set d 5 clock) w size ≡ stateWords (arrivedState (stateOf w) clock size decided)
     entered-ok t =
         rw k (rw (admits-as decided place e true t) at (arrived-words clock size decided w long))
         ∙ arrival-words w (stateOf w) clock size u (refl, long)

@@ -1,20 +1,20 @@
 -- Verdict and words, by the tests of the rules.
 use mathlib.Core.Path.{_≡_, refl, ap, sym, _∙_}
-use mathlib.Core.Bool.{Bool, true, false, cond, _&&_, _||_, false≢true}
+use mathlib.Core.Bool.{Bool, true, false, cond, _||_}
 use mathlib.Core.List.{List}
-use Prim.Native.Nat.{ℕ, _+_, _*_, _≤_, min}
+use Prim.Native.Nat.{ℕ, _+_, _≤_, min}
 use native.Mathlib.Omega.{arith}
-use lib.Dec.{eqb, leb, ltb}
+use lib.Dec.{eqb, ltb}
 use lib.ListN.{getD, length, set}
 use Rattle.laws.proofs.Choice.{either}
-use Rattle.units.specs.Kinds.{none, whole}
+use Rattle.units.specs.Kinds.{none}
 use Rattle.pie.specs.Constants.{longest}
-use Rattle.pie.specs.Verdicts.{placeOf}
+use Rattle.pie.specs.Verdicts.{isEarly, placeOf}
 use Rattle.pie.specs.declared.Verdict.{Verdict}
 use Rattle.pie.specs.declared.Verdict.the-variants.{DroppedEarly, Enqueued}
-use Rattle.docsis_pie.specs.Constants.{high, low, mostProb, smallQueue}
+use Rattle.docsis_pie.specs.Constants.{high, mostProb}
 use Rattle.docsis_pie.specs.DropDecision.{afterDrop, cleared, decided, drawn, drawnWith, scaledOf, staysInactive, summed, withAccumulated}
-use Rattle.docsis_pie.specs.DropDecision.{woken}
+use Rattle.docsis_pie.specs.DropDecision.{early, isSmall, lightlyLoaded, sumIsHigh, sumIsLow, woken}
 use Rattle.docsis_pie.specs.declared.Decided.{Decided}
 use Rattle.docsis_pie.specs.declared.DocsisPie.{DocsisPie}
 use Rattle.docsis_pie.proofs.NeverEarly.{woken-accumulated}
@@ -22,23 +22,33 @@ use Rattle.docsis_flow.specs.Arrival.{decisionOf}
 use Rattle.docsis_capi.specs.Words.{pieOf, stateOf}
 use Rattle.docsis_capi.proofs.Changed.{Same, same-cleared, same-woken}
 use Rattle.docsis_burst.specs.Words.{pieWords}
-use Rattle.docsis_burst.proofs.Words.{pie-back, pie-buffer, pie-long, pie-same, pie-target, pie-twice, spent-words, sum-pie, sum-twice, summed-words}
+use Rattle.docsis_burst.proofs.Words.{pie-back, pie-buffer, pie-long, pie-same, pie-target, pie-twice, spent-words, sum-pie, sum-target, sum-twice, summed-words}
 
 -- ── rules 7 to 15 ──
 
 -- rules 12 and 13, joined
-either-drops : (a b : Bool) (v w : Verdict) → a || b ≡ true → cond a v (cond b v w) ≡ v
-either-drops true b v w e = refl
-either-drops false true v w e = refl
-either-drops false false v w e = absurd (false≢true e)
+pub either-drops : (a b : Bool) → a || b ≡ isEarly (cond a DroppedEarly (cond b DroppedEarly Enqueued))
+either-drops true b = refl
+either-drops false true = refl
+either-drops false false = refl
 
-neither-drops : (a b : Bool) (v w : Verdict) → a || b ≡ false → cond a v (cond b v w) ≡ w
-neither-drops true b v w e = absurd (false≢true (sym e))
-neither-drops false true v w e = absurd (false≢true (sym e))
-neither-drops false false v w e = refl
+-- the verdict is an early drop, or none
+drawn-place : (pie : DocsisPie) (target bytes scaled u : ℕ) →
+    let v = drawn pie target bytes scaled u in placeOf v ≡ cond (isEarly v) 4 0
+unfolding drawn
+drawn-place pie target bytes scaled u =
+    either P (lightlyLoaded pie target) Enqueued _ refl
+    (either P (isSmall bytes) Enqueued _ refl
+    (either P (sumIsLow pie) Enqueued _ refl
+    (either P (sumIsHigh pie) DroppedEarly _ refl
+    (either P (early scaled u) DroppedEarly Enqueued refl refl))))
+  where
+    P : Verdict → Type 0
+    P v = placeOf v ≡ cond (isEarly v) 4 0
 
 module _ (w : List ℕ) (long : length w ≡ 16) (bytes size u part sum : ℕ)
-    (ep : part ≡ scaledOf (getD w 7 0) size) (es : sum ≡ min (getD w 8 0 + part) high) where
+    (ep : part ≡ scaledOf (getD w 7 0) size) (es : sum ≡ min (getD w 8 0 + part) high)
+    (drops : Bool) (ed : drops ≡ isEarly (drawn (pieOf (set w 8 sum)) (getD (set w 8 sum) 0 0) bytes part u)) where
   abbrev drawnHere : Decided
   drawnHere = let s = scaledOf (getD w 7 0) size in drawnWith (summed (pieOf w) s) (getD w 0 0) bytes s u
 
@@ -46,47 +56,39 @@ module _ (w : List ℕ) (long : length w ≡ 16) (bytes size u part sum : ℕ)
   abbrev Draws : (place : ℕ) (after : List ℕ) → Type 0
   Draws place after = (place ≡ placeOf (drawnHere .verdict)) × (after ≡ pieWords w (drawnHere .pie))
 
-  written : set w 8 sum ≡ pieWords w (summed (pieOf w) (scaledOf (getD w 7 0) size))
-  written = rw (es, ep) (summed-words (scaledOf (getD w 7 0) size) w long)
+  abbrev summedHere : DocsisPie
+  summedHere = summed (pieOf w) (scaledOf (getD w 7 0) size)
 
-  abbrev light : Bool
-  light = ltb (2 * getD w 9 0) (getD w 0 0) && ltb (5 * getD w 7 0) whole
+  -- rule 8
+  summed-pie : pieOf (set w 8 sum) ≡ summedHere
+  summed-pie = rw (es, ep) (sum-pie (scaledOf (getD w 7 0) size) w long)
 
-  -- rule 9
-  pub light-draws : light ≡ true → Draws 0 (set w 8 sum)
-  unfolding drawnWith drawn
-  light-draws e = rw e (refl, written)
+  abbrev verdictHere : Verdict
+  verdictHere = drawn summedHere (getD w 0 0) bytes (scaledOf (getD w 7 0) size) u
 
-  module _ (loaded : light ≡ false) where
-    -- rule 10
-    pub small-draws : leb bytes smallQueue ≡ true → Draws 0 (set w 8 sum)
-    unfolding drawnWith drawn
-    small-draws e = rw (loaded, e) (refl, written)
+  drops-as : drops ≡ isEarly verdictHere
+  drops-as =
+      ed
+      ∙ ap (λ (q : DocsisPie). isEarly (drawn q (getD (set w 8 sum) 0 0) bytes part u)) summed-pie
+      ∙ ap (λ (t : ℕ). isEarly (drawn summedHere t bytes part u)) (sum-target sum w long)
+      ∙ ap (λ (s : ℕ). isEarly (drawn summedHere (getD w 0 0) bytes s u)) ep
 
-    module _ (large : leb bytes smallQueue ≡ false) where
-      -- rule 11
-      pub low-draws : ltb sum low ≡ true → Draws 0 (set w 8 sum)
-      unfolding drawnWith drawn
-      low-draws e = rw (loaded, large, rw (es, ep) at e) (refl, written)
+  placed : (b : Bool) → drops ≡ b → placeOf verdictHere ≡ cond b 4 0
+  placed b e =
+      drawn-place summedHere (getD w 0 0) bytes (scaledOf (getD w 7 0) size) u ∙ ap (λ (x : Bool). cond x 4 0) (sym drops-as ∙ e)
 
-      module _ (above : ltb sum low ≡ false) where
-        -- rules 12, 13 and 15
-        pub early-draws : eqb sum high || ltb u part ≡ true → (after : List ℕ) →
-            after ≡ pieWords (set w 8 sum) (afterDrop (pieOf (set w 8 sum))) → Draws 4 after
-        unfolding drawnWith drawn
-        early-draws e after k =
-            let s = scaledOf (getD w 7 0) size in
-            let most = min (getD w 8 0 + s) high in
-            let e' = rw (es, ep) at e in
-            rw (loaded, large, rw (es, ep) at above, either-drops _ _ DroppedEarly Enqueued e')
-            (refl, rw (es, ep) at k ∙ sum-twice most (afterDrop (pieOf (set w 8 most))) w long ∙ ap (λ (q : DocsisPie). pieWords w (afterDrop q)) (sum-pie s w long))
+  -- rule 15
+  pub early-draws : drops ≡ true → (after : List ℕ) → after ≡ pieWords (set w 8 sum) (afterDrop (pieOf (set w 8 sum))) → Draws 4 after
+  unfolding drawnWith
+  early-draws e after k =
+      rw (sym drops-as ∙ e) (
+        sym (placed true e),
+        k ∙ sum-twice sum (afterDrop (pieOf (set w 8 sum))) w long ∙ ap (λ (q : DocsisPie). pieWords w (afterDrop q)) summed-pie,
+      )
 
-        -- rule 14
-        pub passed-draws : eqb sum high || ltb u part ≡ false → Draws 0 (set w 8 sum)
-        unfolding drawnWith drawn
-        passed-draws e =
-            let e' = rw (es, ep) at e in
-            rw (loaded, large, rw (es, ep) at above, neither-drops _ _ DroppedEarly Enqueued e') (refl, written)
+  pub passed-draws : drops ≡ false → Draws 0 (set w 8 sum)
+  unfolding drawnWith
+  passed-draws e = rw (sym drops-as ∙ e) (sym (placed false e), rw (es, ep) (summed-words (scaledOf (getD w 7 0) size) w long))
 
 -- ── rules 1 to 15 ──
 

@@ -61,6 +61,15 @@ sum-pie n = for-words (λ w. pieOf (set w 8 (min (getD w 8 0 + n) high)) ≡ sum
 pub sum-twice : (n : ℕ) (q : DocsisPie) (w : List ℕ) → length w ≡ 16 → pieWords (set w 8 n) q ≡ pieWords w q
 sum-twice n q = for-words (λ w. pieWords (set w 8 n) q ≡ pieWords w q) (λ f. refl)
 
+pub sum-target : (n : ℕ) (w : List ℕ) → length w ≡ 16 → getD (set w 8 n) 0 0 ≡ getD w 0 0
+sum-target n = for-words (λ w. getD (set w 8 n) 0 0 ≡ getD w 0 0) (λ f. refl)
+
+pub sum-fits : (n : ℕ) (w : List ℕ) → length w ≡ 16 → (getD (set w 8 n) 7 0 ≡ getD w 7 0) × (getD (set w 8 n) 9 0 ≡ getD w 9 0)
+sum-fits n = for-words (λ w. (getD (set w 8 n) 7 0 ≡ getD w 7 0) × (getD (set w 8 n) 9 0 ≡ getD w 9 0)) (λ f. (refl, refl))
+
+pub sum-long : (n : ℕ) (w : List ℕ) → length w ≡ 16 → length (set w 8 n) ≡ 16
+sum-long n = for-words (λ w. length (set w 8 n) ≡ 16) (λ f. refl)
+
 -- rule 6
 pub woken-words : (w : List ℕ) → length w ≡ 16 → set w 12 quiescent ≡ pieWords w (withActivity (pieOf w) quiescent)
 woken-words = for-words (λ w. set w 12 quiescent ≡ pieWords w (withActivity (pieOf w) quiescent)) (λ f. refl)
@@ -74,14 +83,14 @@ active-words = for-words (λ w. set (set (set w 8 0) 10 fullAllowance) 12 active
 
 -- ── the words of the states that calls return ──
 
-abbrev pub enteredWords : List ℕ → (size : ℕ) → List ℕ
-enteredWords w size =
-    let next = set w 14 (getD w 14 0 + 1) in set next 15 (getD next 15 0 + size)
+-- count and bytes, from those of w
+abbrev pub enteredWords : (next w : List ℕ) (size : ℕ) → List ℕ
+enteredWords next w size = set (set next 14 (getD w 14 0 + 1)) 15 (getD w 15 0 + size)
 
 -- clock, and count and bytes where the packet is admitted
 abbrev pub arrivalWritten : List ℕ → (clock size : ℕ) → Decided → List ℕ
 arrivalWritten w clock size d =
-    let decided = set (pieWords w (d .pie)) 5 clock in cond (admitted (d .verdict)) (enteredWords decided size) decided
+    let decided = set (pieWords w (d .pie)) 5 clock in cond (admitted (d .verdict)) (enteredWords decided w size) decided
 
 pub arrived-words : (clock size : ℕ) (d : Decided) (w : List ℕ) → length w ≡ 16 →
     arrivalWritten w clock size d ≡ arrivalWords w (arrivedState (stateOf w) clock size d)
@@ -92,7 +101,7 @@ arrived-words clock size d =
     go : (f : ℕ → ℕ) (b : Bool) →
         let decided = set (pieWords (listed 16 f) (d .pie)) 5 clock in
         let backlog = cond b (entered (backlogOf (listed 16 f)) size) (backlogOf (listed 16 f)) in
-        cond b (enteredWords decided size) decided ≡ set (set (set (pieWords (listed 16 f) (d .pie)) 5 clock) 14 (backlog .count)) 15 (backlog .bytes .0)
+        cond b (enteredWords decided (listed 16 f) size) decided ≡ set (set (set (pieWords (listed 16 f) (d .pie)) 5 clock) 14 (backlog .count)) 15 (backlog .bytes .0)
     go f true = refl
     go f false = refl
 
@@ -126,13 +135,6 @@ departed-words clock size =
     ≡ stateWords (departedState (stateOf w) clock size))
     (λ f. refl)
 
--- what an admitted arrival reads after its clock is written
-pub past-decision : (clock : ℕ) (q : DocsisPie) (w : List ℕ) → length w ≡ 16 →
-    let d = set (pieWords w q) 5 clock in
-    (getD d 13 0 ≡ getD w 13 0) × (getD d 14 0 ≡ getD w 14 0) × (getD d 2 0 ≡ getD w 2 0) × ((n : ℕ) → getD (set d 14 n) 15 0 ≡ getD w 15 0)
-past-decision clock q =
-    for-words
-    (λ w.
-    let d = set (pieWords w q) 5 clock in
-    (getD d 13 0 ≡ getD w 13 0) × (getD d 14 0 ≡ getD w 14 0) × (getD d 2 0 ≡ getD w 2 0) × ((n : ℕ) → getD (set d 14 n) 15 0 ≡ getD w 15 0))
-    (λ f. (refl, refl, refl, λ n. refl))
+-- the first place is read after the clock is written
+pub past-decision : (clock : ℕ) (q : DocsisPie) (w : List ℕ) → length w ≡ 16 → getD (set (pieWords w q) 5 clock) 13 0 ≡ getD w 13 0
+past-decision clock q = for-words (λ w. getD (set (pieWords w q) 5 clock) 13 0 ≡ getD w 13 0) (λ f. refl)

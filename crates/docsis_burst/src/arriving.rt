@@ -17,9 +17,9 @@ ghost use mathlib.Core.Bool.{cond, true};
 ghost use Prim.Native.Nat.{_+_, _≤_, _<_, _^_, min};
 ghost use lib.ListN.{getD, length};
 ghost use Rattle.pie.specs.Constants.{largest, longest};
-ghost use Rattle.pie.specs.Verdicts.{placeOf};
+ghost use Rattle.pie.specs.Verdicts.{isEarly, placeOf};
 ghost use Rattle.docsis_pie.specs.Constants.{high, low, mostProb};
-ghost use Rattle.docsis_pie.specs.DropDecision.{afterDrop, cleared, drawnWith, scaledOf, staysInactive, summed, woken};
+ghost use Rattle.docsis_pie.specs.DropDecision.{afterDrop, cleared, drawn, drawnWith, scaledOf, staysInactive, summed, woken};
 ghost use Rattle.docsis_flow.specs.Arrival.{arrival, decisionOf, stored};
 ghost use Rattle.docsis_flow.specs.State.{formed};
 ghost use Rattle.docsis.specs.Counts.{countsAfter, rowOf};
@@ -82,32 +82,40 @@ fn drop_early(w: &mut [u64; 16])
     }
 }
 
-// Rules 7 to 15: gives the place of the verdict.
-fn draw(w: &mut [u64; 16], bytes: u64, size: u64, u: u64) -> usize
-    requires { ⌜ (length (now w) ≡ 16) × (size ≤ largest) ⌝ }
-    requires { ⌜ (getD (now w) 7 0 ≤ mostProb) × (getD (now w) 8 0 ≤ high) × (getD (now w) 9 0 ≤ longest) ⌝ }
-    ensures { λ r. ⌜ (let pie = pieOf (now (w .entry)) in
-        let part = scaledOf (pie .prob .0) size in
-        let d = drawnWith (summed pie part) (getD (now (w .entry)) 0 0) bytes part u in
-        (r ≡ placeOf (d .verdict)) × (now (w .exit) ≡ pieWords (now (w .entry)) (d .pie))) ⌝ }
+// Rules 9 to 14, after rule 8: whether the packet is dropped early.
+fn drops(w: &[u64; 16], bytes: u64, part: u64, calls: &[u32], at: usize) -> bool
+    requires { ⌜ (getD (now w) 7 0 ≤ mostProb) × (getD (now w) 9 0 ≤ longest) × (at + 5 < length (now calls)) ⌝ }
+    ensures { λ r. ⌜ r
+        ≡ isEarly (drawn (pieOf (now (w .entry))) (getD (now (w .entry)) 0 0) bytes part (getD (now (calls .entry)) (at + 4) 0)) ⌝ }
 {
-    let p = w[7];
-    let lightly_loaded = (2 * w[9] < w[0]) & (5 * p < Prob::WHOLE.0);
-    let part = scaled(Prob(p), Bytes(size)).0;
-    let sum = add(w[8], part);
-    w[8] = sum;
+    let lightly_loaded = (2 * w[9] < w[0]) & (5 * w[7] < Prob::WHOLE.0);
     if lightly_loaded {
-        return 0;
+        return false;
     }
     let small = bytes <= SMALL_QUEUE;
     if small {
-        return 0;
+        return false;
     }
+    let sum = w[8];
     let low = sum < LOW;
     if low {
-        return 0;
+        return false;
     }
-    let early = (sum == HIGH) | (u < part);
+    (sum == HIGH) | (wide(calls[at + 4]) < part)
+}
+
+// Rules 7 to 15: gives the place of the verdict.
+fn draw(w: &mut [u64; 16], bytes: u64, size: u64, calls: &[u32], at: usize) -> usize
+    requires { ⌜ (length (now w) ≡ 16) × (size ≤ largest) × (at + 5 < length (now calls)) ⌝ }
+    requires { ⌜ (getD (now w) 7 0 ≤ mostProb) × (getD (now w) 8 0 ≤ high) × (getD (now w) 9 0 ≤ longest) ⌝ }
+    ensures { λ r. ⌜ (let pie = pieOf (now (w .entry)) in
+        let part = scaledOf (pie .prob .0) size in
+        let d = drawnWith (summed pie part) (getD (now (w .entry)) 0 0) bytes part (getD (now (calls .entry)) (at + 4) 0) in
+        (r ≡ placeOf (d .verdict)) × (now (w .exit) ≡ pieWords (now (w .entry)) (d .pie))) ⌝ }
+{
+    let part = scaled(Prob(w[7]), Bytes(size)).0;
+    w[8] = add(w[8], part);
+    let early = drops(w, bytes, part, calls, at);
     if early {
         drop_early(w);
         return 4;
@@ -116,9 +124,9 @@ fn draw(w: &mut [u64; 16], bytes: u64, size: u64, u: u64) -> usize
 }
 
 // Rules 1 to 15: gives the place of the verdict.
-fn decide(w: &mut [u64; 16], size: u64, u: u64) -> usize
-    requires { ⌜ (length (now w) ≡ 16) × (formed (stateOf (now w)) ≡ true) × (size ≤ largest) ⌝ }
-    ensures { λ r. ⌜ (let d = decisionOf (stateOf (now (w .entry))) size u in
+fn decide(w: &mut [u64; 16], size: u64, calls: &[u32], at: usize) -> usize
+    requires { ⌜ (length (now w) ≡ 16) × (formed (stateOf (now w)) ≡ true) × (size ≤ largest) × (at + 5 < length (now calls)) ⌝ }
+    ensures { λ r. ⌜ (let d = decisionOf (stateOf (now (w .entry))) size (getD (now (calls .entry)) (at + 4) 0) in
         (r ≡ placeOf (d .verdict)) × (now (w .exit) ≡ pieWords (now (w .entry)) (d .pie))) ⌝ }
 {
     let bytes = w[15];
@@ -141,7 +149,7 @@ fn decide(w: &mut [u64; 16], size: u64, u: u64) -> usize
     if stays {
         return 0;
     }
-    draw(w, bytes, size, u)
+    draw(w, bytes, size, calls, at)
 }
 
 // A packet arrives.
@@ -177,14 +185,17 @@ pub(crate) fn arrive(
     if wrong_size {
         return 107;
     }
-    let v = decide(w, bytes, wide(calls[at + 4]));
+    let slots = w[2];
+    let count = w[14];
+    let queued = w[15];
+    let v = decide(w, bytes, calls, at);
     w[5] = clock;
     raise(counts, flow, v);
     let admits = v < 2;
     if admits {
-        let tail = place(w[13], w[14], w[2]) as usize;
-        w[14] = w[14] + 1;
-        w[15] = w[15] + bytes;
+        let tail = place(w[13], count, slots) as usize;
+        w[14] = count + 1;
+        w[15] = queued + bytes;
         handles[tail] = calls[at + 2];
         sizes[tail] = size;
     }

@@ -4,16 +4,27 @@ use crate::numbers::word;
 use pie::Backlog;
 use pie::LATEST;
 use refusals::wrong_head;
-use ring::place;
 use units::Bytes;
 ghost use mathlib.Core.Path.{_≡_};
 ghost use mathlib.Core.List.{List};
-ghost use Prim.Native.Nat.{ℕ, _≤_};
+ghost use Prim.Native.Nat.{ℕ, _+_, _%_, _≤_, _<_};
 ghost use Rattle.pie.specs.Constants.{mostVerdicts};
 ghost use Rattle.pie.specs.Verdicts.{total};
 ghost use Rattle.docsis_flow.specs.Departure.{departure};
 ghost use Rattle.docsis_capi.specs.Words.{stateOf, stateWords};
 ghost use Rattle.docsis_burst.specs.Burst.{Fitting, answerWord};
+
+// (first + 1) modulo slots.
+fn following(first: u64, slots: u64) -> u64
+    requires { ⌜ (first < slots) × (slots ≤ 65536) ⌝ }
+    ensures { λ r. ⌜ r ≡ (first + 1) % slots ⌝ }
+{
+    let next = first + 1;
+    if next < slots {
+        return next;
+    }
+    0
+}
 
 // The head leaves. The flow's row is only known to fit.
 pub(crate) fn depart(w: &mut [u64; 16], handles: &[u32], sizes: &[u32], clock: u64) -> u64
@@ -45,7 +56,7 @@ pub(crate) fn depart(w: &mut [u64; 16], handles: &[u32], sizes: &[u32], clock: u
         return 109;
     }
     let handle = handles[at];
-    let next = place(first, 1, w[2]);
+    let next = following(first, w[2]);
     w[5] = clock;
     w[13] = next;
     w[14] = count - 1;

@@ -1,4 +1,4 @@
--- `draw`: the first rule that holds.
+-- `draw`: rules 7 and 8, then what the others decide.
 use borrow.Author.Needs.{needs}
 use Rattle.docsis_burst.proofs.arriving.draw.Statement.{statement}
 use Rattle.docsis_burst.proofs.arriving.draw.Tie as tie
@@ -10,28 +10,17 @@ use Rattle.units.specs.declared.Prob.{Prob}
 use Rattle.docsis_pie.specs.Constants.{high}
 use Rattle.docsis_pie.specs.DropDecision.{scaledOf}
 use Rattle.docsis_pie.proofs.Ranges.{scaled-le}
-use Rattle.docsis_burst.proofs.Decisions.{early-draws, light-draws, low-draws, passed-draws, small-draws}
+use Rattle.docsis_burst.proofs.Decisions.{early-draws, passed-draws}
+use Rattle.docsis_burst.proofs.Words.{sum-fits}
 
-part-is : (c : tie.After-scaled) → c .scaled .result .0 ≡ scaledOf (getD (now (c .before .before .before .before .before .args .w)) 7 0) (c .before .before .before .before .before .args .size)
+part-is : (c : tie.After-scaled) → c .scaled .result .0 ≡ scaledOf (getD (now (c .before .before .before .args .w)) 7 0) (c .before .before .before .args .size)
 part-is c = ap (λ (p : Prob). p .0) (c .scaled .ensures)
 
-sum-is : (c : tie.After-add) → c .add .result ≡ min (getD (now (c .before .before .before .before .before .before .before .args .w)) 8 0 + c .before .before .scaled .result .0) high
+sum-is : (c : tie.After-add) → c .add .result ≡ min (getD (now (c .before .before .before .before .before .args .w)) 8 0 + c .before .before .scaled .result .0) high
 sum-is c = c .add .ensures
 
-element-copy-out-p : tie.Need-element-copy-out-p
-element-copy-out-p c = search needs
-
-element-copy-out-lightly-loaded : tie.Need-element-copy-out-lightly-loaded
-element-copy-out-lightly-loaded c = search needs
-
-mul-lightly-loaded : tie.Need-mul-lightly-loaded
-mul-lightly-loaded c = search needs
-
-element-copy-out-lightly-loaded-2 : tie.Need-element-copy-out-lightly-loaded-2
-element-copy-out-lightly-loaded-2 c = search needs
-
-mul-lightly-loaded-2 : tie.Need-mul-lightly-loaded-2
-mul-lightly-loaded-2 c = search needs
+element-copy-out-w : tie.Need-element-copy-out-w
+element-copy-out-w c = search needs
 
 scaled-requires : tie.Need-scaled-requires
 scaled-requires c κs = search needs
@@ -40,55 +29,40 @@ element-copy-out-add : tie.Need-element-copy-out-add
 element-copy-out-add c = search needs
 
 add-requires : tie.Need-add-requires
-add-requires c κs = let a = c .before .before .before .before .before .before in (a .pre .1 .1, rw (part-is (c .before)) (scaled-le _ _))
+add-requires c κs = let a = c .before .before .before .before in (a .pre .1 .1, rw (part-is (c .before)) (scaled-le _ _))
 
 element-write-w : tie.Need-element-write-w
 element-write-w c = search needs
 
-returns : tie.Need-returns
-returns c =
-    let a = c .before .before .before .before .before .before .before .before in
-    light-draws (now (a .args .w)) (a .pre .0 .0) (a .args .bytes) (a .args .size) (a .args .u) _ _ (part-is (c .before .before .before)) (sum-is (c .before)) (c .if1 .taken)
-
-returns-2 : tie.Need-returns-2
-returns-2 c =
-    let a = c .before .before .before .before .before .before .before .before .before in
-    small-draws (now (a .args .w)) (a .pre .0 .0) (a .args .bytes) (a .args .size) (a .args .u) _ _ (part-is (c .before .before .before .before)) (sum-is (c .before .before)) (c .before .if1 .left) (c .if2 .taken)
-
-returns-3 : tie.Need-returns-3
-returns-3 c =
-    let a = c .before .before .before .before .before .before .before .before .before .before in
-    low-draws (now (a .args .w)) (a .pre .0 .0) (a .args .bytes) (a .args .size) (a .args .u) _ _ (part-is (c .before .before .before .before .before)) (sum-is (c .before .before .before)) (c .before .before .if1 .left) (c .before .if2 .left) (c .if3 .taken)
+drops-requires : tie.Need-drops-requires
+drops-requires c κs =
+    let a = c .before .before .before .before .before .before in
+    let same = sum-fits (c .before .add .result) (now (a .args .w)) (a .pre .0 .0) in
+    (rw (same .0) (a .pre .1 .0), rw (same .1) (a .pre .1 .2), a .pre .0 .2)
 
 drop-early-requires : tie.Need-drop-early-requires
 drop-early-requires c κs = search needs
 
-returns-4 : tie.Need-returns-4
-returns-4 c =
-    let a = c .before .before .before .before .before .before .before .before .before .before .before .before .before in
-    early-draws (now (a .args .w)) (a .pre .0 .0) (a .args .bytes) (a .args .size) (a .args .u) _ _ (part-is (c .before .before .before .before .before .before .before .before)) (sum-is (c .before .before .before .before .before .before)) (c .before .before .before .before .before .if1 .left) (c .before .before .before .before .if2 .left) (c .before .before .before .if3 .left) (c .before .before .if4 .taken) _ (c .drop-early .ensures)
+returns : tie.Need-returns
+returns c =
+    let a = c .before .before .before .before .before .before .before .before .before .before in
+    early-draws (now (a .args .w)) (a .pre .0 .0) (a .args .bytes) (a .args .size) _ _ _ (part-is (c .before .before .before .before .before .before .before)) (sum-is (c .before .before .before .before .before)) _ (c .before .before .before .drops .ensures) (c .before .before .if1 .taken) _ (c .drop-early .ensures)
 
-returns-5 : tie.Need-returns-5
-returns-5 c =
-    let a = c .before .before .before .before .before .before .before .before .before .before .before in
-    passed-draws (now (a .args .w)) (a .pre .0 .0) (a .args .bytes) (a .args .size) (a .args .u) _ _ (part-is (c .before .before .before .before .before .before)) (sum-is (c .before .before .before .before)) (c .before .before .before .if1 .left) (c .before .before .if2 .left) (c .before .if3 .left) (c .if4 .left)
+returns-2 : tie.Need-returns-2
+returns-2 c =
+    let a = c .before .before .before .before .before .before .before .before in
+    passed-draws (now (a .args .w)) (a .pre .0 .0) (a .args .bytes) (a .args .size) _ _ _ (part-is (c .before .before .before .before .before)) (sum-is (c .before .before .before)) _ (c .before .drops .ensures) (c .if1 .left)
 
 pub draw-spec : {M : Type 1} → statement M
 draw-spec =
     tie.close
     (tie.spec
-    element-copy-out-p
-    element-copy-out-lightly-loaded
-    mul-lightly-loaded
-    element-copy-out-lightly-loaded-2
-    mul-lightly-loaded-2
+    element-copy-out-w
     scaled-requires
     element-copy-out-add
     add-requires
     element-write-w
-    returns
-    returns-2
-    returns-3
+    drops-requires
     drop-early-requires
-    returns-4
-    returns-5)
+    returns
+    returns-2)

@@ -93,12 +93,12 @@ shared-slice-read-handle : tie.Need-shared-slice-read-handle
 unfolding stateOf
 shared-slice-read-handle c = let f = known (c .before .before .before .before .before .before .before .before .before .before .before .before .before) in omega (arith, f .first-high, c .before .before .before .before .before .before .before .before .before .before .before .before .before .pre .2)
 
-element-copy-out-place : tie.Need-element-copy-out-place
-element-copy-out-place c = search needs
+element-copy-out-following : tie.Need-element-copy-out-following
+element-copy-out-following c = search needs
 
-place-requires : tie.Need-place-requires
+following-requires : tie.Need-following-requires
 unfolding stateOf
-place-requires c κs = let f = known (c .before .before .before .before .before .before .before .before .before .before .before .before .before .before) in (f .first-high, f .slots-low, f .slots-high)
+following-requires c κs = let f = known (c .before .before .before .before .before .before .before .before .before .before .before .before .before .before) in (f .first-high, f .slots-high)
 
 element-write-w : tie.Need-element-write-w
 element-write-w c = search needs
@@ -132,7 +132,7 @@ returns-4 c =
     let words = departed-words (a .args .clock) (sizeAt a) w (q .0) in
     λ row fits.
     rw (departure-made _ row _ (q .1) fits _ _ (q .2) (q .3) (c .before .before .before .before .before .before .before .before .before .before .before .before .if1 .left) (c .before .before .before .before .before .before .before .before .before .if2 .left) (not-wrong (c .before .before .before .before)))
-    (c .word .ensures, rw (c .before .place .ensures, c .before .before .before .before .before .before .wide .ensures) words)
+    (c .word .ensures, rw (c .before .following .ensures, c .before .before .before .before .before .before .wide .ensures) words)
 
 pub depart-spec : {M : Type 1} → statement M
 depart-spec =
@@ -151,8 +151,8 @@ depart-spec =
     returns-3
     mul-handle
     shared-slice-read-handle
-    element-copy-out-place
-    place-requires
+    element-copy-out-following
+    following-requires
     element-write-w
     element-write-w-2
     sub-w
