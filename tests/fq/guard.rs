@@ -8,11 +8,10 @@ use crate::flows::hash::Key;
 use crate::flows::Record;
 use crate::library::{self, Memory, Packet, KEY_BYTES};
 use crate::model::Arriving;
-use crate::shared::area::{Area, READ, READ_WRITE};
+use crate::shared::area::{Area, Tables, READ, READ_WRITE};
 use crate::side::{handed_back, Lender, Side, UNWRITTEN};
 use std::mem::size_of;
 use std::ptr::copy_nonoverlapping;
-use std::slice::{from_raw_parts, from_raw_parts_mut};
 
 /// The parts of the record, in this order: common, order, flows, deficits.
 const PARTS: [usize; 4] = [19 * 8, 64 * 8, 768 * 8, 64 * 4];
@@ -23,8 +22,7 @@ pub struct Guarded {
     parts: [Area; 4],
     key: Area,
     packet: Area,
-    handles: Area,
-    sizes: Area,
+    tables: Tables,
 }
 
 impl Guarded {
@@ -33,8 +31,7 @@ impl Guarded {
             parts: PARTS.map(|_| Area::new(1, at_end)),
             key: Area::new(1, at_end),
             packet: Area::new(1, at_end),
-            handles: Area::new(5, at_end),
-            sizes: Area::new(5, at_end),
+            tables: Tables::new(at_end),
         }
     }
 
@@ -56,23 +53,6 @@ impl Guarded {
         result
     }
 
-    /// Runs a call on both tables, which are put into place and fetched back.
-    fn with_tables(
-        &mut self,
-        side: &mut Side,
-        lent: Lent,
-        run: impl FnOnce(&mut Guarded, *mut u32, &mut [u32]) -> u32,
-    ) -> u32 {
-        let h = self.handles.table(&side.handles[..lent.handles]);
-        let s = self.sizes.table(&side.sizes[..lent.sizes]);
-        let s = unsafe { from_raw_parts_mut(s, lent.sizes) };
-        let answer = run(self, h, s);
-        let h = unsafe { from_raw_parts(h, lent.handles) };
-        side.handles[..lent.handles].copy_from_slice(h);
-        side.sizes[..lent.sizes].copy_from_slice(s);
-        answer
-    }
-
     fn arrival(
         &mut self,
         m: &Memory,
@@ -84,10 +64,8 @@ impl Guarded {
         unsafe { copy_nonoverlapping(key.as_ptr(), place, KEY_BYTES) };
         self.key.access(READ);
         side.flow = library::flow(place, side.record.common.salt as u32);
-        let answer = self.with_tables(side, lent, |_, h, s| {
-            let h = unsafe { from_raw_parts_mut(h, lent.handles) };
-            m.arrival((h, s), clock, place, p)
-        });
+        let tables = (&mut side.handles[..lent.handles], &mut side.sizes[..lent.sizes]);
+        let answer = self.tables.lend(tables, |h, s| m.arrival((h, s), clock, place, p));
         self.key.access(READ_WRITE);
         answer
     }
@@ -95,13 +73,9 @@ impl Guarded {
     fn departure(&mut self, m: &Memory, side: &mut Side, call: &Call, lent: Lent) -> u32 {
         let packet = unsafe { &mut *(self.packet.place(size_of::<Packet>()) as *mut Packet) };
         *packet = UNWRITTEN;
-        let answer = self.with_tables(side, lent, |guarded, h, s| {
-            guarded.handles.access(READ);
-            let h = unsafe { from_raw_parts(h, lent.handles) };
-            let answer = m.departure((h, s), call.clock, packet);
-            guarded.handles.access(READ_WRITE);
-            answer
-        });
+        let tables = (&side.handles[..lent.handles], &mut side.sizes[..lent.sizes]);
+        let answer =
+            self.tables.lend_sizes(tables, |h, s| m.departure((h, s), call.clock, packet));
         side.packet = handed_back(call, *packet);
         answer
     }

@@ -4,7 +4,7 @@ use crate::flows::hash::{flow_of, Key};
 use crate::flows::rules::{arrival, departure, fresh, tick};
 use crate::flows::{Record, Settings};
 use crate::model::Arriving;
-use std::io::{Read, Write};
+use crate::shared::script::{self, number};
 
 /// The most slots of a script's record.
 const SLOTS: u64 = 4_096;
@@ -28,30 +28,8 @@ enum Call {
 
 /// Answers the script on standard input.
 pub fn run() {
-    let mut input = Vec::new();
-    std::io::stdin().read_to_end(&mut input).expect("standard input can be read");
-    let output = answers(&input);
-    std::io::stdout().write_all(output.as_bytes()).expect("standard output can be written");
-}
-
-/// All output lines; the last one tells of a bad line, if there is one.
-fn answers(input: &[u8]) -> String {
-    let mut output = String::new();
-    let mut held: Option<Held> = None;
-    let text = input.strip_suffix(b"\n").unwrap_or(input);
-    if input.is_empty() {
-        return output;
-    }
-    for (at, line) in text.split(|&byte| byte == b'\n').enumerate() {
-        match answer(line, &mut held) {
-            Some(line) => output += &(line + "\n"),
-            None => {
-                output += &format!("bad line {}\n", at + 1);
-                break;
-            }
-        }
-    }
-    output
+    let mut held = None;
+    script::run(|line| answer(line, &mut held));
 }
 
 /// The answer to a line, or none if it is bad. The first line makes the record, and no other may.
@@ -127,10 +105,4 @@ fn key_of(word: &str) -> Option<Key> {
         *byte = u8::from_str_radix(digits.then(|| &word[2 * place..2 * place + 2])?, 16).ok()?;
     }
     Some(key)
-}
-
-/// A plain decimal number of 64 bits; leading zeros are allowed.
-fn number(word: &str) -> Option<u64> {
-    let digits = !word.is_empty() && word.bytes().all(|byte| byte.is_ascii_digit());
-    digits.then(|| word.parse().ok()).flatten()
 }

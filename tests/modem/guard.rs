@@ -7,22 +7,20 @@
 //! page that nobody may touch; of a flow that has no row, all of them do.
 
 use crate::burst::{Burst, Lists};
-use crate::call::{Call, Kind, Lent};
+use crate::call::{Call, Kind};
 use crate::library::{Memory, Packet, Record};
 use crate::model::{Counts, Row};
-use crate::shared::area::{Area, READ, READ_WRITE};
+use crate::shared::area::{Area, Tables, READ, READ_WRITE};
 use crate::side::{handed_back, Lender, Side, UNWRITTEN};
 use crate::words::{settings_words, state_of, words};
 use std::mem::size_of;
-use std::slice::{from_raw_parts, from_raw_parts_mut};
 
 pub struct Guarded {
     at_end: bool,
     state: Area,
     packet: Area,
     rows: Area,
-    handles: Area,
-    sizes: Area,
+    tables: Tables,
     lists: Lists,
 }
 
@@ -33,8 +31,7 @@ impl Guarded {
             state: Area::new(1, at_end),
             packet: Area::new(1, at_end),
             rows: Area::new(1, at_end),
-            handles: Area::new(5, at_end),
-            sizes: Area::new(5, at_end),
+            tables: Tables::new(at_end),
             lists: Lists::new(at_end),
         }
     }
@@ -70,32 +67,20 @@ impl Guarded {
         let Call { flow, clock, kind: Kind::Arrival { lent, packet: p } } = *call else {
             unreachable!()
         };
-        let Lent { handles, sizes } = lent;
-        let h = self.handles.table(&side.handles[..handles]);
-        let s = self.sizes.table(&side.sizes[..sizes]);
-        let h = unsafe { from_raw_parts_mut(h, handles) };
-        let s = unsafe { from_raw_parts_mut(s, sizes) };
-        let answer = memory.arrival(flow, (h, s), clock, (p.handle, p.size, p.u));
-        side.handles[..handles].copy_from_slice(h);
-        side.sizes[..sizes].copy_from_slice(s);
-        answer
+        let tables = (&mut side.handles[..lent.handles], &mut side.sizes[..lent.sizes]);
+        self.tables
+            .lend(tables, |h, s| memory.arrival(flow, (h, s), clock, (p.handle, p.size, p.u)))
     }
 
     fn departure(&mut self, memory: &Memory, side: &mut Side, call: &Call) -> u32 {
         let Call { flow, clock, kind: Kind::Departure { lent } } = *call else { unreachable!() };
-        let h = self.handles.table(&side.handles[..lent.handles]);
-        let s = self.sizes.table(&side.sizes[..lent.sizes]);
         let packet = unsafe { &mut *(self.packet.place(size_of::<Packet>()) as *mut Packet) };
         *packet = UNWRITTEN;
-        for area in [&self.handles, &self.sizes, &self.rows] {
-            area.access(READ);
-        }
-        let h = unsafe { from_raw_parts(h, lent.handles) };
-        let s = unsafe { from_raw_parts(s, lent.sizes) };
-        let answer = memory.departure(flow, (h, s), clock, packet);
-        for area in [&self.handles, &self.sizes, &self.rows] {
-            area.access(READ_WRITE);
-        }
+        let tables = (&side.handles[..lent.handles], &side.sizes[..lent.sizes]);
+        self.rows.access(READ);
+        let answer =
+            self.tables.read(tables, |h, s| memory.departure(flow, (h, s), clock, packet));
+        self.rows.access(READ_WRITE);
         side.packet = handed_back(call, *packet);
         answer
     }
@@ -138,19 +123,15 @@ impl Lender for Guarded {
     }
 
     fn burst(&mut self, side: &mut Side, burst: &Burst) -> (u32, Vec<u64>) {
-        let Burst { flow, lent: Lent { handles, sizes }, .. } = *burst;
+        let Burst { flow, lent, .. } = *burst;
         let record = self.state.place(size_of::<Record>()) as *mut Record;
         unsafe { *record = Record(words(&side.state)) };
         let memory = Memory { record, counts: self.lend_rows(&side.counts, flow) };
-        let h = self.handles.table(&side.handles[..handles]);
-        let s = self.sizes.table(&side.sizes[..sizes]);
-        let h = unsafe { from_raw_parts_mut(h, handles) };
-        let s = unsafe { from_raw_parts_mut(s, sizes) };
-        let run =
-            |c: &[u32], answers: &mut [u64]| memory.calls(flow, (&mut *h, &mut *s), c, answers);
-        let said = self.lists.run(burst, run);
-        side.handles[..handles].copy_from_slice(h);
-        side.sizes[..sizes].copy_from_slice(s);
+        let (tables, lists) = (&mut self.tables, &mut self.lists);
+        let lend = (&mut side.handles[..lent.handles], &mut side.sizes[..lent.sizes]);
+        let said = tables.lend(lend, |h, s| {
+            lists.run(burst, |calls, answers| memory.calls(flow, (h, s), calls, answers))
+        });
         side.state = state_of(unsafe { &(*record).0 });
         self.rows_back(&memory, &mut side.counts, flow);
         said

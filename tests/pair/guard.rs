@@ -6,17 +6,15 @@ use crate::burst::{Burst, Lists};
 use crate::call::{Call, Kind, Lent};
 use crate::library::{Memory, QueueRecord, SharedRecord};
 use crate::model::Arriving;
-use crate::shared::area::{Area, READ, READ_WRITE};
+use crate::shared::area::{Area, Tables, READ, READ_WRITE};
 use crate::side::{handed_back, Lender, Packet, Side, UNWRITTEN};
 use std::mem::size_of;
-use std::slice::{from_raw_parts, from_raw_parts_mut};
 
 pub struct Guarded {
     shared: Area,
     queues: [Area; 2],
     packet: Area,
-    handles: Area,
-    sizes: Area,
+    tables: Tables,
     lists: Lists,
 }
 
@@ -26,8 +24,7 @@ impl Guarded {
             shared: Area::new(1, at_end),
             queues: [Area::new(1, at_end), Area::new(1, at_end)],
             packet: Area::new(1, at_end),
-            handles: Area::new(5, at_end),
-            sizes: Area::new(5, at_end),
+            tables: Tables::new(at_end),
             lists: Lists::new(at_end),
         }
     }
@@ -51,23 +48,6 @@ impl Guarded {
         well_formed
     }
 
-    /// Runs a call on both tables, which are put into place and fetched back.
-    fn with_tables(
-        &mut self,
-        side: &mut Side,
-        lent: Lent,
-        run: impl FnOnce(&mut Guarded, *mut u32, &mut [u32]) -> u32,
-    ) -> u32 {
-        let h = self.handles.table(&side.handles[..lent.handles]);
-        let s = self.sizes.table(&side.sizes[..lent.sizes]);
-        let s = unsafe { from_raw_parts_mut(s, lent.sizes) };
-        let answer = run(self, h, s);
-        let h = unsafe { from_raw_parts(h, lent.handles) };
-        side.handles[..lent.handles].copy_from_slice(h);
-        side.sizes[..lent.sizes].copy_from_slice(s);
-        answer
-    }
-
     fn arrival(
         &mut self,
         m: &Memory,
@@ -76,22 +56,17 @@ impl Guarded {
         p: &Arriving,
         lent: Lent,
     ) -> u32 {
-        self.with_tables(side, lent, |_, h, s| {
-            let h = unsafe { from_raw_parts_mut(h, lent.handles) };
-            m.arrival(call.queue, (h, s), call.clock, p)
-        })
+        let tables = (&mut side.handles[..lent.handles], &mut side.sizes[..lent.sizes]);
+        self.tables.lend(tables, |h, s| m.arrival(call.queue, (h, s), call.clock, p))
     }
 
     fn departure(&mut self, m: &Memory, side: &mut Side, call: &Call, lent: Lent) -> u32 {
         let packet = unsafe { &mut *(self.packet.place(size_of::<Packet>()) as *mut Packet) };
         *packet = UNWRITTEN;
-        let answer = self.with_tables(side, lent, |guarded, h, s| {
-            guarded.handles.access(READ);
-            let h = unsafe { from_raw_parts(h, lent.handles) };
-            let answer = m.departure(call.queue, (h, s), call.clock, packet);
-            guarded.handles.access(READ_WRITE);
-            answer
-        });
+        let tables = (&side.handles[..lent.handles], &mut side.sizes[..lent.sizes]);
+        let answer = self
+            .tables
+            .lend_sizes(tables, |h, s| m.departure(call.queue, (h, s), call.clock, packet));
         side.packet = handed_back(call, *packet);
         answer
     }
@@ -115,15 +90,12 @@ impl Lender for Guarded {
     fn burst(&mut self, side: &mut Side, burst: &Burst) -> (u32, Vec<u64>) {
         let (memory, lent) = (self.records(), burst.lent);
         memory.write(&side.records);
-        let mut answers = Vec::new();
-        let answer = self.with_tables(side, lent, |guarded, h, s| {
-            let h = unsafe { from_raw_parts_mut(h, lent.handles) };
-            let run = |calls: &[u32], answers: &mut [u64]| memory.calls((h, s), calls, answers);
-            let said = guarded.lists.run(burst, run);
-            answers = said.1;
-            said.0
+        let (tables, lists) = (&mut self.tables, &mut self.lists);
+        let lend = (&mut side.handles[..lent.handles], &mut side.sizes[..lent.sizes]);
+        let said = tables.lend(lend, |h, s| {
+            lists.run(burst, |calls, answers| memory.calls((h, s), calls, answers))
         });
         side.records = memory.read();
-        (answer, answers)
+        said
     }
 }

@@ -3,38 +3,16 @@
 use crate::call::{Call, Kind, Lent};
 use crate::model::{Arriving, Records, Settings};
 use crate::report::answer_name;
+use crate::shared::script::{self, number};
 use crate::side::Side;
-use std::io::{Read, Write};
 
 /// The most slots of a script's pair.
 const SLOTS: u64 = 4_096;
 
 /// Answers the script on standard input.
 pub fn run() {
-    let mut input = Vec::new();
-    std::io::stdin().read_to_end(&mut input).expect("standard input can be read");
-    let output = answers(&input);
-    std::io::stdout().write_all(output.as_bytes()).expect("standard output can be written");
-}
-
-/// All output lines; the last one tells of a bad line, if there is one.
-fn answers(input: &[u8]) -> String {
-    let mut output = String::new();
-    let mut side: Option<Side> = None;
-    let text = input.strip_suffix(b"\n").unwrap_or(input);
-    if input.is_empty() {
-        return output;
-    }
-    for (at, line) in text.split(|&byte| byte == b'\n').enumerate() {
-        match answer(line, &mut side) {
-            Some(line) => output += &(line + "\n"),
-            None => {
-                output += &format!("bad line {}\n", at + 1);
-                break;
-            }
-        }
-    }
-    output
+    let mut side = None;
+    script::run(|line| answer(line, &mut side));
 }
 
 /// The answer to a line, or none if it is bad. The first line makes the pair, and no other may.
@@ -92,10 +70,4 @@ fn call(line: &[u8]) -> Option<Call> {
         ("t", &[queue, clock]) if queue <= 1 => Some(Call::tick(queue as usize, clock)),
         _ => None,
     }
-}
-
-/// A plain decimal number of 64 bits; leading zeros are allowed.
-fn number(word: &str) -> Option<u64> {
-    let digits = !word.is_empty() && word.bytes().all(|byte| byte.is_ascii_digit());
-    digits.then(|| word.parse().ok()).flatten()
 }

@@ -11,6 +11,8 @@ pub mod pair;
 pub mod program;
 pub mod random;
 pub mod rounds;
+#[allow(dead_code)]
+pub mod script;
 pub mod stop;
 #[allow(dead_code)]
 pub mod traffic;
