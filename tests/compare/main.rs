@@ -46,6 +46,7 @@ fn main() {
         batches: 400,
         runs: 5 * plans::KINDS,
         guarded: (20, 2 * plans::KINDS),
+        bursts: Some(burst::run),
         figures: ("the figures of the document", figures),
         checks: None,
     };

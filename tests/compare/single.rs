@@ -1,6 +1,5 @@
 //! Single calls on random states: accepted ones, and ones to which chosen refusals apply.
 
-use crate::burst;
 use crate::coverage::Coverage;
 use crate::model::{Arriving, Asked, Refusals, State, CLOCK_MAX};
 use crate::shared::numbers::{self, Lent};
@@ -16,22 +15,11 @@ pub enum Kind {
     Tick,
 }
 
-/// Runs `starts` random states, each with a few calls in succession, then a few bursts.
-pub fn run(
-    r: &mut Random,
-    starts: u64,
-    lender: &mut dyn Lender,
-    coverage: &mut Coverage,
-) -> Result<(), Failure> {
-    for _ in 0..starts {
-        let (side, first) = case(r);
-        Pair::new(&side, lender).several(r, first, coverage, |r, side| {
-            let kind = kind(r);
-            let wanted = if r.one_in(3) { wanted(r, kind) } else { Refusals::default() };
-            next_call(r, kind, side, &wanted)
-        })?;
-    }
-    burst::run(r, starts / 20, lender, coverage)
+/// A call after the first one.
+pub fn next(r: &mut Random, _: &Call, side: &Side) -> Call {
+    let kind = kind(r);
+    let wanted = if r.one_in(3) { wanted(r, kind) } else { Refusals::default() };
+    next_call(r, kind, side, &wanted)
 }
 
 /// Runs fresh with every setting at, beside and far from the ends of its range, and a tick on

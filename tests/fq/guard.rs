@@ -74,8 +74,7 @@ impl Guarded {
         let packet = unsafe { &mut *(self.packet.place(size_of::<Packet>()) as *mut Packet) };
         *packet = UNWRITTEN;
         let tables = (&side.handles[..lent.handles], &mut side.sizes[..lent.sizes]);
-        let answer =
-            self.tables.lend_sizes(tables, |h, s| m.departure((h, s), call.clock, packet));
+        let answer = self.tables.lend_sizes(tables, |h, s| m.departure((h, s), call.clock, packet));
         side.packet = handed_back(call, *packet);
         answer
     }

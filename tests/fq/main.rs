@@ -65,6 +65,7 @@ fn main() {
         batches: 120,
         runs: 2 * plans::KINDS,
         guarded: (50, plans::KINDS),
+        bursts: None,
         figures: ("the page's worked cases", worked::run),
         checks: Some("steps of the page's worked cases"),
     };

@@ -62,8 +62,11 @@ impl Held {
                 arrival(r, (handles, sizes), clock, &key, &packet)
                     .map(|verdict| (format!("{} {flow}", WORDS[verdict]), Some(flow)))
             }
-            Call::Departure(clock) => departure(r, (handles, sizes), clock)
-                .map(|(flow, handle, _)| (format!("departed {flow} {handle}"), Some(flow as usize))),
+            Call::Departure(clock) => {
+                departure(r, (handles, sizes), clock).map(|(flow, handle, _)| {
+                    (format!("departed {flow} {handle}"), Some(flow as usize))
+                })
+            }
             Call::Tick(clock) => tick(r, clock).map(|()| ("ticked".to_string(), None)),
         };
         let (word, flow) = told.unwrap_or_else(|number| (format!("refused {number}"), None));
@@ -88,7 +91,8 @@ fn call(line: &[u8]) -> Option<Call> {
         }
         ["a", clock, key, handle, size, ecn, u] => {
             let ecn = number(ecn).filter(|&ecn| ecn <= 1)? == 1;
-            let packet = Arriving { handle: narrow(handle)?, size: narrow(size)?, ecn, u: narrow(u)? };
+            let packet =
+                Arriving { handle: narrow(handle)?, size: narrow(size)?, ecn, u: narrow(u)? };
             Some(Call::Arrival(number(clock)?, key_of(key)?, packet))
         }
         ["d", clock] => Some(Call::Departure(number(clock)?)),

@@ -5,7 +5,6 @@ use crate::aims;
 use crate::broken;
 use crate::call::Call;
 use crate::calls::{self, What};
-use crate::coverage::Coverage;
 use crate::damage;
 use crate::flows::formed::{AT_DEFICITS, AT_FLOWS, AT_LISTS, CONDITIONS, FLOW_CONDITIONS};
 use crate::flows::hash::{flow_of, Key};
@@ -17,27 +16,15 @@ use crate::model::refusals::Refusals;
 use crate::model::Queue;
 use crate::records;
 use crate::shared::numbers::{split, wanted};
-use crate::shared::pair::{Failure, Pair};
 use crate::shared::random::Random;
-use crate::side::{Lender, Side};
+use crate::side::Side;
 
-/// Runs `starts` random records, each with a few calls in succession.
-pub fn run(
-    r: &mut Random,
-    starts: u64,
-    lender: &mut dyn Lender,
-    coverage: &mut Coverage,
-) -> Result<(), Failure> {
-    for _ in 0..starts {
-        let (side, first) = case(r);
-        Pair::new(&side, lender).several(r, first, coverage, |r, side| {
-            let what = what(r);
-            let wanted = if r.one_in(3) { wanted(r, refusals(what)) } else { Refusals::default() };
-            let key = calls::key(r);
-            calls::next(r, what, &key, side, &wanted)
-        })?;
-    }
-    Ok(())
+/// A call after the first one.
+pub fn next(r: &mut Random, _: &Call, side: &Side) -> Call {
+    let what = what(r);
+    let wanted = if r.one_in(3) { wanted(r, refusals(what)) } else { Refusals::default() };
+    let key = calls::key(r);
+    calls::next(r, what, &key, side, &wanted)
 }
 
 fn what(r: &mut Random) -> What {
@@ -68,7 +55,7 @@ fn condition(r: &mut Random) -> usize {
 }
 
 /// A record with tables, and a call to which the wanted refusals apply where they can.
-fn case(r: &mut Random) -> (Side, Call) {
+pub fn case(r: &mut Random) -> (Side, Call) {
     let what = what(r);
     let wanted: Refusals = wanted(r, refusals(what));
     let broken = wanted[2].then(|| condition(r));

@@ -78,8 +78,7 @@ impl Guarded {
         *packet = UNWRITTEN;
         let tables = (&side.handles[..lent.handles], &side.sizes[..lent.sizes]);
         self.rows.access(READ);
-        let answer =
-            self.tables.read(tables, |h, s| memory.departure(flow, (h, s), clock, packet));
+        let answer = self.tables.read(tables, |h, s| memory.departure(flow, (h, s), clock, packet));
         self.rows.access(READ_WRITE);
         side.packet = handed_back(call, *packet);
         answer

@@ -47,6 +47,7 @@ fn main() {
         batches: 500,
         runs: 16,
         guarded: (60, 4),
+        bursts: Some(burst::run),
         figures: ("the page's worked numbers", worked::run),
         checks: Some("checks of the page's worked numbers"),
     };

@@ -2,7 +2,6 @@
 
 use crate::aims;
 use crate::broken;
-use crate::burst;
 use crate::call::{Call, Kind};
 use crate::calls::{self, What};
 use crate::coverage::Coverage;
@@ -14,23 +13,11 @@ use crate::shared::random::Random;
 use crate::side::{Lender, Side};
 use crate::states;
 
-/// Runs `starts` random records, each with a few calls in succession, then a few bursts.
-pub fn run(
-    r: &mut Random,
-    starts: u64,
-    lender: &mut dyn Lender,
-    coverage: &mut Coverage,
-) -> Result<(), Failure> {
-    for _ in 0..starts {
-        let (side, first) = case(r);
-        let flow = first.flow;
-        Pair::new(&side, lender).several(r, first, coverage, |r, side| {
-            let what = what(r);
-            let wanted = if r.one_in(3) { wanted(r, what) } else { Refusals::default() };
-            calls::next(r, what, flow.min(15), side, &wanted)
-        })?;
-    }
-    burst::run(r, starts / 20, lender, coverage)
+/// A call after the first one, on its flow.
+pub fn next(r: &mut Random, first: &Call, side: &Side) -> Call {
+    let what = what(r);
+    let wanted = if r.one_in(3) { wanted(r, what) } else { Refusals::default() };
+    calls::next(r, what, first.flow.min(15), side, &wanted)
 }
 
 /// Runs fresh with each setting at, beside and far from the ends of its range, one setting or two

@@ -60,6 +60,7 @@ fn main() {
         batches: 500,
         runs: 4 * plans::KINDS,
         guarded: (60, plans::KINDS),
+        bursts: Some(burst::run),
         figures: ("the page's worked cases", worked::run),
         checks: Some("steps of the page's worked cases"),
     };

@@ -3,10 +3,8 @@
 
 use crate::aims;
 use crate::broken;
-use crate::burst;
 use crate::call::Call;
 use crate::calls::{self, What};
-use crate::coverage::Coverage;
 use crate::damage;
 use crate::layout;
 use crate::model::formed::CONDITIONS;
@@ -14,30 +12,18 @@ use crate::model::numbers::*;
 use crate::model::refusals::Refusals;
 use crate::model::{Queue, Records};
 use crate::shared::numbers::wanted;
-use crate::shared::pair::{Failure, Pair};
 use crate::shared::random::Random;
-use crate::side::{Lender, Side};
+use crate::side::Side;
 use crate::states;
 
 pub use crate::fresh_calls::run as fresh_calls;
 
-/// Runs `starts` random records, each with a few calls in succession, then a few bursts.
-pub fn run(
-    r: &mut Random,
-    starts: u64,
-    lender: &mut dyn Lender,
-    coverage: &mut Coverage,
-) -> Result<(), Failure> {
-    for _ in 0..starts {
-        let (side, first) = case(r);
-        Pair::new(&side, lender).several(r, first, coverage, |r, side| {
-            let what = what(r);
-            let wanted = if r.one_in(3) { wanted(r, refusals(what)) } else { Refusals::default() };
-            let queue = queue(r);
-            calls::next(r, what, queue, side, &wanted)
-        })?;
-    }
-    burst::run(r, starts / 20, lender, coverage)
+/// A call after the first one.
+pub fn next(r: &mut Random, _: &Call, side: &Side) -> Call {
+    let what = what(r);
+    let wanted = if r.one_in(3) { wanted(r, refusals(what)) } else { Refusals::default() };
+    let queue = queue(r);
+    calls::next(r, what, queue, side, &wanted)
 }
 
 pub fn what(r: &mut Random) -> What {

@@ -67,7 +67,7 @@ impl Pair<'_> {
         r: &mut Random,
         first: Call,
         coverage: &mut Coverage,
-        next: impl Fn(&mut Random, &Side) -> Call,
+        next: fn(&mut Random, &Call, &Side) -> Call,
     ) -> Result<(), Failure> {
         let mut call = first;
         for _ in 0..1 + r.range(0, 4) {
@@ -75,7 +75,7 @@ impl Pair<'_> {
             if self.library.answer == 102 {
                 break;
             }
-            call = next(r, &self.model);
+            call = next(r, &first, &self.model);
         }
         Ok(())
     }

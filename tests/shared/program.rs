@@ -1,7 +1,7 @@
 //! The program of a comparison: single calls, long runs and the papers' figures, on the fixed seed, on
 //! new seeds, or in guarded memory.
 
-use super::pair::Failure;
+use super::pair::{Failure, Pair};
 use super::random::Random;
 use super::rounds;
 use super::stop;
@@ -14,6 +14,8 @@ use std::process::exit;
 /// Random states of a batch of single calls.
 const STARTS: u64 = 1_000;
 
+pub type Bursts = fn(&mut Random, u64, &mut dyn Lender, &mut Coverage) -> Result<(), Failure>;
+
 /// How much of a kind of queue is compared.
 pub struct Round {
     pub seed: u64,
@@ -21,6 +23,8 @@ pub struct Round {
     pub runs: u64,
     /// Batches and runs in guarded memory.
     pub guarded: (u64, u64),
+    /// Bursts of calls, if the kind has them: so many of them.
+    pub bursts: Option<Bursts>,
     /// The papers' figures: what they are called, and their run, which gives how many were checked.
     pub figures: (&'static str, fn(&mut dyn Lender) -> Result<u64, Failure>),
     /// What is printed before the number of those checks, if anything.
@@ -97,7 +101,7 @@ impl Round {
         for batch in 0..batches {
             let place = format!("single calls, batch {batch} of seed {seed}");
             let mut r = part(seed, 2 * batch);
-            require(&place, || single::run(&mut r, STARTS, lender, &mut reached.single));
+            require(&place, || self.batch(&mut r, lender, &mut reached.single));
         }
         for run in 0..runs {
             let place = format!("{} of seed {seed}", runs::name(run));
@@ -109,6 +113,23 @@ impl Round {
             reached.figures = check(lender)?;
             Ok(())
         });
+    }
+
+    /// Random records, each with a few calls in succession, then a few bursts.
+    fn batch(
+        &self,
+        r: &mut Random,
+        lender: &mut dyn Lender,
+        coverage: &mut Coverage,
+    ) -> Result<(), Failure> {
+        for _ in 0..STARTS {
+            let (side, first) = single::case(r);
+            Pair::new(&side, lender).several(r, first, coverage, single::next)?;
+        }
+        match self.bursts {
+            Some(run) => run(r, STARTS / 20, lender, coverage),
+            None => Ok(()),
+        }
     }
 
     fn once(&self, seed: u64, all: bool) {

@@ -16,14 +16,17 @@ use crate::side::Side;
 
 #[rustfmt::skip]
 pub const LISTS: [List; 14] = [
-    List { name: "arrival", about: About::Arrivals, needed: BOTH, find: |b, c, a| rules::arrival(&called(b, c, a), packet(c), a.answer) },
-    List { name: "arrival, edges of rules", about: About::Arrivals, needed: SINGLE, find: |b, c, a| rules::arrival_edges(&called(b, c, a), packet(c), a.answer) },
+    List { name: "arrival", about: About::Arrivals, needed: BOTH,
+        find: |b, c, a| rules::arrival(&called(b, c, a), packet(c), a.answer) },
+    List { name: "arrival, edges of rules", about: About::Arrivals, needed: SINGLE,
+        find: |b, c, a| rules::arrival_edges(&called(b, c, a), packet(c), a.answer) },
     List { name: "slots at an arrival", about: About::Arrivals, needed: BOTH, find: store::slots },
     List { name: "place of an arrival", about: About::Arrivals, needed: BOTH, find: store::entering },
     List { name: "damage that an arrival does not see", about: About::Arrivals, needed: SINGLE, find: store::entering_damaged },
     List { name: "arrival refused by 9", about: About::WrongArrivals, needed: SINGLE, find: refused::arrival },
     List { name: "departure", about: About::Departures, needed: BOTH, find: |b, c, a| rules::departure(&called(b, c, a), a.packet.1) },
-    List { name: "departure, edges of rules", about: About::Departures, needed: SINGLE, find: |b, c, a| rules::departure_edges(&called(b, c, a), a.packet.1) },
+    List { name: "departure, edges of rules", about: About::Departures, needed: SINGLE,
+        find: |b, c, a| rules::departure_edges(&called(b, c, a), a.packet.1) },
     List { name: "place of a departure", about: About::Departures, needed: BOTH, find: store::leaving },
     List { name: "damage that a departure does not see", about: About::Departures, needed: SINGLE, find: store::leaving_damaged },
     List { name: "departure refused by 9", about: About::WrongDepartures, needed: SINGLE, find: refused::departure },
