@@ -14,8 +14,6 @@
 #include "plain.h"
 #include "random.h"
 
-#include <string.h>
-
 #define PERIOD 15000u
 
 /* Of 100 packet events, how many are arrivals; the longest gap between two events; the least and
@@ -95,28 +93,11 @@ static void follow(struct generator *g, const struct event *e)
         plain_tick(&g->state, e->clock);
 }
 
-const struct stream *find_stream(const char *name)
-{
-    for (size_t i = 0; i < COUNT(streams); i++)
-        if (strcmp(streams[i].name, name) == 0)
-            return &streams[i];
-    return NULL;
-}
-
-void make_events(const struct stream *stream, struct event *events, size_t n)
-{
-    static struct generator g;
-    size_t at = 0, place = 0;
-    g.stream = stream;
-    g.seed = stream->seed;
-    g.clock = 0;
-    plain_fresh(&g.state, stream->target, stream->buffer, stream->slots, stream->profile, 0);
-    while (at < n) {
-        const struct phase *phase = &stream->phases[place++ % stream->phase_count];
-        for (size_t end = at + phase->length; at < end && at < n; at++) {
-            g.clock += below(&g.seed, phase->gap + 1);
-            events[at] = next_event(&g, phase);
-            follow(&g, &events[at]);
-        }
-    }
-}
+#define STREAM struct stream
+#define FIND find_stream
+#define MAKE make_events
+#define EVENT struct event
+#define PHASE struct phase
+#define START(g)                                                                                  \
+    plain_fresh(&(g)->state, stream->target, stream->buffer, stream->slots, stream->profile, 0)
+#include "streams.h"

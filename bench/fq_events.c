@@ -102,28 +102,11 @@ static void follow(struct generator *g, const struct fq_event *e)
         plain_fq_tick(&g->fq, e->clock);
 }
 
-const struct fq_stream *find_fq_stream(const char *name)
-{
-    for (size_t i = 0; i < COUNT(streams); i++)
-        if (strcmp(streams[i].name, name) == 0)
-            return &streams[i];
-    return NULL;
-}
-
-void make_fq_events(const struct fq_stream *stream, struct fq_event *events, size_t n)
-{
-    static struct generator g;
-    size_t at = 0, place = 0;
-    g.stream = stream;
-    g.seed = stream->seed;
-    g.clock = 0;
-    plain_fq_fresh(&g.fq, stream->target, stream->buffer, stream->slots, stream->salt, 0);
-    while (at < n) {
-        const struct fq_phase *phase = &stream->phases[place++ % stream->phase_count];
-        for (size_t end = at + phase->length; at < end && at < n; at++) {
-            g.clock += below(&g.seed, phase->gap + 1);
-            events[at] = next_event(&g, phase);
-            follow(&g, &events[at]);
-        }
-    }
-}
+#define STREAM struct fq_stream
+#define FIND find_fq_stream
+#define MAKE make_fq_events
+#define EVENT struct fq_event
+#define PHASE struct fq_phase
+#define START(g)                                                                                  \
+    plain_fq_fresh(&(g)->fq, stream->target, stream->buffer, stream->slots, stream->salt, 0)
+#include "streams.h"

@@ -12,8 +12,6 @@
 
 #include "random.h"
 
-#include <string.h>
-
 #define PERIOD 16000u
 
 /* Of 100 packet events, how many are arrivals; the longest gap between two events; the least and
@@ -108,13 +106,9 @@ static void follow(struct generator *g, const struct modem_event *e)
         plain_modem_tick(&flow->state, g->counts, e->flow, e->clock, e->credits);
 }
 
-const struct modem_stream *find_modem_stream(const char *name)
-{
-    for (size_t i = 0; i < COUNT(streams); i++)
-        if (strcmp(streams[i].name, name) == 0)
-            return &streams[i];
-    return NULL;
-}
+#define STREAM struct modem_stream
+#define FIND find_modem_stream
+#include "streams.h"
 
 void make_modem_events(const struct modem_stream *stream, struct modem_event *events, size_t n)
 {

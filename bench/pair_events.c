@@ -8,7 +8,7 @@
  */
 #include "pair_events.h"
 
-#include <string.h>
+#include "random.h"
 
 #define PERIOD 15000u
 
@@ -58,29 +58,6 @@ struct generator {
     uint32_t sizes[MOST_PAIR_SLOTS];
 };
 
-/* splitmix64 */
-static uint64_t next_random(struct generator *g)
-{
-    uint64_t z = g->seed += UINT64_C(0x9e3779b97f4a7c15);
-    z = (z ^ (z >> 30)) * UINT64_C(0xbf58476d1ce4e5b9);
-    z = (z ^ (z >> 27)) * UINT64_C(0x94d049bb133111eb);
-    return z ^ (z >> 31);
-}
-
-/* A number from 0 to n - 1. */
-static uint32_t below(struct generator *g, uint32_t n)
-{
-    return (uint32_t)((next_random(g) >> 32) * n >> 32);
-}
-
-/* Of 100 departures that would find the queue empty, 70 become arrivals. */
-static bool arrives(struct generator *g, const struct pair_phase *phase, bool second)
-{
-    if (below(g, 100) < phase->arrivals[second])
-        return true;
-    return g->pair.queues[second].count == 0 && below(g, 100) < 70;
-}
-
 static struct pair_event next_event(struct generator *g, const struct pair_phase *phase)
 {
     struct pair_event e = {.clock = g->clock, .kind = DEPARTURE};
@@ -90,13 +67,13 @@ static struct pair_event next_event(struct generator *g, const struct pair_phase
             e.second = q == 1;
             return e;
         }
-    e.second = phase->intercom <= below(g, 100);
-    if (arrives(g, phase, e.second)) {
+    e.second = phase->intercom <= below(&g->seed, 100);
+    if (arrives(&g->seed, phase->arrivals[e.second], g->pair.queues[e.second].count)) {
         e.kind = ARRIVAL;
-        e.handle = (uint32_t)next_random(g);
-        e.u = (uint32_t)next_random(g);
-        e.size = (uint16_t)(phase->least + below(g, phase->largest - phase->least + 1));
-        e.ecn = below(g, 100) < phase->ecn;
+        e.handle = (uint32_t)next_random(&g->seed);
+        e.u = (uint32_t)next_random(&g->seed);
+        e.size = (uint16_t)(phase->least + below(&g->seed, phase->largest - phase->least + 1));
+        e.ecn = below(&g->seed, 100) < phase->ecn;
     }
     return e;
 }
@@ -116,30 +93,13 @@ static void follow(struct generator *g, const struct pair_event *e)
         plain_pair_tick(&p->shared, &p->queues[0], &p->queues[1], e->second, e->clock);
 }
 
-const struct pair_stream *find_pair_stream(const char *name)
-{
-    for (size_t i = 0; i < COUNT(streams); i++)
-        if (strcmp(streams[i].name, name) == 0)
-            return &streams[i];
-    return NULL;
-}
-
-void make_pair_events(const struct pair_stream *stream, struct pair_event *events, size_t n)
-{
-    static struct generator g;
-    size_t at = 0, place = 0;
-    g.stream = stream;
-    g.seed = stream->seed;
-    g.clock = 0;
-    plain_pair_fresh(&g.pair.shared, &g.pair.queues[0], &g.pair.queues[1], stream->slots,
-                     stream->target, stream->buffer, stream->reserve[0], 0, stream->target,
-                     stream->buffer, stream->reserve[1], 0);
-    while (at < n) {
-        const struct pair_phase *phase = &stream->phases[place++ % stream->phase_count];
-        for (size_t end = at + phase->length; at < end && at < n; at++) {
-            g.clock += below(&g, phase->gap + 1);
-            events[at] = next_event(&g, phase);
-            follow(&g, &events[at]);
-        }
-    }
-}
+#define STREAM struct pair_stream
+#define FIND find_pair_stream
+#define MAKE make_pair_events
+#define EVENT struct pair_event
+#define PHASE struct pair_phase
+#define START(g)                                                                                  \
+    plain_pair_fresh(&(g)->pair.shared, &(g)->pair.queues[0], &(g)->pair.queues[1], stream->slots, \
+                     stream->target, stream->buffer, stream->reserve[0], 0, stream->target,       \
+                     stream->buffer, stream->reserve[1], 0)
+#include "streams.h"
