@@ -6,6 +6,7 @@ use Prim.Native.Nat.{ℕ, suc, _+_, _-_, _*_, _<_}
 use native.Mathlib.Omega.{arith}
 use lib.Dec.{eqb, ltb}
 use lib.ListN.{getD, set}
+use borrow.Author.Tests.{eqb-true, le-ltb}
 use Rattle.queue.specs.Answer.{Reply}
 use Rattle.queue.specs.Arrival.{arrival, stored}
 use Rattle.queue.specs.Departure.{departure}
@@ -39,11 +40,12 @@ module _ (w handles sizes calls : List ℕ) (at : ℕ) where
   arrival-step clock c k word w′ handles′ sizes′ e f g h =
       rw (k, ← c) (e ∙ plain-arrival (stateOf w) handles sizes clock (getD calls (at + 3) 0) (eqb kind 1) (getD calls (at + 4) 0), rw (f, g, h))
 
-  pub departure-step : (clock : ℕ) → clock ≡ clockAt calls at → ltb kind 2 ≡ false → eqb kind 2 ≡ true → (word : ℕ) (w′ : List ℕ) →
+  pub departure-step : (clock : ℕ) → clock ≡ clockAt calls at → eqb kind 2 ≡ true → (word : ℕ) (w′ : List ℕ) →
       word ≡ answerWord (departure (stateOf w) handles sizes clock .answer) → w′ ≡ wordsAfter (departure (stateOf w) handles sizes clock) w →
       Step (lent w handles sizes) calls at word (lent w′ handles sizes)
   unfolding callAt
-  departure-step clock c k l word w′ e f = rw (k, l, ← c) (e, rw f)
+  departure-step clock c l word w′ e f =
+      let k : ltb kind 2 ≡ false = le-ltb kind 2 (omega (arith, eqb-true kind 2 l)) in rw (k, l, ← c) (e, rw f)
 
   pub tick-step : (clock : ℕ) → clock ≡ clockAt calls at → ltb kind 2 ≡ false → eqb kind 2 ≡ false → eqb kind 3 ≡ true → (word : ℕ) (w′ : List ℕ) →
       word ≡ codeOf (tick (stateOf w) clock .answer) → w′ ≡ wordsAfter (tick (stateOf w) clock) w →

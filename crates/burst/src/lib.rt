@@ -31,7 +31,8 @@ fn held(w: [u64; 23]) -> bool
     true
 }
 
-// The call at `at`, of a queue that is ready for it.
+// The call at `at`, of a queue that is ready for it. Departures are told first: the compiler then keeps what arrivals use in registers
+// (docs/PERFORMANCE.md).
 fn known(w: &mut [u64; 23], handles: &mut [u32], sizes: &mut [u32], calls: &[u32], at: usize) -> u64
     requires { ⌜ Ready (lent (now w) (now handles) (now sizes)) 1 ⌝ }
     requires { ⌜ at + 5 < length (now calls) ⌝ }
@@ -42,6 +43,10 @@ fn known(w: &mut [u64; 23], handles: &mut [u32], sizes: &mut [u32], calls: &[u32
 {
     let clock = clock_of(calls[at], calls[at + 1]);
     let kind = calls[at + 5];
+    let departs = kind == 2;
+    if departs {
+        return depart(w, handles, sizes, clock);
+    }
     let arrives = kind < 2;
     if arrives {
         return arrive(
@@ -54,10 +59,6 @@ fn known(w: &mut [u64; 23], handles: &mut [u32], sizes: &mut [u32], calls: &[u32
             kind == 1,
             calls[at + 4],
         );
-    }
-    let departs = kind == 2;
-    if departs {
-        return depart(w, handles, sizes, clock);
     }
     let ticks = kind == 3;
     if ticks {

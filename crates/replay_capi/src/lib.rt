@@ -1,5 +1,5 @@
-// The C entry of the replay (include/obikuteru.h). It has an archive of its own: a second call of the queue's functions in one archive
-// would leave them calls.
+// The C entry of the replay (include/obikuteru.h). It has an archive of its own: a second call of the steps in one archive would leave
+// them calls.
 ghost use mathlib.Core.Path.{_≡_};
 ghost use Rattle.replay.specs.Replay.{replay};
 ghost use Rattle.replay.specs.Replied.{handlesAfter, sizesAfter};

@@ -32,6 +32,26 @@ mul-kind c = search needs
 shared-slice-read-kind : tie.Need-shared-slice-read-kind
 shared-slice-read-kind c = search needs
 
+depart-requires : tie.Need-depart-requires
+depart-requires c κs = search needs
+
+same-length : tie.Need-same-length
+same-length c = search needs
+
+same-length-2 : tie.Need-same-length-2
+same-length-2 c = search needs
+
+returns : tie.Need-returns
+returns c =
+    let a = c .before .before .before .before .before .before .before .before .before .before .before .before in
+    let w = now (a .args .w) in
+    let h = now (a .args .handles) in
+    let z = now (a .args .sizes) in
+    let k = now (a .args .calls) in
+    let t = c .before .before .before .before .before .before .clock-of in
+    let e = c .depart .ensures in
+    departure-step w h z k (a .args .at) (t .result) (t .ensures) (c .before .before .before .before .if1 .taken) _ _ (e .0) (e .1)
+
 add-arrive : tie.Need-add-arrive
 add-arrive c = search needs
 
@@ -62,26 +82,6 @@ shared-slice-read-arrive-3 c = search needs
 arrive-requires : tie.Need-arrive-requires
 arrive-requires c κs = search needs
 
-same-length : tie.Need-same-length
-same-length c = search needs
-
-same-length-2 : tie.Need-same-length-2
-same-length-2 c = search needs
-
-returns : tie.Need-returns
-returns c =
-    let a = c .before .before .before .before .before .before .before .before .before .before .before .before .before .before .before .before .before .before .before in
-    let w = now (a .args .w) in
-    let h = now (a .args .handles) in
-    let z = now (a .args .sizes) in
-    let k = now (a .args .calls) in
-    let t = c .before .before .before .before .before .before .before .before .before .before .before .before .before .clock-of in
-    let e = c .before .before .before .before .arrive .ensures in
-    arrival-step w h z k (a .args .at) (t .result) (t .ensures) (c .before .before .before .before .before .before .before .before .before .before .before .if1 .taken) _ _ _ _ (e .0) (e .1) (e .2) (e .3)
-
-depart-requires : tie.Need-depart-requires
-depart-requires c κs = search needs
-
 same-length-3 : tie.Need-same-length-3
 same-length-3 c = search needs
 
@@ -90,14 +90,14 @@ same-length-4 c = search needs
 
 returns-2 : tie.Need-returns-2
 returns-2 c =
-    let a = c .before .before .before .before .before .before .before .before .before .before .before .before .before in
+    let a = c .before .before .before .before .before .before .before .before .before .before .before .before .before .before .before .before .before .before .before .before in
     let w = now (a .args .w) in
     let h = now (a .args .handles) in
     let z = now (a .args .sizes) in
     let k = now (a .args .calls) in
-    let t = c .before .before .before .before .before .before .before .clock-of in
-    let e = c .depart .ensures in
-    departure-step w h z k (a .args .at) (t .result) (t .ensures) (c .before .before .before .before .before .if1 .left) (c .before .before .before .before .if2 .taken) _ _ (e .0) (e .1)
+    let t = c .before .before .before .before .before .before .before .before .before .before .before .before .before .before .clock-of in
+    let e = c .before .before .before .before .arrive .ensures in
+    arrival-step w h z k (a .args .at) (t .result) (t .ensures) (c .before .before .before .before .before .before .before .before .before .before .before .if2 .taken) _ _ _ _ (e .0) (e .1) (e .2) (e .3)
 
 tick-requires : tie.Need-tick-requires
 tick-requires c κs = search needs
@@ -111,12 +111,12 @@ returns-3 c =
     let k = now (a .args .calls) in
     let t = c .before .before .before .before .before .before .clock-of in
     let e = c .tick .ensures in
-    tick-step w h z k (a .args .at) (t .result) (t .ensures) (c .before .before .before .before .if1 .left) (c .before .before .before .if2 .left) (c .before .before .if3 .taken) _ _ (e .0) (e .1)
+    tick-step w h z k (a .args .at) (t .result) (t .ensures) (c .before .before .before .if2 .left) (c .before .before .before .before .if1 .left) (c .before .before .if3 .taken) _ _ (e .0) (e .1)
 
 returns-4 : tie.Need-returns-4
 returns-4 c =
     let a = c .before .before .before .before .before .before .before .before .before .before in
-    unknown-step (now (a .args .w)) (now (a .args .handles)) (now (a .args .sizes)) (now (a .args .calls)) (a .args .at) (c .before .before .if1 .left) (c .before .if2 .left) (c .if3 .left)
+    unknown-step (now (a .args .w)) (now (a .args .handles)) (now (a .args .sizes)) (now (a .args .calls)) (a .args .at) (c .before .if2 .left) (c .before .before .if1 .left) (c .if3 .left)
 
 pub known-spec : {M : Type 1} → statement M
 known-spec =
@@ -131,6 +131,10 @@ known-spec =
     add-kind
     mul-kind
     shared-slice-read-kind
+    depart-requires
+    same-length
+    same-length-2
+    returns
     add-arrive
     mul-arrive
     shared-slice-read-arrive
@@ -141,10 +145,6 @@ known-spec =
     mul-arrive-3
     shared-slice-read-arrive-3
     arrive-requires
-    same-length
-    same-length-2
-    returns
-    depart-requires
     same-length-3
     same-length-4
     returns-2

@@ -116,7 +116,7 @@ returns-2 c =
     let k = now (a .args .calls) in
     let t = c .before .before .before .before .before .before .before .before .before .clock-of in
     let e = c .before .obikuteru-departure .ensures in
-    departure-step w h z k (a .args .at) (t .result) (t .ensures) (c .before .before .before .before .before .before .before .if1 .left) (c .before .before .before .before .before .before .if2 .taken) _ _ (rw (e .0, e .2) at (c .word .ensures)) (e .1)
+    departure-step w h z k (a .args .at) (t .result) (t .ensures) (c .before .before .before .before .before .before .if2 .taken) _ _ (rw (e .0, e .2) at (c .word .ensures)) (e .1)
 
 obikuteru-tick-requires : tie.Need-obikuteru-tick-requires
 obikuteru-tick-requires c κs = search needs
