@@ -1,6 +1,6 @@
 /*
- * The header's burst against the definitions: the numbers of crates/burst/specs/Calls.antt and Burst.antt stand here a second time, by
- * hand, and a burst of each kind of call is answered as they say. It prints each mistake and ends with 1 if there is any.
+ * The header's burst against the definitions: the numbers of crates/burst/specs/Calls.antt and crates/steps/specs/Lent.antt stand here a
+ * second time, by hand, and a burst of each kind of call is answered as they say. It prints each mistake and ends with 1 if there is any.
  */
 #include <obikuteru.h>
 
