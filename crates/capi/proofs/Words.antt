@@ -30,11 +30,11 @@ use Rattle.queue.proofs.WhenAccepted.{arrival-accepted}
 use Rattle.capi.specs.Words.{arrivalWords, flagWord, isSet, restartedWords, stateOf, stateWords}
 
 -- f 0, f 1, ..: n of them
-abbrev listed : ℕ → (ℕ → ℕ) → List ℕ
+abbrev pub listed : ℕ → (ℕ → ℕ) → List ℕ
 listed zero f = []
 listed (suc n) f = f 0 ∷ listed n (λ i. f (suc i))
 
-written-out : (n : ℕ) (w : List ℕ) → length w ≡ n → w ≡ listed n (λ i. getD w i 0)
+pub written-out : (n : ℕ) (w : List ℕ) → length w ≡ n → w ≡ listed n (λ i. getD w i 0)
 written-out zero [] h = refl
 written-out zero (x ∷ w) h = absurd (omega arith)
 written-out (suc n) [] h = absurd (omega arith)
@@ -50,14 +50,14 @@ count-word w DroppedSlots = refl
 count-word w DroppedEarly = refl
 
 -- a word that says what it said is left as it is
-flag-kept : (word : ℕ) → flagWord word (isSet word) ≡ word
+pub flag-kept : (word : ℕ) → flagWord word (isSet word) ≡ word
 flag-kept word = go (eqb word 0) refl
   where
     go : (b : Bool) → eqb word 0 ≡ b → cond (not b) (cond (not b) word 0) (cond (not b) 1 0) ≡ word
     go true e = omega (arith, eqb-true word 0 e)
     go false e = refl
 
-flag-off : (word : ℕ) → flagWord word false ≡ 0
+pub flag-off : (word : ℕ) → flagWord word false ≡ 0
 flag-off word = go (isSet word)
   where
     go : (b : Bool) → _≡_ {A = ℕ} (cond b 0 0) 0

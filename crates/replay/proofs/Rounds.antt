@@ -1,20 +1,16 @@
 -- One round of the replay: the record that is reached, and the records after it.
 use mathlib.Core.Path.{_≡_, refl, ap, _∙_}
-use mathlib.Core.Bool.{Bool, true, false, cond}
 use mathlib.Core.List.{List, [], _∷_}
 use Prim.Native.Nat.{ℕ, zero, suc, _+_, _-_, _<_}
 use native.Mathlib.Omega.{arith}
-use lib.ListN.{length, length-set, set}
+use lib.ListN.{length}
 use Rattle.codec.specs.Records.{decoded}
 use Rattle.codec.specs.declared.Record.{Record}
-use Rattle.queue.specs.Answer.{Answer, admits}
-use Rattle.queue.specs.Arrival.{stored, tailPlace}
 use Rattle.refusals.specs.Rows.{firstRefusal}
-use Rattle.queue.specs.declared.State.{State}
 use Rattle.guarantees.specs.Handed.{Queue, Request, after, answerOf, askArrival, askDeparture, askTick}
 use Rattle.log.specs.Layout.{recordsFrom}
 use Rattle.steps.specs.Lent.{Lent, Ready, leaves, queueOf as lentQueue}
-use Rattle.steps.proofs.Kept.{leaves-queue, ready-kept}
+use Rattle.steps.proofs.Kept.{leaves-queue, ready-kept, stored-long}
 use Rattle.replay.specs.Agreement.{disagreement, disagreements, refusalIn, requestOf, verdictIn}
 use Rattle.replay.specs.Replay.{Replay, disagrees, replayFrom, unlessDisagrees}
 use Rattle.replay.specs.Replied.{bytesIn, handlesAfter, probIn, replayedOf, sizesAfter}
@@ -32,13 +28,6 @@ pub none-left : (R : Replay) (count i : ℕ) (bytes : List ℕ) (at : ℕ) (q : 
 none-left R count i bytes at q e h = let n : count - i ≡ 0 = omega arith in rw (n, h) at e
 
 -- a call writes at most one element of each table: their lengths stay
-stored-long : (s : State) (a : Answer) (table : List ℕ) (x : ℕ) → length (stored s a table x) ≡ length table
-stored-long s a table x = go (admits a)
-  where
-    go : (b : Bool) → length (cond b (set table (tailPlace s) x) table) ≡ length table
-    go true = length-set table (tailPlace s) x
-    go false = refl
-
 pub after-long : (q : Queue) (r : Request) →
     (length ((after q r) .handles) ≡ length (q .handles)) × (length ((after q r) .sizes) ≡ length (q .sizes))
 after-long q (askArrival clock handle size ecn u) =

@@ -17,12 +17,12 @@ use Rattle.queue.specs.Arrival.{arrivedState, stored, tailPlace, verdictOf}
 use Rattle.queue.specs.Departure.{departedState}
 use Rattle.queue.specs.Tick.{tickedState}
 use Rattle.capi.specs.Codes.{wordsAfter}
+use Rattle.capi.proofs.Words.{written-out}
 use Rattle.capi.specs.Words.{flagWord, isSet, stateOf, stateWords}
 use Rattle.guarantees.specs.Calls.{Call, arrive, depart, reply, update}
 use Rattle.guarantees.specs.Handed.{Request, after, askArrival, askDeparture, askTick, callOf}
 use Rattle.guarantees.proofs.Replies.{acceptance, at-one-reply, reply-well-formed}
 use Rattle.steps.specs.Lent.{Lent, Ready, leaves, queueOf, replyTo}
-use Rattle.steps.proofs.Words.{written-out}
 
 flag-says : (word : ℕ) (said : Bool) → isSet (flagWord word said) ≡ said
 flag-says word said = go (eqb word 0) refl said
@@ -69,7 +69,7 @@ accepted-replied w l (update clock) = (long w _ l, back w _ (five w), refl, omeg
 replied : (w : List ℕ) → length w ≡ 23 → (c : Call) → Replied w (reply (stateOf w) c)
 replied w l c = at-one-reply (Replied w) (stateOf w) c (λ n. (refl, refl, refl, omega arith)) (λ a. accepted-replied w l c)
 
-stored-long : (s : State) (a : Answer) (table : List ℕ) (element : ℕ) → length (stored s a table element) ≡ length table
+pub stored-long : (s : State) (a : Answer) (table : List ℕ) (element : ℕ) → length (stored s a table element) ≡ length table
 stored-long s a table element =
     at-cond (λ (l : List ℕ). length l ≡ length table) (admits a) (λ e. length-set table (tailPlace s) element) (λ e. refl)
 

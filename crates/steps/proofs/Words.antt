@@ -1,8 +1,8 @@
 -- Twenty-three words, written out, and what the inner functions make of them.
-use mathlib.Core.Path.{_≡_, refl, ap, subst⁻¹}
+use mathlib.Core.Path.{_≡_, refl, subst⁻¹}
 use mathlib.Core.Bool.{Bool, true, false, cond, not, _&&_}
-use mathlib.Core.List.{List, [], _∷_}
-use Prim.Native.Nat.{ℕ, zero, suc, _+_, _-_, _*_, _%_, _<_}
+use mathlib.Core.List.{List}
+use Prim.Native.Nat.{ℕ, _+_, _-_, _*_, _%_, _<_}
 use native.Mathlib.Omega.{arith}
 use lib.Dec.{eqb, leb, ltb}
 use lib.ListN.{getD, length, set}
@@ -21,39 +21,15 @@ use Rattle.queue.specs.Activity.{begun}
 use Rattle.queue.specs.Arrival.{arrivedState}
 use Rattle.queue.specs.Departure.{departedState}
 use Rattle.queue.specs.Tick.{tickedState}
-use Rattle.capi.specs.Words.{flagWord, isSet, pieOf, rateOf, restartedWords, stateOf, stateWords}
+use Rattle.capi.proofs.Words.{flag-kept, flag-off, listed, written-out}
+use Rattle.capi.specs.Words.{isSet, pieOf, rateOf, restartedWords, stateOf, stateWords}
 use Rattle.steps.specs.Words.{decidedWords, rateWords}
-
--- f 0, f 1, ..: n of them
-abbrev pub listed : ℕ → (ℕ → ℕ) → List ℕ
-listed zero f = []
-listed (suc n) f = f 0 ∷ listed n (λ i. f (suc i))
-
-pub written-out : (n : ℕ) (w : List ℕ) → length w ≡ n → w ≡ listed n (λ i. getD w i 0)
-written-out zero [] h = refl
-written-out zero (x ∷ w) h = absurd (omega arith)
-written-out (suc n) [] h = absurd (omega arith)
-written-out (suc n) (x ∷ w) h = ap (λ (l : List ℕ). x ∷ l) (written-out n w (omega arith))
 
 -- what holds of any twenty-three words written out holds of twenty-three words
 pub for-words : (P : List ℕ → Type 0) → ((f : ℕ → ℕ) → P (listed 23 f)) → (w : List ℕ) → length w ≡ 23 → P w
 for-words P h w e = subst⁻¹ P (written-out 23 w e) (h (λ i. getD w i 0))
 
--- a word that says what it said is left as it is
-flag-kept : (word : ℕ) → flagWord word (isSet word) ≡ word
-flag-kept word = go (eqb word 0) refl
-  where
-    go : (b : Bool) → eqb word 0 ≡ b → cond (not b) (cond (not b) word 0) (cond (not b) 1 0) ≡ word
-    go true e = omega (arith, eqb-true word 0 e)
-    go false e = refl
-
-none : (b : Bool) → _≡_ {A = ℕ} (cond b 0 0) 0
-none true = refl
-none false = refl
-
-flag-off : (word : ℕ) → flagWord word false ≡ 0
-flag-off word = none (isSet word)
-
+-- a word that says no is 0
 idle-flag : (word : ℕ) → isSet word ≡ false → 0 ≡ word
 idle-flag word e = omega (arith, eqb-true word 0 (not-false (eqb word 0) e))
 
@@ -212,7 +188,7 @@ starting-words r m =
 pub resting-words : (r : Rate) → r .measuring ≡ false → (w : List ℕ) → length w ≡ 23 → set (rated w r) 10 0 ≡ rateWords w r
 unfolding stateOf stateWords rateWords
 resting-words r m =
-    for-words (λ w. set (rated w r) 10 0 ≡ rateWords w r) (λ f. rw (flag-kept (f 22), m, none (isSet (f 10))))
+    for-words (λ w. set (rated w r) 10 0 ≡ rateWords w r) (λ f. rw (flag-kept (f 22), m, flag-off (f 10)))
 
 -- ── a departure ──
 

@@ -2,7 +2,6 @@
 use mathlib.Core.Path.{refl}
 use native.Mathlib.Omega.{arith}
 use denote.Ref.{now}
-use Rattle.capi.specs.Words.{stateOf}
 use Rattle.replay.proofs.Contained.{contained, fits, fresh-ready, held, misfits}
 use borrow.Author.Needs.{needs}
 use Rattle.replay.proofs.replaying.replay_whole.Statement.{statement}
