@@ -87,7 +87,7 @@ pub fn kind_of(number: u32) -> Option<u32> {
 pub fn standing(side: &Side, _: &Burst) -> Standing {
     let s = &side.state;
     let (formed, counted) = (model::well_formed(s), model::verdict_sum(s));
-    Standing { formed, slots: s.slots, calm: s.profile == 1, counted }
+    Standing { formed, slots: s.slots, calm: s.profile == 1, active: s.active != 0, counted }
 }
 
 pub fn fields(side: &Side) -> Vec<(String, u64)> {

@@ -14,7 +14,7 @@ use crate::words::{words, FIELDS};
 /// 1 is the arrival of a packet that may be marked: the modem marks none.
 pub const UNKNOWN: [u32; 6] = [1, 1, 4, 5, 1 << 16, u32::MAX];
 
-pub const IMPOSSIBLE: [&str; 2] = ["calm", "ready: marked"];
+pub const IMPOSSIBLE: [&str; 2] = ["ready: calm", "ready: marked"];
 
 /// A record and counts, sometimes a row that has just room for so many arrivals or just does not.
 pub fn start(r: &mut Random, length: usize) -> (Side, Call, Burst) {
@@ -75,7 +75,7 @@ pub fn standing(side: &Side, burst: &Burst) -> Standing {
     let (s, flow) = (&side.state, burst.flow);
     let formed = model::well_formed(s, &side.counts, flow);
     let counted = model::row_sum(&model::row(&side.counts, flow));
-    Standing { formed, slots: s.settings.slots, calm: false, counted }
+    Standing { formed, slots: s.settings.slots, calm: false, active: s.activity == 2, counted }
 }
 
 /// The record's, and the counts of all flows.

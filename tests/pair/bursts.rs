@@ -14,7 +14,8 @@ use crate::single;
 
 pub const UNKNOWN: [u32; 5] = [8, 9, 256, 1 << 16, u32::MAX];
 
-pub const IMPOSSIBLE: [&str; 2] = ["calm", "a flow above 15"];
+pub const IMPOSSIBLE: [&str; 4] =
+    ["ready: calm", "ready: turned active", "ready: turned inactive", "a flow above 15"];
 
 /// Records, sometimes with counts that have just room for so many arrivals or just do not.
 pub fn start(r: &mut Random, length: usize) -> (Side, Call, Burst) {
@@ -76,5 +77,5 @@ pub fn standing(side: &Side, _: &Burst) -> Standing {
     let r = &side.records;
     let [first, second] = r.queues.map(|queue| verdict_sum(&queue));
     let counted = first.max(second);
-    Standing { formed: well_formed(r), slots: r.shared.slots, calm: false, counted }
+    Standing { formed: well_formed(r), slots: r.shared.slots, calm: false, active: true, counted }
 }

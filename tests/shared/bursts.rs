@@ -31,6 +31,7 @@ pub struct Standing {
     pub formed: bool,
     pub slots: u64,
     pub calm: bool,
+    pub active: bool,
     /// Arrivals counted, by the queue that has most.
     pub counted: u128,
 }
@@ -44,9 +45,9 @@ const REFUSED: u32 = 120;
 const COUNTS_MAX: u128 = 1 << 48;
 
 /// What bursts reach. Those that may be tested once and then run are called ready here.
-pub const LABELS: [&str; 24] = [
+pub const LABELS: [&str; 26] = [
     "ready",
-    "calm",
+    "ready: calm",
     "not well formed",
     "tables that do not fit",
     "one count short of room",
@@ -69,6 +70,8 @@ pub const LABELS: [&str; 24] = [
     "ready: refused by 106",
     "ready: refused by 107",
     "ready: refused by 109",
+    "ready: turned active",
+    "ready: turned inactive",
 ];
 
 const LENGTHS: usize = 9; // and the following: unknown kind, refused by 108, verdicts, departed, ...
@@ -92,7 +95,7 @@ pub fn run(
         let (side, first, mut burst) = bursts::start(r, length);
         let (answers, after) = one_by_one(r, &side, first, &mut burst, lender)?;
         coverage.calls += burst.answers as u64;
-        note(coverage, &side, &burst, &answers);
+        note(coverage, (&side, &after), &burst, &answers);
         compare(&side, &burst, (0, &answers, &after), lender)?;
         if r.one_in(4) {
             misfit(r, &mut burst);
@@ -193,16 +196,16 @@ fn broken(side: &Side, burst: &Burst, sentence: String) -> Failure {
     ))
 }
 
-/// Counts what a burst reached.
-fn note(coverage: &mut Coverage, side: &Side, burst: &Burst, answers: &[u64]) {
-    let Standing { formed, slots, calm, counted } = bursts::standing(side, burst);
+/// Counts what a burst reached, from one side to the other.
+fn note(coverage: &mut Coverage, (side, after): (&Side, &Side), burst: &Burst, answers: &[u64]) {
+    let Standing { formed, slots, calm, active, counted } = bursts::standing(side, burst);
     let fit = burst.lent.handles as u64 == slots && burst.lent.sizes as u64 == slots;
     let needed = counted + burst.answers as u128;
-    let ready = formed && fit && needed <= COUNTS_MAX && !calm;
+    let ready = formed && fit && needed <= COUNTS_MAX;
     let sound = formed && fit;
     let reached = [
         ready,
-        sound && calm,
+        ready && calm,
         !formed,
         formed && !fit,
         sound && needed == COUNTS_MAX + 1,
@@ -213,6 +216,10 @@ fn note(coverage: &mut Coverage, side: &Side, burst: &Burst, answers: &[u64]) {
     ];
     for label in (0..reached.len()).filter(|&label| reached[label]) {
         coverage.note_burst(label);
+    }
+    let turned = bursts::standing(after, burst).active;
+    if ready && turned != active {
+        coverage.note_burst(if turned { 24 } else { 25 });
     }
     for (call, answer) in burst.calls.chunks(6).zip(answers) {
         note_call(coverage, ready, bursts::kind_of(call[5]), (answer & 0xffff) as usize);
