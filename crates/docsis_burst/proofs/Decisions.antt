@@ -26,6 +26,11 @@ use Rattle.docsis_burst.proofs.Words.{pie-back, pie-buffer, pie-long, p
 
 -- ── rules 7 to 15 ──
 
+-- rules 9 to 11 enqueue, in any order
+pub spares : (a : Bool) → false ≡ isEarly (cond a Enqueued Enqueued)
+spares true = refl
+spares false = refl
+
 -- rules 12 and 13, joined
 pub either-drops : (a b : Bool) → a || b ≡ isEarly (cond a DroppedEarly (cond b DroppedEarly Enqueued))
 either-drops true b = refl

@@ -1,10 +1,13 @@
 -- The steps of a flow that is one of sixteen, from what the flow gives with its row.
 use mathlib.Core.Path.{_≡_, refl, sym, _∙_}
 use mathlib.Core.Bool.{true, false}
+use mathlib.Core.Logic.{_≢_}
 use mathlib.Core.List.{List}
 use Prim.Native.Nat.{ℕ, zero, suc, _+_, _≤_}
-use lib.Dec.{eqb}
+use native.Mathlib.Omega.{arith}
+use lib.Dec.{eqb, ltb}
 use lib.ListN.{getD, length}
+use borrow.Author.Tests.{eq-eqb, eqb-false, eqb-true, ltb-false, ltb-true, ne-eqb}
 use Rattle.docsis_flow.specs.Answer.{Reply, unlessRefused}
 use Rattle.docsis_flow.specs.Arrival as flow-arrival
 use Rattle.docsis_flow.specs.Arrival.{stored}
@@ -21,6 +24,32 @@ use Rattle.docsis_burst.specs.Calls.{clockAt}
 use Rattle.docsis_burst.specs.Burst.{answerWord, lent}
 use Rattle.docsis_burst.proofs.Kept.{within}
 use Rattle.docsis_burst.proofs.Steps.{Step, arrival-step, departure-step, tick-step}
+
+-- ── the kinds, by their order ──
+
+module _ (kind : ℕ) where
+  pub is-arrival : ltb kind 2 ≡ true → eqb kind 1 ≡ false → eqb kind 0 ≡ true
+  is-arrival e f = let n : kind ≢ 1 = eqb-false kind 1 f in eq-eqb kind 0 (omega (arith, ltb-true kind 2 e))
+
+  pub is-departure : ltb kind 2 ≡ false → ltb kind 3 ≡ true → (eqb kind 0 ≡ false) × (eqb kind 2 ≡ true)
+  is-departure e f =
+      let low = ltb-false kind 2 e in
+      (ne-eqb kind 0 (omega arith), eq-eqb kind 2 (omega (arith, ltb-true kind 3 f)))
+
+  pub is-tick : ltb kind 3 ≡ false → ltb kind 4 ≡ true → (eqb kind 0 ≡ false) × (eqb kind 2 ≡ false) × (eqb kind 3 ≡ true)
+  is-tick e f =
+      let low = ltb-false kind 3 e in
+      (ne-eqb kind 0 (omega arith), ne-eqb kind 2 (omega arith), eq-eqb kind 3 (omega (arith, ltb-true kind 4 f)))
+
+  abbrev pub None : Type 0
+  None = (eqb kind 0 ≡ false) × (eqb kind 2 ≡ false) × (eqb kind 3 ≡ false)
+
+  pub ecn-is-none : eqb kind 1 ≡ true → None
+  ecn-is-none e = rw (eqb-true kind 1 e) (refl, refl, refl)
+
+  pub above-is-none : ltb kind 4 ≡ false → None
+  above-is-none e =
+      let low = ltb-false kind 4 e in (ne-eqb kind 0 (omega arith), ne-eqb kind 2 (omega arith), ne-eqb kind 3 (omega arith))
 
 -- ── neither a departure nor a tick counts ──
 

@@ -8,7 +8,6 @@ use docsis_pie::LOW;
 use docsis_pie::SMALL_QUEUE;
 use docsis_pie::scaled;
 use pie::LARGEST;
-use pie::LATEST;
 use ring::place;
 use units::Bytes;
 use units::Prob;
@@ -16,7 +15,7 @@ ghost use mathlib.Core.Path.{_≡_};
 ghost use mathlib.Core.Bool.{cond, true};
 ghost use Prim.Native.Nat.{_+_, _≤_, _<_, _^_, min};
 ghost use lib.ListN.{getD, length};
-ghost use Rattle.pie.specs.Constants.{largest, longest};
+ghost use Rattle.pie.specs.Constants.{largest, latest, longest};
 ghost use Rattle.pie.specs.Verdicts.{isEarly, placeOf};
 ghost use Rattle.docsis_pie.specs.Constants.{high, low, mostProb};
 ghost use Rattle.docsis_pie.specs.DropDecision.{afterDrop, cleared, drawn, drawnWith, scaledOf, staysInactive, summed, woken};
@@ -82,16 +81,12 @@ fn drop_early(w: &mut [u64; 16])
     }
 }
 
-// Rules 9 to 14, after rule 8: whether the packet is dropped early.
+// Rules 9 to 14, after rule 8: whether the packet is dropped early. Of rules 9 to 11, which all enqueue, the cheapest come first.
 fn drops(w: &[u64; 16], bytes: u64, part: u64, calls: &[u32], at: usize) -> bool
     requires { ⌜ (getD (now w) 7 0 ≤ mostProb) × (getD (now w) 9 0 ≤ longest) × (at + 5 < length (now calls)) ⌝ }
     ensures { λ r. ⌜ r
         ≡ isEarly (drawn (pieOf (now (w .entry))) (getD (now (w .entry)) 0 0) bytes part (getD (now (calls .entry)) (at + 4) 0)) ⌝ }
 {
-    let lightly_loaded = (2 * w[9] < w[0]) & (5 * w[7] < Prob::WHOLE.0);
-    if lightly_loaded {
-        return false;
-    }
     let small = bytes <= SMALL_QUEUE;
     if small {
         return false;
@@ -99,6 +94,10 @@ fn drops(w: &[u64; 16], bytes: u64, part: u64, calls: &[u32], at: usize) -> bool
     let sum = w[8];
     let low = sum < LOW;
     if low {
+        return false;
+    }
+    let lightly_loaded = (2 * w[9] < w[0]) & (5 * w[7] < Prob::WHOLE.0);
+    if lightly_loaded {
         return false;
     }
     (sum == HIGH) | (wide(calls[at + 4]) < part)
@@ -164,7 +163,7 @@ pub(crate) fn arrive(
     clock: u64,
 ) -> u64
     requires { ⌜ Ready flow (lent (now w) (now counts) (now handles) (now sizes)) 1 ⌝ }
-    requires { ⌜ at + 5 < length (now calls) ⌝ }
+    requires { ⌜ (at + 5 < length (now calls)) × (clock ≤ latest) ⌝ }
     ensures { λ r. ⌜ (let size = getD (now (calls .entry)) (at + 3) 0 in
         let s = stateOf (now (w .entry)) in
         let row = rowOf (now (counts .entry)) flow in
@@ -175,8 +174,8 @@ pub(crate) fn arrive(
         × (now (handles .exit) ≡ stored s (a .answer) (now (handles .entry)) (getD (now (calls .entry)) (at + 2) 0))
         × (now (sizes .exit) ≡ stored s (a .answer) (now (sizes .entry)) size)) ⌝ }
 {
-    let wrong_clock = (clock < w[5]) | (LATEST < clock);
-    if wrong_clock {
+    let early = clock < w[5];
+    if early {
         return 104;
     }
     let size = calls[at + 3];
