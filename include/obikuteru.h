@@ -185,12 +185,13 @@ bool obikuteru_well_formed(const struct obikuteru_state *state);
  * Many calls in one: a burst. Each call is answered as its single entry would answer it, refused
  * ones included, each given what the last one left; so a list of calls may be cut into bursts
  * anywhere. The record is tested once, and a call in a burst of 32 costs less than half of a
- * single one, of a plain queue and of a calm one. The modem has no bursts.
+ * single one, of a plain queue and of a calm one. The modem's bursts, of one flow each, take the
+ * same structs.
  */
 struct obikuteru_call {
     uint64_t clock;
     uint32_t handle; /* arrivals */
-    uint32_t size;   /* arrivals */
+    uint32_t size;   /* arrivals; at a modem also the credits of a tick */
     uint32_t u;      /* arrivals: a random number, fresh for each */
     uint32_t kind;   /* one of those below */
 };
@@ -474,6 +475,18 @@ uint32_t obikuteru_modem_tick(struct obikuteru_modem_state *state, uint64_t coun
  */
 bool obikuteru_modem_well_formed(const struct obikuteru_modem_state *state,
                                  uint64_t counts[16][5], uint32_t flow);
+
+/*
+ * A burst of calls on one flow, in the numbers and by the rules of obikuteru_calls: each call is
+ * answered as the modem's single entry would answer it, refused ones included. A tick's credits
+ * stand in `size`. A modem has no ECN: a call of kind OBIKUTERU_CALL_ECN_ARRIVAL, or of a kind
+ * above OBIKUTERU_CALL_TICK, is answered REFUSED_CALL, and nothing is changed. For a flow above 15
+ * every arrival, departure and tick is answered REFUSED_FLOW. Record and row are tested once.
+ */
+uint32_t obikuteru_modem_calls(struct obikuteru_modem_state *state, uint64_t counts[16][5],
+                               uint32_t flow, uint32_t *handles, size_t handles_len,
+                               uint32_t *sizes, size_t sizes_len, const uint32_t *calls,
+                               size_t calls_len, uint64_t *answers, size_t answers_len);
 
 /*
  * The pair: two queues in one pair of tables. docs/SHARED-TABLES.md has its rules. Queue 0 is the
