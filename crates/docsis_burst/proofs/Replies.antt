@@ -1,13 +1,12 @@
 -- The reply of each call where state and row are well formed and the tables fit.
 use mathlib.Core.Path.{_≡_}
-use mathlib.Core.Bool.{Bool, true, false, _||_}
+use mathlib.Core.Bool.{true, false}
 use mathlib.Core.List.{List}
 use Prim.Native.Nat.{ℕ, _≤_, _<_}
 use native.Mathlib.Omega.{arith}
-use lib.Dec.{ltb}
 use lib.ListN.{length}
-use borrow.Author.Tests.{eq-eqb, le-ltb, ne-eqb}
-use Rattle.pie.specs.Constants.{latest, mostVerdicts}
+use borrow.Author.Tests.{eq-eqb, ne-eqb}
+use Rattle.pie.specs.Constants.{mostVerdicts}
 use Rattle.pie.specs.Verdicts.{total}
 use Rattle.refusals.specs.Tests.{headRefused, sizeRefused}
 use Rattle.docsis_flow.specs.Arrival.{arrival, arrivalRefusal}
@@ -18,11 +17,6 @@ use Rattle.docsis_flow.specs.Tick.{tick, tickRefusal}
 use Rattle.docsis_flow.specs.declared.State.{State}
 use Rattle.docsis_flow.proofs.Facts.{well-formed}
 use Rattle.docsis_guarantees.proofs.Replies.{arrivalOf, departureOf, refusalOf, tickOf}
-
--- the test of refusal 4, of a clock that is not above 2^48
-pub late-as : (before clock : ℕ) (b : Bool) → clock ≤ latest → ltb clock before ≡ b → ltb clock before || ltb latest clock ≡ b
-late-as before clock true h e = rw e
-late-as before clock false h e = rw (e, le-ltb latest clock h)
 
 module _ (s : State) (row : List ℕ) (clock : ℕ) (good : formed s ≡ true) (fits : total row ≤ mostVerdicts) where
   -- ── ticks ──

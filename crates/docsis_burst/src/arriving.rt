@@ -8,6 +8,7 @@ use docsis_pie::LOW;
 use docsis_pie::SMALL_QUEUE;
 use docsis_pie::scaled;
 use pie::LARGEST;
+use pie::LATEST;
 use ring::place;
 use units::Bytes;
 use units::Prob;
@@ -15,7 +16,7 @@ ghost use mathlib.Core.Path.{_≡_};
 ghost use mathlib.Core.Bool.{cond, true};
 ghost use Prim.Native.Nat.{_+_, _≤_, _<_, _^_, min};
 ghost use lib.ListN.{getD, length};
-ghost use Rattle.pie.specs.Constants.{largest, latest, longest};
+ghost use Rattle.pie.specs.Constants.{largest, longest};
 ghost use Rattle.pie.specs.Verdicts.{isEarly, placeOf};
 ghost use Rattle.docsis_pie.specs.Constants.{high, low, mostProb};
 ghost use Rattle.docsis_pie.specs.DropDecision.{afterDrop, cleared, drawn, drawnWith, scaledOf, staysInactive, summed, woken};
@@ -163,7 +164,7 @@ pub(crate) fn arrive(
     clock: u64,
 ) -> u64
     requires { ⌜ Ready flow (lent (now w) (now counts) (now handles) (now sizes)) 1 ⌝ }
-    requires { ⌜ (at + 5 < length (now calls)) × (clock ≤ latest) ⌝ }
+    requires { ⌜ at + 5 < length (now calls) ⌝ }
     ensures { λ r. ⌜ (let size = getD (now (calls .entry)) (at + 3) 0 in
         let s = stateOf (now (w .entry)) in
         let row = rowOf (now (counts .entry)) flow in
@@ -174,8 +175,8 @@ pub(crate) fn arrive(
         × (now (handles .exit) ≡ stored s (a .answer) (now (handles .entry)) (getD (now (calls .entry)) (at + 2) 0))
         × (now (sizes .exit) ≡ stored s (a .answer) (now (sizes .entry)) size)) ⌝ }
 {
-    let early = clock < w[5];
-    if early {
+    let wrong_clock = (clock < w[5]) | (LATEST < clock);
+    if wrong_clock {
         return 104;
     }
     let size = calls[at + 3];

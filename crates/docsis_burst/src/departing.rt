@@ -2,12 +2,13 @@
 use crate::numbers::wide;
 use crate::numbers::word;
 use pie::Backlog;
+use pie::LATEST;
 use refusals::wrong_head;
 use units::Bytes;
 ghost use mathlib.Core.Path.{_≡_};
 ghost use mathlib.Core.List.{List};
 ghost use Prim.Native.Nat.{ℕ, _+_, _%_, _≤_, _<_};
-ghost use Rattle.pie.specs.Constants.{latest, mostVerdicts};
+ghost use Rattle.pie.specs.Constants.{mostVerdicts};
 ghost use Rattle.pie.specs.Verdicts.{total};
 ghost use Rattle.docsis_flow.specs.Departure.{departure};
 ghost use Rattle.docsis_capi.specs.Words.{stateOf, stateWords};
@@ -28,13 +29,12 @@ fn following(first: u64, slots: u64) -> u64
 // The head leaves. The flow's row is only known to fit.
 pub(crate) fn depart(w: &mut [u64; 16], handles: &[u32], sizes: &[u32], clock: u64) -> u64
     requires { ⌜ Fitting (now w) (now handles) (now sizes) ⌝ }
-    requires { ⌜ clock ≤ latest ⌝ }
     ensures { λ r. ⌜ ((row : List ℕ) → total row ≤ mostVerdicts →
         let a = departure (stateOf (now (w .entry))) row (now (handles .entry)) (now (sizes .entry)) clock in
         (r ≡ answerWord (a .answer)) × (now (w .exit) ≡ stateWords (a .state))) ⌝ }
 {
-    let early = clock < w[5];
-    if early {
+    let wrong_clock = (clock < w[5]) | (LATEST < clock);
+    if wrong_clock {
         return 104;
     }
     let count = w[14];

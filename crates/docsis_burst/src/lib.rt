@@ -34,7 +34,7 @@ fn held(w: [u64; 16]) -> bool
     true
 }
 
-// The call at `at`, of a flow that is ready for it. A clock of 2^48 or later, in `high` from 65,536 on, goes to the single entries.
+// The call at `at`, of a flow that is ready for it.
 fn known(
     w: &mut [u64; 16],
     counts: &mut [[u64; 5]; 16],
@@ -51,12 +51,7 @@ fn known(
         (r ≡ answerWord (answerTo flow q c))
         × (lent (now (w .exit)) (now (counts .exit)) (now (handles .exit)) (now (sizes .exit)) ≡ after flow q c)) ⌝ }
 {
-    let high = calls[at + 1];
-    let far = 65_536 <= high;
-    if far {
-        return single(w, counts, flow, handles, sizes, calls, at);
-    }
-    let clock = clock_of(calls[at], high);
+    let clock = clock_of(calls[at], calls[at + 1]);
     let kind = calls[at + 5];
     let arrives = kind < 2;
     if arrives {

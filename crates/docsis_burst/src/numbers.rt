@@ -1,6 +1,6 @@
 // Numbers of calls and answers.
 ghost use mathlib.Core.Path.{_≡_};
-ghost use Prim.Native.Nat.{_+_, _*_, _≤_, _<_};
+ghost use Prim.Native.Nat.{_+_, _*_, _≤_};
 
 pub(crate) fn wide(x: u32) -> u64
     ensures { λ r. ⌜ r ≡ x ⌝ }
@@ -10,7 +10,7 @@ pub(crate) fn wide(x: u32) -> u64
 
 // A clock from its halves.
 pub(crate) fn clock_of(low: u32, high: u32) -> u64
-    ensures { λ r. ⌜ (r ≡ low + 4294967296 * high) × (r < 4294967296 * high + 4294967296) ⌝ }
+    ensures { λ r. ⌜ r ≡ low + 4294967296 * high ⌝ }
 {
     low as u64 + 4_294_967_296 * (high as u64)
 }

@@ -3,6 +3,7 @@ use docsis_pie::Activity;
 use docsis_pie::DocsisPie;
 use docsis_pie::PERIOD;
 use docsis_pie::Phase;
+use pie::LATEST;
 use units::Bytes;
 use units::BytesPerSecond;
 use units::Micros;
@@ -12,7 +13,7 @@ ghost use mathlib.Core.Bool.{true};
 ghost use mathlib.Core.List.{List};
 ghost use Prim.Native.Nat.{ℕ, _≤_};
 ghost use lib.ListN.{length};
-ghost use Rattle.pie.specs.Constants.{latest, mostVerdicts};
+ghost use Rattle.pie.specs.Constants.{mostVerdicts};
 ghost use Rattle.pie.specs.Verdicts.{total};
 ghost use Rattle.docsis_flow.specs.State.{formed};
 ghost use Rattle.docsis_flow.specs.Tick.{tick};
@@ -21,13 +22,13 @@ ghost use Rattle.docsis_capi.specs.Words.{stateOf, stateWords};
 
 // The flow's row is only known to fit.
 pub(crate) fn tick(w: &mut [u64; 16], clock: u64, credits: u64) -> u64
-    requires { ⌜ (length (now w) ≡ 16) × (formed (stateOf (now w)) ≡ true) × (clock ≤ latest) ⌝ }
+    requires { ⌜ (length (now w) ≡ 16) × (formed (stateOf (now w)) ≡ true) ⌝ }
     ensures { λ r. ⌜ ((row : List ℕ) → total row ≤ mostVerdicts →
         let a = tick (stateOf (now (w .entry))) row clock credits in
         (r ≡ codeOf (a .answer)) × (now (w .exit) ≡ stateWords (a .state))) ⌝ }
 {
-    let early = clock < w[5];
-    if early {
+    let wrong_clock = (clock < w[5]) | (LATEST < clock);
+    if wrong_clock {
         return 104;
     }
     let too_soon = clock < w[6] + PERIOD;

@@ -83,7 +83,7 @@ returns c =
     let k = now (a .args .calls) in
     let t = c .before .before .before .before .before .before .before .before .before .before .before .before .before .before .before .clock-of in
     let e = c .before .before .before .before .before .obikuteru-modem-arrival .ensures in
-    arrival-step (a .args .flow) w n h z k (a .args .at) (t .result) (t .ensures .0) (c .before .before .before .before .before .before .before .before .before .before .before .before .before .if1 .taken) _ _ _ _ _ (c .wide .ensures ∙ e .0) (e .1) (e .2) (e .3) (e .4)
+    arrival-step (a .args .flow) w n h z k (a .args .at) (t .result) (t .ensures) (c .before .before .before .before .before .before .before .before .before .before .before .before .before .if1 .taken) _ _ _ _ _ (c .wide .ensures ∙ e .0) (e .1) (e .2) (e .3) (e .4)
 
 obikuteru-modem-departure-requires : tie.Need-obikuteru-modem-departure-requires
 obikuteru-modem-departure-requires c κs = search needs
@@ -117,7 +117,7 @@ returns-2 c =
     let k = now (a .args .calls) in
     let t = c .before .before .before .before .before .before .before .before .before .before .clock-of in
     let e = c .before .obikuteru-modem-departure .ensures in
-    departure-step (a .args .flow) w n h z k (a .args .at) (t .result) (t .ensures .0) (c .before .before .before .before .before .before .before .before .if1 .left) (c .before .before .before .before .before .before .before .if2 .taken) _ _ (rw (e .0, e .3) at (c .word .ensures)) (e .1) (e .2)
+    departure-step (a .args .flow) w n h z k (a .args .at) (t .result) (t .ensures) (c .before .before .before .before .before .before .before .before .if1 .left) (c .before .before .before .before .before .before .before .if2 .taken) _ _ (rw (e .0, e .3) at (c .word .ensures)) (e .1) (e .2)
 
 add-obikuteru-modem-tick : tie.Need-add-obikuteru-modem-tick
 add-obikuteru-modem-tick c = search needs
@@ -144,7 +144,7 @@ returns-3 c =
     let k = now (a .args .calls) in
     let t = c .before .before .before .before .before .before .before .before .before .clock-of in
     let e = c .before .obikuteru-modem-tick .ensures in
-    tick-step (a .args .flow) w n h z k (a .args .at) (t .result) (t .ensures .0) (c .before .before .before .before .before .before .before .if1 .left) (c .before .before .before .before .before .before .if2 .left) (c .before .before .before .before .before .if3 .taken) _ _ (c .wide2 .ensures ∙ e .0) (e .1) (e .2)
+    tick-step (a .args .flow) w n h z k (a .args .at) (t .result) (t .ensures) (c .before .before .before .before .before .before .before .if1 .left) (c .before .before .before .before .before .before .if2 .left) (c .before .before .before .before .before .if3 .taken) _ _ (c .wide2 .ensures ∙ e .0) (e .1) (e .2)
 
 returns-4 : tie.Need-returns-4
 returns-4 c =

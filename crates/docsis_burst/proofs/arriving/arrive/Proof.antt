@@ -3,12 +3,12 @@ use borrow.Author.Needs.{needs}
 use Rattle.docsis_burst.proofs.arriving.arrive.Statement.{statement}
 use Rattle.docsis_burst.proofs.arriving.arrive.Tie as tie
 use mathlib.Core.Path.{_≡_, refl, _∙_}
-use mathlib.Core.Bool.{Bool, true, false}
+use mathlib.Core.Bool.{true, false}
 use mathlib.Core.List.{List}
 use Prim.Native.Nat.{ℕ, _+_, _≤_, _<_}
 use native.Mathlib.Nat.{mod-lt}
 use native.Mathlib.Omega.{arith}
-use lib.Dec.{eqb, ltb}
+use lib.Dec.{eqb}
 use lib.ListN.{getD, set}
 use denote.Ref.{now}
 use borrow.Author.Tests.{ltb-false}
@@ -19,7 +19,6 @@ use Rattle.pie.proofs.Counts.{place-lt}
 use Rattle.refusals.specs.Tests.{sizeRefused}
 use Rattle.docsis_pie.specs.declared.Decided.{Decided}
 use Rattle.docsis_flow.specs.Arrival.{decisionOf, tailPlace}
-use Rattle.docsis_flow.specs.Refusals.{clockRefused}
 use Rattle.docsis_flow.proofs.Facts.{Facts, facts}
 use Rattle.docsis.specs.Counts.{countsAfter, rowOf}
 use Rattle.docsis_capi.specs.Words.{stateOf}
@@ -27,7 +26,7 @@ use Rattle.docsis_capi.proofs.Calls.{raised-for}
 use Rattle.docsis_capi.proofs.Changed.{kept}
 use Rattle.docsis_burst.specs.Words.{pieWords}
 use Rattle.docsis_burst.proofs.Arrivals.{admits-as, entered-ok, first-read, turned-away}
-use Rattle.docsis_burst.proofs.Replies.{arrival-late, arrival-made, arrival-wrong, late-as}
+use Rattle.docsis_burst.proofs.Replies.{arrival-late, arrival-made, arrival-wrong}
 
 abbrev sizeAt : tie.Start → ℕ
 sizeAt a = getD (now (a .args .calls)) (a .args .at + 3) 0
@@ -46,11 +45,6 @@ known a = facts _ (a .pre .0 .1 .1)
 
 fits : (a : tie.Start) → total (rowOf (now (a .args .counts)) (a .args .flow)) ≤ mostVerdicts
 fits a = omega (arith, a .pre .0 .2)
-
-late : (a : tie.Start) (b : Bool) → ltb (a .args .clock) (getD (now (a .args .w)) 5 0) ≡ b →
-    clockRefused (stateOf (now (a .args .w))) (a .args .clock) ≡ b
-unfolding stateOf
-late a b e = late-as (getD (now (a .args .w)) 5 0) (a .args .clock) b (a .pre .1 .1) e
 
 right-size : (c : tie.Else2) → sizeRefused (sizeAt (c .before .before .before .before .before .before .before .before)) ≡ false
 right-size c = rw (c .before .wide .ensures) at (c .if2 .left)
@@ -79,15 +73,15 @@ tail-place c = rw (first-is (c .before .before .before .before .before)) at (c .
 tail-low : (c : tie.After-place) → c .place .result < stateOf (wordsAt (c .before .before .before .before .before .before .before .before .before .before .before .before .before .before .before .before .before .before)) .settings .slots
 tail-low c = rw (tail-place c) (mod-lt _ (known (c .before .before .before .before .before .before .before .before .before .before .before .before .before .before .before .before .before .before) .slots-low))
 
-element-copy-out-early : tie.Need-element-copy-out-early
-element-copy-out-early c = search needs
+element-copy-out-wrong-clock : tie.Need-element-copy-out-wrong-clock
+element-copy-out-wrong-clock c = search needs
 
 returns : tie.Need-returns
 unfolding stateOf countsAfter
 returns c =
     let a = c .before .before .before .before .before in
     let q = a .pre .0 in
-    rw (arrival-late _ _ _ (q .1 .1) (fits a) _ _ (q .1 .2) (q .1 .3) _ _ (late a true (c .if1 .taken))) (refl, kept _ _ (refl, q .1 .0), refl, refl, refl)
+    rw (arrival-late _ _ _ (q .1 .1) (fits a) _ _ (q .1 .2) (q .1 .3) _ _ (c .if1 .taken)) (refl, kept _ _ (refl, q .1 .0), refl, refl, refl)
 
 add-size : tie.Need-add-size
 add-size c = search needs
@@ -106,7 +100,7 @@ unfolding stateOf countsAfter
 returns-2 c =
     let a = c .before .before .before .before .before .before .before .before in
     let q = a .pre .0 in
-    rw (arrival-wrong _ _ _ (q .1 .1) (fits a) _ _ (q .1 .2) (q .1 .3) _ _ (late a false (c .before .before .before .if1 .left)) (rw (c .before .wide .ensures) at (c .if2 .taken)))
+    rw (arrival-wrong _ _ _ (q .1 .1) (fits a) _ _ (q .1 .2) (q .1 .3) _ _ (c .before .before .before .if1 .left) (rw (c .before .wide .ensures) at (c .if2 .taken)))
     (refl, kept _ _ (refl, q .1 .0), refl, refl, refl)
 
 element-copy-out-slots : tie.Need-element-copy-out-slots
@@ -119,7 +113,7 @@ element-copy-out-queued : tie.Need-element-copy-out-queued
 element-copy-out-queued c = search needs
 
 decide-requires : tie.Need-decide-requires
-decide-requires c κs = let q = c .before .before .before .before .before .before .before .before .before .before .before .before .pre .0 in (q .1 .0, q .1 .1, rw (c .before .before .before .before .before .wide .ensures) (small (c .before .before .before .before)), c .before .before .before .before .before .before .before .before .before .before .before .before .pre .1 .0)
+decide-requires c κs = let q = c .before .before .before .before .before .before .before .before .before .before .before .before .pre .0 in (q .1 .0, q .1 .1, rw (c .before .before .before .before .before .wide .ensures) (small (c .before .before .before .before)), c .before .before .before .before .before .before .before .before .before .before .before .before .pre .1)
 
 element-write-w : tie.Need-element-write-w
 element-write-w c = search needs
@@ -184,7 +178,7 @@ returns-3 c =
     let t = c .before .before .before .if3 .taken in
     let e = ruled-place v in
     let admits = admits-as (ruled a) (v .decide .result) e true t in
-    let made = arrival-made (stateOf (wordsAt a)) (rowOf (now (a .args .counts)) (a .args .flow)) (a .args .clock) (q .1 .1) (fits a) (now (a .args .handles)) (now (a .args .sizes)) (q .1 .2) (q .1 .3) (sizeAt a) (uAt a) (late a false (c .before .before .before .before .before .before .before .before .before .before .before .before .before .before .if1 .left)) (right-size (c .before .before .before .before .before .before .before .before .before .before .before)) (omega (arith, q .2)) in
+    let made = arrival-made (stateOf (wordsAt a)) (rowOf (now (a .args .counts)) (a .args .flow)) (a .args .clock) (q .1 .1) (fits a) (now (a .args .handles)) (now (a .args .sizes)) (q .1 .2) (q .1 .3) (sizeAt a) (uAt a) (c .before .before .before .before .before .before .before .before .before .before .before .before .before .before .if1 .left) (right-size (c .before .before .before .before .before .before .before .before .before .before .before)) (omega (arith, q .2)) in
     let words = entered-ok (wordsAt a) (v .decide .last .0) (q .1 .0) (a .args .clock) (sizeAt a) (uAt a) (v .decide .result) e (ruled-words v) t in
     let counted = c .before .before .before .before .raise .ensures ∙ raised-for _ _ _ ((ruled a) .verdict) e in
     let place = tail-place (c .before) in
@@ -199,7 +193,7 @@ returns-4 c =
     let t = c .if3 .left in
     let e = ruled-place v in
     let admits = admits-as (ruled a) (v .decide .result) e false t in
-    let made = arrival-made (stateOf (wordsAt a)) (rowOf (now (a .args .counts)) (a .args .flow)) (a .args .clock) (q .1 .1) (fits a) (now (a .args .handles)) (now (a .args .sizes)) (q .1 .2) (q .1 .3) (sizeAt a) (uAt a) (late a false (c .before .before .before .before .before .before .before .before .before .before .before .if1 .left)) (right-size (c .before .before .before .before .before .before .before .before)) (omega (arith, q .2)) in
+    let made = arrival-made (stateOf (wordsAt a)) (rowOf (now (a .args .counts)) (a .args .flow)) (a .args .clock) (q .1 .1) (fits a) (now (a .args .handles)) (now (a .args .sizes)) (q .1 .2) (q .1 .3) (sizeAt a) (uAt a) (c .before .before .before .before .before .before .before .before .before .before .before .if1 .left) (right-size (c .before .before .before .before .before .before .before .before)) (omega (arith, q .2)) in
     let words = turned-away (wordsAt a) (v .decide .last .0) (q .1 .0) (a .args .clock) (sizeAt a) (uAt a) (v .decide .result) e (ruled-words v) t in
     let counted = c .before .raise .ensures ∙ raised-for _ _ _ ((ruled a) .verdict) e in
     rw made (e, words, counted, rw admits, rw admits)
@@ -208,7 +202,7 @@ pub arrive-spec : {M : Type 1} → statement M
 arrive-spec =
     tie.close
     (tie.spec
-    element-copy-out-early
+    element-copy-out-wrong-clock
     returns
     add-size
     mul-size

@@ -3,31 +3,24 @@ use borrow.Author.Needs.{needs}
 use Rattle.docsis_burst.proofs.departing.depart.Statement.{statement}
 use Rattle.docsis_burst.proofs.departing.depart.Tie as tie
 use mathlib.Core.Path.{_≡_, refl, sym, _∙_}
-use mathlib.Core.Bool.{Bool, true, false}
+use mathlib.Core.Bool.{false}
 use mathlib.Core.Logic.{_≢_}
 use Prim.Native.Nat.{ℕ}
 use native.Mathlib.Omega.{arith}
-use lib.Dec.{ltb}
 use lib.ListN.{getD}
 use denote.Ref.{now}
 use borrow.Author.Tests.{eqb-false}
 use Rattle.refusals.specs.Tests.{headRefused}
 use Rattle.refusals.proofs.Fitting.{HeadFits, head-fits}
 use Rattle.docsis_flow.specs.Departure.{headOf}
-use Rattle.docsis_flow.specs.Refusals.{clockRefused}
 use Rattle.docsis_flow.proofs.Facts.{Facts, facts}
 use Rattle.docsis_capi.specs.Words.{stateOf}
 use Rattle.docsis_capi.proofs.Changed.{kept}
-use Rattle.docsis_burst.proofs.Replies.{departure-empty, departure-late, departure-made, departure-wrong, late-as}
+use Rattle.docsis_burst.proofs.Replies.{departure-empty, departure-late, departure-made, departure-wrong}
 use Rattle.docsis_burst.proofs.Words.{departed-words}
 
 known : (a : tie.Start) → Facts (stateOf (now (a .args .w)))
-known a = facts _ (a .pre .0 .1)
-
-late : (a : tie.Start) (b : Bool) → ltb (a .args .clock) (getD (now (a .args .w)) 5 0) ≡ b →
-    clockRefused (stateOf (now (a .args .w))) (a .args .clock) ≡ b
-unfolding stateOf
-late a b e = late-as (getD (now (a .args .w)) 5 0) (a .args .clock) b (a .pre .1) e
+known a = facts _ (a .pre .1)
 
 some : (c : tie.Else2) → getD (now (c .before .before .before .before .before .before .before .args .w)) 14 0 ≢ 0
 some c = eqb-false _ _ (c .if2 .left)
@@ -43,15 +36,14 @@ not-wrong c = sym (rw (c .before .before .wide .ensures) at (c .before .wrong-he
 fit : (c : tie.Else3) → HeadFits (stateOf (now (c .before .before .before .before .before .before .before .before .before .before .before .before .args .w)) .backlog) (sizeAt (c .before .before .before .before .before .before .before .before .before .before .before .before))
 fit c = head-fits _ _ (not-wrong c)
 
-element-copy-out-early : tie.Need-element-copy-out-early
-element-copy-out-early c = search needs
+element-copy-out-wrong-clock : tie.Need-element-copy-out-wrong-clock
+element-copy-out-wrong-clock c = search needs
 
 returns : tie.Need-returns
 unfolding stateOf
 returns c =
-    let a = c .before .before .before .before in
-    let q = a .pre .0 in
-    λ row fits. rw (departure-late _ row _ (q .1) fits _ _ (q .2) (q .3) (late a true (c .if1 .taken))) (refl, kept _ _ (refl, q .0))
+    let q = c .before .before .before .before .pre in
+    λ row fits. rw (departure-late _ row _ (q .1) fits _ _ (q .2) (q .3) (c .if1 .taken)) (refl, kept _ _ (refl, q .0))
 
 element-copy-out-count : tie.Need-element-copy-out-count
 element-copy-out-count c = search needs
@@ -62,9 +54,8 @@ element-copy-out-bytes c = search needs
 returns-2 : tie.Need-returns-2
 unfolding stateOf
 returns-2 c =
-    let a = c .before .before .before .before .before .before .before in
-    let q = a .pre .0 in
-    λ row fits. rw (departure-empty _ row _ (q .1) fits _ _ (q .2) (q .3) (late a false (c .before .before .before .if1 .left)) (c .if2 .taken)) (refl, kept _ _ (refl, q .0))
+    let q = c .before .before .before .before .before .before .before .pre in
+    λ row fits. rw (departure-empty _ row _ (q .1) fits _ _ (q .2) (q .3) (c .before .before .before .if1 .left) (c .if2 .taken)) (refl, kept _ _ (refl, q .0))
 
 element-copy-out-first : tie.Need-element-copy-out-first
 element-copy-out-first c = search needs
@@ -75,7 +66,7 @@ mul-head c = let f = known (c .before .before .before .before .before .before .b
 
 shared-slice-read-head : tie.Need-shared-slice-read-head
 unfolding stateOf
-shared-slice-read-head c = let f = known (c .before .before .before .before .before .before .before .before .before) in omega (arith, f .first-high, c .before .before .before .before .before .before .before .before .before .pre .0 .3)
+shared-slice-read-head c = let f = known (c .before .before .before .before .before .before .before .before .before) in omega (arith, f .first-high, c .before .before .before .before .before .before .before .before .before .pre .3)
 
 wide-requires : tie.Need-wide-requires
 wide-requires c κs = search needs
@@ -89,11 +80,10 @@ wrong-head-requires c κs =
 returns-3 : tie.Need-returns-3
 unfolding stateOf
 returns-3 c =
-    let a = c .before .before .before .before .before .before .before .before .before .before .before .before in
-    let q = a .pre .0 in
+    let q = c .before .before .before .before .before .before .before .before .before .before .before .before .pre in
     let wrong = sym (rw (c .before .before .wide .ensures) at (c .before .wrong-head .ensures)) ∙ c .if3 .taken in
     λ row fits.
-    rw (departure-wrong _ row _ (q .1) fits _ _ (q .2) (q .3) (late a false (c .before .before .before .before .before .before .before .before .if1 .left)) (c .before .before .before .before .before .if2 .left) wrong) (refl, kept _ _ (refl, q .0))
+    rw (departure-wrong _ row _ (q .1) fits _ _ (q .2) (q .3) (c .before .before .before .before .before .before .before .before .if1 .left) (c .before .before .before .before .before .if2 .left) wrong) (refl, kept _ _ (refl, q .0))
 
 mul-handle : tie.Need-mul-handle
 unfolding stateOf
@@ -101,7 +91,7 @@ mul-handle c = let f = known (c .before .before .before .before .before .before 
 
 shared-slice-read-handle : tie.Need-shared-slice-read-handle
 unfolding stateOf
-shared-slice-read-handle c = let f = known (c .before .before .before .before .before .before .before .before .before .before .before .before .before) in omega (arith, f .first-high, c .before .before .before .before .before .before .before .before .before .before .before .before .before .pre .0 .2)
+shared-slice-read-handle c = let f = known (c .before .before .before .before .before .before .before .before .before .before .before .before .before) in omega (arith, f .first-high, c .before .before .before .before .before .before .before .before .before .before .before .before .before .pre .2)
 
 element-copy-out-following : tie.Need-element-copy-out-following
 element-copy-out-following c = search needs
@@ -137,18 +127,18 @@ returns-4 : tie.Need-returns-4
 unfolding stateOf
 returns-4 c =
     let a = c .before .before .before .before .before .before .before .before .before .before .before .before .before .before .before .before in
-    let q = a .pre .0 in
+    let q = a .pre in
     let w = now (a .args .w) in
     let words = departed-words (a .args .clock) (sizeAt a) w (q .0) in
     λ row fits.
-    rw (departure-made _ row _ (q .1) fits _ _ (q .2) (q .3) (late a false (c .before .before .before .before .before .before .before .before .before .before .before .before .if1 .left)) (c .before .before .before .before .before .before .before .before .before .if2 .left) (not-wrong (c .before .before .before .before)))
+    rw (departure-made _ row _ (q .1) fits _ _ (q .2) (q .3) (c .before .before .before .before .before .before .before .before .before .before .before .before .if1 .left) (c .before .before .before .before .before .before .before .before .before .if2 .left) (not-wrong (c .before .before .before .before)))
     (c .word .ensures, rw (c .before .following .ensures, c .before .before .before .before .before .before .wide .ensures) words)
 
 pub depart-spec : {M : Type 1} → statement M
 depart-spec =
     tie.close
     (tie.spec
-    element-copy-out-early
+    element-copy-out-wrong-clock
     returns
     element-copy-out-count
     element-copy-out-bytes
