@@ -133,8 +133,7 @@ pub fn refuse(refusal: Refusal, common: Common, lists: Lists) -> Departed
     }
 }
 
-// A flow is chosen, and its head leaves, or is refused by 9. The choosing moves flows in copies of the lists and deficits, which are kept
-// only where nothing is refused.
+// A flow is chosen, and its head leaves, or is refused by 9: then the lists and deficits, in which the choosing moves flows, are put back.
 pub fn serve(
     common: Common,
     lists: Lists,
@@ -156,14 +155,16 @@ pub fn serve(
         × (stateOf (r .common) (r .lists) (now (order .exit)) (now (deficits .exit)) (now (flows .exit)) ≡ a .state)
         × (now (sizes .exit) ≡ departedSizes s (a .answer) (now (sizes .entry)))) ⌝ }
 {
-    let mut moved = *order;
-    let mut owed = *deficits;
-    let choice = choose(&mut moved, &mut owed, counts, lists);
+    let listed = *order;
+    let owed = *deficits;
+    let choice = choose(order, deficits, counts, lists);
     let flow = choice.flow;
     let after = choice.lists;
     let f = flow_at(flows, flow);
     let wrong = wrong_word(f, common.settings.slots, sizes);
     if wrong {
+        *order = listed;
+        *deficits = owed;
         return refuse(Refusal::Head, common, lists);
     }
     let handle = handles[f.head as usize];
@@ -172,9 +173,7 @@ pub fn serve(
     let next = departed(f, common, sizes, clock, bytes);
     set_flow(flows, flow, next);
     write_freed(sizes, f.head, common.store.freed);
-    charge(&mut owed, flow, size);
-    *order = moved;
-    *deficits = owed;
+    charge(deficits, flow, size);
     Departed {
         accepted: Accepted::Yes,
         flow: flow as u32,

@@ -101,8 +101,8 @@ size-at-requires c κs =
     let a = accepted (begun f) in
     (omega (arith, k .own .head-high, a .sizes), omega (arith, k .own .head-high, k .common .settings .slots-high))
 
-cast-t36 : tie.Need-cast-t36
-cast-t36 c = search needs
+cast-t34 : tie.Need-cast-t34
+cast-t34 c = search needs
 
 departed-requires : tie.Need-departed-requires
 departed-requires c κs =
@@ -140,8 +140,8 @@ at-size c = c .before .before .before .before .before .before .before .before .b
 abbrev at-else : tie.After-size-at → tie.Else1
 at-else c = c .before .before .before
 
-cast-t33 : tie.Need-cast-t33
-cast-t33 c =
+cast-t31 : tie.Need-cast-t31
+cast-t31 c =
     let h = at-choose (at-flow (at-else (at-size c))) .choose .ensures .1 in omega arith
 
 taken-requires : tie.Need-taken-requires
@@ -199,12 +199,12 @@ serve-spec =
     mul-handle
     shared-slice-read-handle
     size-at-requires
-    cast-t36
+    cast-t34
     departed-requires
     set-flow-requires
     write-freed-requires
     charge-requires
-    cast-t33
+    cast-t31
     taken-requires
     same-length-2
     returns-2)
