@@ -1,4 +1,4 @@
-// The calls, of a record that is known to be well formed, or is tested.
+// The calls, on a record that is well formed.
 use crate::checking::check_arrival;
 use crate::checking::check_departure;
 use crate::checking::check_tick;
@@ -17,8 +17,9 @@ use units::Bytes;
 use units::Micros;
 ghost use mathlib.Core.Path.{_≡_};
 ghost use mathlib.Core.Bool.{true};
+ghost use Rattle.fq_state.specs.State.{countsOf};
 ghost use Rattle.fq_state.specs.WellFormed.{wellFormed};
-ghost use Rattle.fq_state.specs.Words.{stateOf};
+ghost use Rattle.fq_state.specs.Words.{flowsOf, stateOf};
 ghost use Rattle.fq.specs.Answer.{acceptedAnswer, arrivalAnswer, departed, flowIn, handleIn, sizeIn, ticked};
 ghost use Rattle.fq.specs.Arrival.{arrival, arrivedHandles, arrivedSizes};
 ghost use Rattle.fq.specs.Departure.{departedSizes, departure};
@@ -39,9 +40,8 @@ pub fn arrival_of(
     size: Bytes,
     ecn: bool,
     u: u32,
-    known: bool,
 ) -> Arrived
-    requires { ⌜ (known ≡ true → wellFormed (stateOf common lists (now order) (now deficits) (now flows)) ≡ true) ⌝ }
+    requires { ⌜ wellFormed (stateOf common lists (now order) (now deficits) (now flows)) ≡ true ⌝ }
     ensures { λ r. ⌜ (let s = stateOf common lists (now (order .entry)) (now (deficits .entry)) (now (flows .entry)) in
         let a = arrival s (now (handles .entry)) (now (sizes .entry)) (clock .0) (now (key .entry)) (size .0) ecn u in
         (arrivalAnswer (r .answer) ≡ a .answer)
@@ -51,15 +51,10 @@ pub fn arrival_of(
 {
     let checked = check_arrival(
         common,
-        lists,
-        order,
-        deficits,
-        flows,
         handles.len() as u64,
         sizes.len() as u64,
         clock,
         size,
-        known,
     );
     match checked {
         Accepted::No(refusal) => Arrived {
@@ -85,19 +80,20 @@ pub fn arrival_of(
     }
 }
 
-// The packet that is served next leaves.
+// The packet that is served next leaves. The counts are the flows'.
 pub fn departure_of(
     common: Common,
     lists: Lists,
     order: &mut [u64; 64],
     deficits: &mut [u32; 64],
     flows: &mut [u64; 768],
+    counts: &[u32; 64],
     handles: &[u32],
     sizes: &mut [u32],
     clock: Micros,
-    known: bool,
 ) -> Departed
-    requires { ⌜ (known ≡ true → wellFormed (stateOf common lists (now order) (now deficits) (now flows)) ≡ true) ⌝ }
+    requires { ⌜ wellFormed (stateOf common lists (now order) (now deficits) (now flows)) ≡ true ⌝ }
+    requires { ⌜ now counts ≡ countsOf (flowsOf (now flows)) ⌝ }
     ensures { λ r. ⌜ (let s = stateOf common lists (now (order .entry)) (now (deficits .entry)) (now (flows .entry)) in
         let a = departure s (now (handles .entry)) (now (sizes .entry)) (clock .0) in
         (acceptedAnswer (r .accepted) (departed (r .flow) (r .handle) (r .size)) ≡ a .answer)
@@ -105,19 +101,7 @@ pub fn departure_of(
         × (stateOf (r .common) (r .lists) (now (order .exit)) (now (deficits .exit)) (now (flows .exit)) ≡ a .state)
         × (now (sizes .exit) ≡ departedSizes s (a .answer) (now (sizes .entry)))) ⌝ }
 {
-    let mut counts = [0u32; 64];
-    let checked = check_departure(
-        common,
-        lists,
-        order,
-        deficits,
-        flows,
-        &mut counts,
-        handles.len() as u64,
-        sizes.len() as u64,
-        clock,
-        known,
-    );
+    let checked = check_departure(common, handles.len() as u64, sizes.len() as u64, clock);
     match checked {
         Accepted::No(refusal) => refuse(refusal, common, lists),
         Accepted::Yes => serve(
@@ -126,7 +110,7 @@ pub fn departure_of(
             order,
             deficits,
             flows,
-            &counts,
+            counts,
             handles,
             sizes,
             clock,
@@ -142,15 +126,14 @@ pub fn tick_of(
     deficits: &[u32; 64],
     flows: &mut [u64; 768],
     clock: Micros,
-    known: bool,
 ) -> Ticked
-    requires { ⌜ (known ≡ true → wellFormed (stateOf common lists (now order) (now deficits) (now flows)) ≡ true) ⌝ }
+    requires { ⌜ wellFormed (stateOf common lists (now order) (now deficits) (now flows)) ≡ true ⌝ }
     ensures { λ r. ⌜ (let s = stateOf common lists (now (order .entry)) (now (deficits .entry)) (now (flows .entry)) in
         let a = tick s (clock .0) in
         (acceptedAnswer (r .accepted) ticked ≡ a .answer)
         × (stateOf (r .common) lists (now (order .entry)) (now (deficits .entry)) (now (flows .exit)) ≡ a .state)) ⌝ }
 {
-    let accepted = check_tick(common, lists, order, deficits, flows, clock, known);
+    let accepted = check_tick(common, clock);
     match accepted {
         Accepted::No(refusal) => Ticked {
             accepted: Accepted::No(refusal),

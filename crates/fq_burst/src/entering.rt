@@ -1,4 +1,4 @@
-// The calls over a record that is lent in its parts, as words, as in fq_capi.
+// The calls over a record that is lent in its parts, as words, as in fq_capi, and the flows' counts beside it, kept up to date.
 use crate::calling::arrival_of;
 use crate::calling::departure_of;
 use crate::calling::tick_of;
@@ -8,24 +8,39 @@ use fq_capi::encode;
 use fq_capi::numbered;
 use fq_capi::refused;
 use fq_capi::sized;
+use fq_state::flow_at;
+use hash::flow_of;
 use queue::ArrivalAnswer;
 use refusals::Accepted;
 use units::Bytes;
 use units::Micros;
 ghost use mathlib.Core.Path.{_≡_};
-ghost use mathlib.Core.Bool.{true};
-ghost use Rattle.fq_state.specs.WellFormed.{wellFormed};
+ghost use Prim.Native.Nat.{_≤_, _<_};
+ghost use lib.ListN.{set};
+ghost use Rattle.fq_state.specs.State.{countsOf, flowAt};
+ghost use Rattle.fq_state.specs.Words.{flowsOf};
 ghost use Rattle.fq.specs.Arrival.{arrival, arrivedHandles, arrivedSizes};
 ghost use Rattle.fq.specs.Departure.{departedSizes, departure};
 ghost use Rattle.fq.specs.Tick.{tick};
 ghost use Rattle.fq_capi.specs.Codes.{codeOf, commonAfter, deficitsAfter, flowsAfter, orderAfter, packetOf};
 ghost use Rattle.fq_capi.specs.Words.{lent};
+ghost use Rattle.fq_guarantees.specs.Kept.{Sound};
+
+// Notes the count of one flow anew.
+fn note(flows: &[u64; 768], counts: &mut [u32; 64], flow: usize)
+    requires { ⌜ (flow < 64) × (flowAt (flowsOf (now flows)) flow .count ≤ 65536) ⌝ }
+    ensures { λ _. ⌜ now (counts .exit) ≡ set (now (counts .entry)) flow (flowAt (flowsOf (now (flows .entry))) flow .count) ⌝ }
+{
+    let f = flow_at(flows, flow);
+    counts[flow] = f.count as u32;
+}
 
 pub fn arrive(
     common: &mut [u64; 19],
     order: &mut [u64; 64],
     flows: &mut [u64; 768],
     deficits: &mut [u32; 64],
+    counts: &mut [u32; 64],
     handles: &mut [u32],
     sizes: &mut [u32],
     clock: u64,
@@ -34,9 +49,9 @@ pub fn arrive(
     size: u32,
     ecn: bool,
     u: u32,
-    known: bool,
 ) -> u32
-    requires { ⌜ (known ≡ true → wellFormed (lent (now common) (now order) (now deficits) (now flows)) ≡ true) ⌝ }
+    requires { ⌜ Sound (lent (now common) (now order) (now deficits) (now flows)) ⌝ }
+    requires { ⌜ now counts ≡ countsOf (flowsOf (now flows)) ⌝ }
     ensures { λ r. ⌜ (let s = lent (now (common .entry)) (now (order .entry)) (now (deficits .entry)) (now (flows .entry)) in
         let a = arrival s (now (handles .entry)) (now (sizes .entry)) clock (now (key .entry)) size ecn u in
         (r ≡ codeOf (a .answer))
@@ -46,10 +61,12 @@ pub fn arrive(
         × (now (deficits .exit) ≡ deficitsAfter a (now (deficits .entry)))
         × (now (handles .exit) ≡ arrivedHandles s (a .answer) (now (handles .entry)) handle)
         × (now (sizes .exit) ≡ arrivedSizes s (a .answer) (now (sizes .entry)) (now (key .entry)) size)) ⌝ }
+    ensures { λ _. ⌜ now (counts .exit) ≡ countsOf (flowsOf (now (flows .exit))) ⌝ }
 {
     sized(*flows);
     let c = decode(*common);
     let l = decode_lists(*common);
+    let flow = flow_of(key, c.settings.salt as u32) as usize;
     let r = arrival_of(
         c,
         l,
@@ -64,9 +81,9 @@ pub fn arrive(
         Bytes(size as u64),
         ecn,
         u,
-        known,
     );
     sized(*flows);
+    note(flows, counts, flow);
     let arrived = r.common;
     let lists = r.lists;
     let answer = r.answer;
@@ -84,13 +101,14 @@ pub fn depart(
     order: &mut [u64; 64],
     flows: &mut [u64; 768],
     deficits: &mut [u32; 64],
+    counts: &mut [u32; 64],
     handles: &[u32],
     sizes: &mut [u32],
     clock: u64,
     packet: &mut [u32; 3],
-    known: bool,
 ) -> u32
-    requires { ⌜ (known ≡ true → wellFormed (lent (now common) (now order) (now deficits) (now flows)) ≡ true) ⌝ }
+    requires { ⌜ Sound (lent (now common) (now order) (now deficits) (now flows)) ⌝ }
+    requires { ⌜ now counts ≡ countsOf (flowsOf (now flows)) ⌝ }
     ensures { λ r. ⌜ (let s = lent (now (common .entry)) (now (order .entry)) (now (deficits .entry)) (now (flows .entry)) in
         let a = departure s (now (handles .entry)) (now (sizes .entry)) clock in
         (r ≡ codeOf (a .answer))
@@ -100,6 +118,7 @@ pub fn depart(
         × (now (deficits .exit) ≡ deficitsAfter a (now (deficits .entry)))
         × (now (sizes .exit) ≡ departedSizes s (a .answer) (now (sizes .entry)))
         × (now (packet .exit) ≡ packetOf (a .answer))) ⌝ }
+    ensures { λ _. ⌜ now (counts .exit) ≡ countsOf (flowsOf (now (flows .exit))) ⌝ }
 {
     sized(*flows);
     let c = decode(*common);
@@ -110,15 +129,16 @@ pub fn depart(
         order,
         deficits,
         flows,
+        counts,
         handles,
         sizes,
         Micros(clock),
-        known,
     );
     sized(*flows);
     let left = r.common;
     let lists = r.lists;
     let flow = r.flow;
+    note(flows, counts, flow as usize);
     let handle = r.handle;
     let size = r.size;
     let accepted = r.accepted;
@@ -138,19 +158,19 @@ pub fn update(
     flows: &mut [u64; 768],
     deficits: &[u32; 64],
     clock: u64,
-    known: bool,
 ) -> u32
-    requires { ⌜ (known ≡ true → wellFormed (lent (now common) (now order) (now deficits) (now flows)) ≡ true) ⌝ }
+    requires { ⌜ Sound (lent (now common) (now order) (now deficits) (now flows)) ⌝ }
     ensures { λ r. ⌜ (let s = lent (now (common .entry)) (now (order .entry)) (now (deficits .entry)) (now (flows .entry)) in
         let a = tick s clock in
         (r ≡ codeOf (a .answer))
         × (now (common .exit) ≡ commonAfter a (now (common .entry)))
         × (now (flows .exit) ≡ flowsAfter a (now (flows .entry)))) ⌝ }
+    ensures { λ _. ⌜ countsOf (flowsOf (now (flows .exit))) ≡ countsOf (flowsOf (now (flows .entry))) ⌝ }
 {
     sized(*flows);
     let c = decode(*common);
     let l = decode_lists(*common);
-    let r = tick_of(c, l, order, deficits, flows, Micros(clock), known);
+    let r = tick_of(c, l, order, deficits, flows, Micros(clock));
     sized(*flows);
     let ticked = r.common;
     let accepted = r.accepted;

@@ -4,37 +4,43 @@ use crate::entering::depart;
 use crate::entering::update;
 use crate::numbers::clock_of;
 use crate::numbers::key_of;
+use crate::numbers::malformed;
 use crate::numbers::wide;
 use crate::numbers::word;
-use fq_capi::obikuteru_fq_well_formed_of;
+use fq_capi::decode;
+use fq_capi::decode_lists;
+use fq_state::fits;
 ghost use mathlib.Core.Path.{_≡_};
-ghost use mathlib.Core.Bool.{cond, true};
+ghost use mathlib.Core.Bool.{cond, false};
 ghost use Prim.Native.Nat.{_+_, _*_, _<_};
 ghost use lib.ListN.{length};
+ghost use Rattle.fq_state.specs.State.{countsOf};
 ghost use Rattle.fq_state.specs.WellFormed.{wellFormed};
+ghost use Rattle.fq_state.specs.Words.{flowsOf};
 ghost use Rattle.fq_capi.specs.Words.{lent};
 ghost use Rattle.fq_guarantees.specs.Kept.{Sound};
 ghost use Rattle.fq_burst.specs.Calls.{askedAt};
-ghost use Rattle.fq_burst.specs.Burst.{after, answerTo, answerWord, burst, done, fitting, held, outcome};
+ghost use Rattle.fq_burst.specs.Burst.{Lent, after, answerTo, answerWord, burst, done, fitting, held, outcome, stateIn};
 
 mod calling;
 mod checking;
 mod entering;
 mod numbers;
 
-// The call at `at`; where `known`, the record is not tested.
+// The call at `at`, on a well-formed record. The counts are the flows'.
 fn answered(
     common: &mut [u64; 19],
     order: &mut [u64; 64],
     flows: &mut [u64; 768],
     deficits: &mut [u32; 64],
+    counts: &mut [u32; 64],
     handles: &mut [u32],
     sizes: &mut [u32],
     calls: &[u32],
     at: usize,
-    known: bool,
 ) -> u64
-    requires { ⌜ (known ≡ true → wellFormed (lent (now common) (now order) (now deficits) (now flows)) ≡ true) ⌝ }
+    requires { ⌜ Sound (lent (now common) (now order) (now deficits) (now flows)) ⌝ }
+    requires { ⌜ now counts ≡ countsOf (flowsOf (now flows)) ⌝ }
     requires { ⌜ at + 9 < length (now calls) ⌝ }
     ensures { λ r. ⌜ (let q = held (now (common .entry)) (now (order .entry)) (now (flows .entry)) (now (deficits .entry))
         (now (handles .entry)) (now (sizes .entry)) in
@@ -42,6 +48,7 @@ fn answered(
         × (held (now (common .exit)) (now (order .exit)) (now (flows .exit)) (now (deficits .exit))
         (now (handles .exit)) (now (sizes .exit))
         ≡ after q (askedAt (now (calls .entry)) at))) ⌝ }
+    ensures { λ _. ⌜ now (counts .exit) ≡ countsOf (flowsOf (now (flows .exit))) ⌝ }
 {
     let clock = clock_of(calls[at], calls[at + 1]);
     let kind = calls[at + 5];
@@ -54,6 +61,7 @@ fn answered(
             order,
             flows,
             deficits,
+            counts,
             handles,
             sizes,
             clock,
@@ -62,7 +70,6 @@ fn answered(
             calls[at + 3],
             ecn,
             calls[at + 4],
-            known,
         );
         return wide(code);
     }
@@ -74,17 +81,17 @@ fn answered(
             order,
             flows,
             deficits,
+            counts,
             handles,
             sizes,
             clock,
             &mut packet,
-            known,
         );
         return word(code, packet[0], packet[2], packet[1]);
     }
     let ticks = kind == 3;
     if ticks {
-        return wide(update(common, order, flows, deficits, clock, known));
+        return wide(update(common, order, flows, deficits, clock));
     }
     120
 }
@@ -94,19 +101,20 @@ fn whole(order: [u64; 64], deficits: [u32; 64])
     ensures { λ _. ⌜ (length order ≡ 64) × (length deficits ≡ 64) ⌝ }
 {}
 
-// All calls; where `known`, the record is well formed.
+// All calls, on a well-formed record. The counts are the flows'.
 fn all_answered(
     common: &mut [u64; 19],
     order: &mut [u64; 64],
     flows: &mut [u64; 768],
     deficits: &mut [u32; 64],
+    counts: &mut [u32; 64],
     handles: &mut [u32],
     sizes: &mut [u32],
     calls: &[u32],
     answers: &mut [u64],
-    known: bool,
 )
-    requires { ⌜ (known ≡ true → Sound (lent (now common) (now order) (now deficits) (now flows))) ⌝ }
+    requires { ⌜ Sound (lent (now common) (now order) (now deficits) (now flows)) ⌝ }
+    requires { ⌜ now counts ≡ countsOf (flowsOf (now flows)) ⌝ }
     requires { ⌜ length (now calls) ≡ 10 * length (now answers) ⌝ }
     ensures { λ _. ⌜ done (held (now (common .exit)) (now (order .exit)) (now (flows .exit)) (now (deficits .exit))
         (now (handles .exit)) (now (sizes .exit))) (now (answers .exit))
@@ -120,13 +128,26 @@ fn all_answered(
             order,
             flows,
             deficits,
+            counts,
             handles,
             sizes,
             calls,
             10 * i,
-            known,
         );
         answers[i] = answer;
+        i += 1;
+    }
+}
+
+// All calls, on a record that is not well formed: none changes it.
+fn all_refused(calls: &[u32], answers: &mut [u64])
+    requires { ⌜ length (now calls) ≡ 10 * length (now answers) ⌝ }
+    ensures { λ _. ⌜ ((q : Lent) → wellFormed (stateIn q) ≡ false →
+        done q (now (answers .exit)) ≡ burst q (now (calls .entry)) (now (answers .entry)) (length (now (answers .entry)))) ⌝ }
+{
+    let mut i: usize = 0;
+    while i < answers.len() {
+        answers[i] = malformed(calls[10 * i + 5]);
         i += 1;
     }
 }
@@ -155,17 +176,24 @@ pub extern "C" fn obikuteru_fq_calls_of(
         return 120;
     }
     whole(*order, *deficits);
-    let known = obikuteru_fq_well_formed_of(common, order, flows, deficits);
+    let c = decode(*common);
+    let l = decode_lists(*common);
+    let mut counts = [0u32; 64];
+    let formed = fits(c, l, order, deficits, flows, &mut counts);
+    if !formed {
+        all_refused(calls, answers);
+        return 0;
+    }
     all_answered(
         common,
         order,
         flows,
         deficits,
+        &mut counts,
         handles,
         sizes,
         calls,
         answers,
-        known,
     );
     0
 }

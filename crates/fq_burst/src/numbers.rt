@@ -1,5 +1,7 @@
 // Numbers of calls and answers.
 ghost use mathlib.Core.Path.{_≡_};
+ghost use mathlib.Core.Bool.{cond};
+ghost use lib.Dec.{ltb};
 ghost use Prim.Native.Nat.{_+_, _*_, _≤_};
 ghost use Rattle.fq_burst.specs.Calls.{keyOf};
 
@@ -43,4 +45,15 @@ pub fn key_of(a: u32, b: u32, c: u32, d: u32) -> [u8; 13]
         (c / 16_777_216 % 256) as u8,
         (d % 256) as u8,
     ]
+}
+
+// What a call of this kind on a malformed record is answered: refusal 2, or 20 where the kind is unknown.
+pub fn malformed(kind: u32) -> u64
+    ensures { λ r. ⌜ r ≡ cond (ltb kind 4) 102 120 ⌝ }
+{
+    let called = kind < 4;
+    if called {
+        return 102;
+    }
+    120
 }

@@ -1,6 +1,6 @@
 -- `answered`: by the kind of the call.
 use borrow.Author.Needs.{needs}
-use mathlib.Core.Path.{_∙_}
+use mathlib.Core.Path.{sym, _∙_}
 use denote.Ref.{now}
 use Rattle.fq_burst.proofs.Steps.{arrival-step, departure-small, departure-step, tick-step, unknown-step}
 use Rattle.fq_burst.proofs.answered.Statement.{statement}
@@ -113,13 +113,17 @@ same-length-2 c = search needs
 
 returns : tie.Need-returns
 returns c =
-    let a = c .before .before .before .before .before .before .before .before .before .before .before .before .before .before .before .before .before .before .before .before .before .before .before .before .before .before .before .before .before in
-    let t = c .before .before .before .before .before .before .before .before .before .before .before .before .before .before .before .before .before .before .before .before .before .before .before .clock-of in
-    let k = c .before .before .before .before .before .before .before .before .before .before .before .before .before .before .before .before .key-of in
-    let e = c .before .before .before .before .before .arrive .ensures in
-    arrival-step (now (a .args .common)) (now (a .args .order)) (now (a .args .flows)) (now (a .args .deficits)) (now (a .args .handles)) (now (a .args .sizes))
-    (now (a .args .calls)) (a .args .at) (t .result) (k .result) (t .ensures) (k .ensures) (c .before .before .before .before .before .before .before .before .before .before .before .before .before .before .before .before .before .before .before .before .before .if1 .taken) _ _ _ _ _ _ _
-    (c .wide .ensures ∙ e .0) (e .1) (e .2) (e .3) (e .4) (e .5) (e .6)
+    let k = c .before .before .before .before .before .before .before .before .before .before .before .before .before .before .before .before .before in
+    let f = k .before .before .before .before .before in
+    let t = f .before .before in
+    let a = t .before .before .before .before .before .before in
+    let r = c .before .before .before .before .before .arrive .ensures in
+    let e = r .0 in (
+      arrival-step (now (a .args .common)) (now (a .args .order)) (now (a .args .flows)) (now (a .args .deficits)) (now (a .args .handles)) (now (a .args .sizes))
+      (now (a .args .calls)) (a .args .at) (t .clock-of .result) (k .key-of .result) (t .clock-of .ensures) (k .key-of .ensures) (f .if1 .taken) _ _ _ _ _ _ _
+      (c .wide .ensures ∙ e .0) (e .1) (e .2) (e .3) (e .4) (e .5) (e .6),
+      r .1,
+    )
 
 depart-requires : tie.Need-depart-requires
 depart-requires c κs = search needs
@@ -135,12 +139,11 @@ array-read-word-3 c = search needs
 
 word-requires : tie.Need-word-requires
 word-requires c κs =
-    let a = c .before .before .before .before .before .before .before .before .before .before .before .before .before .before .before .before .before .before .before in
+    let t = c .before .before .before .before .before .before .before .before .before .before .before .before .before .before in
+    let a = t .before .before .before .before .before .before in
     let small =
-    departure-small (now (a .args .common)) (now (a .args .order)) (now (a .args .flows)) (now (a .args .deficits)) (now (a .args .handles)) (now (a .args .sizes))
-    (c .before .before .before .before .before .before .before .before .before .before .before .before .before .clock-of .result) in
-    let e = c .before .before .depart .ensures in
-    (rw (e .0) (small .0), rw (e .6) (small .1), rw (e .6) (small .2))
+    departure-small (now (a .args .common)) (now (a .args .order)) (now (a .args .flows)) (now (a .args .deficits)) (now (a .args .handles)) (now (a .args .sizes)) (t .clock-of .result) in
+    let e = c .before .before .depart .ensures .0 in (rw (e .0) (small .0), rw (e .6) (small .1), rw (e .6) (small .2))
 
 same-length-3 : tie.Need-same-length-3
 same-length-3 c = search needs
@@ -150,12 +153,16 @@ same-length-4 c = search needs
 
 returns-2 : tie.Need-returns-2
 returns-2 c =
-    let a = c .before .before .before .before .before .before .before .before .before .before .before .before .before .before .before .before .before .before .before .before in
-    let t = c .before .before .before .before .before .before .before .before .before .before .before .before .before .before .clock-of in
-    let e = c .before .before .before .depart .ensures in
-    departure-step (now (a .args .common)) (now (a .args .order)) (now (a .args .flows)) (now (a .args .deficits)) (now (a .args .handles)) (now (a .args .sizes))
-    (now (a .args .calls)) (a .args .at) (t .result) (t .ensures) (c .before .before .before .before .before .before .before .before .before .before .before .before .if1 .left) (c .before .before .before .before .before .before .before .before .before .before .before .if2 .taken) _ _ _ _ _ _
-    (rw (e .0, e .6) at (c .word .ensures)) (e .1) (e .2) (e .3) (e .4) (e .5)
+    let f = c .before .before .before .before .before .before .before .before .before .before .before .before in
+    let t = f .before .before .before in
+    let a = t .before .before .before .before .before .before in
+    let r = c .before .before .before .depart .ensures in
+    let e = r .0 in (
+      departure-step (now (a .args .common)) (now (a .args .order)) (now (a .args .flows)) (now (a .args .deficits)) (now (a .args .handles)) (now (a .args .sizes))
+      (now (a .args .calls)) (a .args .at) (t .clock-of .result) (t .clock-of .ensures) (f .before .if1 .left) (f .if2 .taken) _ _ _ _ _ _
+      (rw (e .0, e .6) at (c .word .ensures)) (e .1) (e .2) (e .3) (e .4) (e .5),
+      r .1,
+    )
 
 update-requires : tie.Need-update-requires
 update-requires c κs = search needs
@@ -165,18 +172,24 @@ wide-requires-2 c κs = search needs
 
 returns-3 : tie.Need-returns-3
 returns-3 c =
-    let a = c .before .before .before .before .before .before .before .before .before .before .before .before .before .before .before .before in
-    let t = c .before .before .before .before .before .before .before .before .before .before .clock-of in
-    let e = c .before .update .ensures in
-    tick-step (now (a .args .common)) (now (a .args .order)) (now (a .args .flows)) (now (a .args .deficits)) (now (a .args .handles)) (now (a .args .sizes))
-    (now (a .args .calls)) (a .args .at) (t .result) (t .ensures) (c .before .before .before .before .before .before .before .before .if1 .left) (c .before .before .before .before .before .before .before .if2 .left) (c .before .before .before .before .before .before .if3 .taken) _ _ _
-    (c .wide2 .ensures ∙ e .0) (e .1) (e .2)
+    let f = c .before .before .before .before .before .before in
+    let t = f .before .before .before .before in
+    let a = t .before .before .before .before .before .before in
+    let r = c .before .update .ensures in
+    let e = r .0 in (
+      tick-step (now (a .args .common)) (now (a .args .order)) (now (a .args .flows)) (now (a .args .deficits)) (now (a .args .handles)) (now (a .args .sizes))
+      (now (a .args .calls)) (a .args .at) (t .clock-of .result) (t .clock-of .ensures) (f .before .before .if1 .left) (f .before .if2 .left) (f .if3 .taken) _ _ _
+      (c .wide2 .ensures ∙ e .0) (e .1) (e .2),
+      a .pre .1 .0 ∙ sym (r .1),
+    )
 
 returns-4 : tie.Need-returns-4
 returns-4 c =
-    let a = c .before .before .before .before .before .before .before .before .before .before in
-    unknown-step (now (a .args .common)) (now (a .args .order)) (now (a .args .flows)) (now (a .args .deficits)) (now (a .args .handles)) (now (a .args .sizes))
-    (now (a .args .calls)) (a .args .at) (c .before .before .if1 .left) (c .before .if2 .left) (c .if3 .left)
+    let a = c .before .before .before .before .before .before .before .before .before .before in (
+      unknown-step (now (a .args .common)) (now (a .args .order)) (now (a .args .flows)) (now (a .args .deficits)) (now (a .args .handles)) (now (a .args .sizes))
+      (now (a .args .calls)) (a .args .at) (c .before .before .if1 .left) (c .before .if2 .left) (c .if3 .left),
+      a .pre .1 .0,
+    )
 
 pub answered-spec : {M : Type 1} → statement M
 answered-spec =

@@ -1,4 +1,4 @@
--- `obikuteru_fq_calls_of`: where the lengths fit, all calls, of a record that is known where its test holds.
+-- `obikuteru_fq_calls_of`: where the lengths fit, all calls, on a record that is well formed or is not.
 use borrow.Author.Needs.{needs}
 use mathlib.Core.Path.{_≡_, refl, sym, _∙_}
 use mathlib.Core.Bool.{true}
@@ -10,7 +10,9 @@ use lib.ListN.{length}
 use denote.Ref.{now}
 use borrow.Author.Tests.{eqb-true, not-false, not-true}
 use Rattle.laws.proofs.Tests.{and-left, and-right}
+use Rattle.fq_state.specs.WellFormed.{wellFormed}
 use Rattle.fq_state.proofs.Words.{length-flows}
+use Rattle.fq_capi.specs.Words.{lent}
 use Rattle.fq_burst.specs.Burst.{fitting}
 use Rattle.fq_burst.proofs.obikuteru_fq_calls_of.Statement.{statement}
 use Rattle.fq_burst.proofs.obikuteru_fq_calls_of.Tie as tie
@@ -33,24 +35,50 @@ returns c =
 whole-requires : tie.Need-whole-requires
 whole-requires c κs = search needs
 
-obikuteru-fq-well-formed-of-requires : tie.Need-obikuteru-fq-well-formed-of-requires
-obikuteru-fq-well-formed-of-requires c κs = search needs
+decode-requires : tie.Need-decode-requires
+decode-requires c κs = search needs
 
-all-answered-requires : tie.Need-all-answered-requires
-all-answered-requires c κs =
-    let w = c .before .before .before .before .before .before .before .before .before .before .before .before .whole .ensures in
-    let tested = c .before .before .before .before .before .before .before .obikuteru-fq-well-formed-of .ensures in (
-      λ e. record {
-        flows-long = length-flows 64 (now (c .before .before .before .before .before .before .before .before .before .before .before .before .before .before .before .before .before .before .before .before .args .flows));
-        order-long = w .0;
-        deficits-long = w .1;
-        formed = sym tested ∙ e;
-      },
-      ten (c .before .before .before .before .before .before .before .before .before .before .before .before .before .before .before),
-    )
+decode-lists-requires : tie.Need-decode-lists-requires
+decode-lists-requires c κs = search needs
+
+fits-requires : tie.Need-fits-requires
+fits-requires c κs = search needs
+
+-- past the test of the record
+abbrev begun : tie.After-fits2 → tie.Start
+begun c = c .before .before .before .before .before .before .before .before .before .before .before .before .before .before .before .before .before
+
+tested : (c : tie.After-fits2) →
+    let a = begun c .args in c .fits2 .result ≡ wellFormed (lent (a .common .now) (a .order .now) (a .deficits .now) (a .flows .now))
+tested c =
+    let l = c .before .before .before .before .before in rw (← (l .before .before .decode .ensures), ← (l .decode-lists .ensures)) (c .fits2 .ensures .0)
+
+all-refused-requires : tie.Need-all-refused-requires
+all-refused-requires c κs = ten (c .before .before .before .before .before .before .before .before .before .before .before .before .before .before)
 
 same-length : tie.Need-same-length
 same-length c = search needs
+
+returns-2 : tie.Need-returns-2
+returns-2 c =
+    let e = c .before .before .before .before in
+    let t = e .before in
+    rw (fit (t .before .before .before .before .before .before .before .before .before .before .before .before)) (refl, c .before .before .all-refused .ensures _ (sym (tested t) ∙ not-true _ (e .if2 .taken)))
+
+all-answered-requires : tie.Need-all-answered-requires
+all-answered-requires c κs =
+    let e = c .before .before .before .before .before .before .before .before in
+    let t = e .before in
+    let w = t .before .before .before .before .before .before .before .before .before .whole .ensures in
+    let formed = not-false _ (e .if2 .left) in (
+      record {
+        flows-long = length-flows 64 (begun t .args .flows .now);
+        order-long = w .0;
+        deficits-long = w .1;
+        formed = sym (tested t) ∙ formed;
+      },
+      (t .fits2 .ensures .1 formed, ten (t .before .before .before .before .before .before .before .before .before .before .before .before)),
+    )
 
 same-length-2 : tie.Need-same-length-2
 same-length-2 c = search needs
@@ -58,8 +86,13 @@ same-length-2 c = search needs
 same-length-3 : tie.Need-same-length-3
 same-length-3 c = search needs
 
-returns-2 : tie.Need-returns-2
-returns-2 c = rw (fit (c .before .before .before .before .before .before .before .before .before .before .before .before .before .before .before .before .before .before .before .before .before .before)) (refl, c .before .before .before .before .before .before .all-answered .ensures)
+same-length-4 : tie.Need-same-length-4
+same-length-4 c = search needs
+
+returns-3 : tie.Need-returns-3
+returns-3 c =
+    rw (fit (c .before .before .before .before .before .before .before .before .before .before .before .before .before .before .before .before .before .before .before .before .before .before .before .before .before .before .before .before))
+    (refl, c .before .before .before .before .before .before .all-answered .ensures)
 
 pub obikuteru-fq-calls-of-spec : {M : Type 1} → statement M
 obikuteru-fq-calls-of-spec =
@@ -67,9 +100,14 @@ obikuteru-fq-calls-of-spec =
     (tie.spec
     returns
     whole-requires
-    obikuteru-fq-well-formed-of-requires
-    all-answered-requires
+    decode-requires
+    decode-lists-requires
+    fits-requires
+    all-refused-requires
     same-length
+    returns-2
+    all-answered-requires
     same-length-2
     same-length-3
-    returns-2)
+    same-length-4
+    returns-3)

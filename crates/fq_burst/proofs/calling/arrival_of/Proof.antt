@@ -1,9 +1,10 @@
 -- `arrival_of`: refused as the check says, else received.
 use borrow.Author.Needs.{needs}
-use mathlib.Core.Path.{ap, sym, _∙_}
+use mathlib.Core.Path.{ap, refl, sym, _∙_}
 use Rattle.refusals.specs.Numbers.{refusalIn}
 use Rattle.fq_state.specs.State.{State}
 use Rattle.fq_state.specs.Words.{stateOf}
+use Rattle.fq_state.proofs.Facts.{passes}
 use Rattle.fq.proofs.ArrivalReplies.{arrival-refused}
 use Rattle.fq_burst.proofs.calling.arrival_of.Statement.{statement}
 use Rattle.fq_burst.proofs.calling.arrival_of.Tie as tie
@@ -12,7 +13,7 @@ abbrev lent : tie.Start → State
 lent c = stateOf (c .args .common) (c .args .lists) (c .args .order .now) (c .args .deficits .now) (c .args .flows .now)
 
 check-arrival-requires : tie.Need-check-arrival-requires
-check-arrival-requires c κs = search needs
+check-arrival-requires c κs = passes (lent (c .before .before)) (c .before .before .pre) .common
 
 enum-known-checked : tie.Need-enum-known-checked
 enum-known-checked c = search needs
@@ -23,13 +24,15 @@ enum-told c = search needs
 receive-requires : tie.Need-receive-requires
 receive-requires c κs =
     let t = c .before .before .before .before .before in
-    sym (t .before .before .check-arrival .ensures) ∙ ap refusalIn (t .enum-told .given .1)
+    let k = t .before .before in
+    let s = k .before .before .before in
+    sym (k .check-arrival .ensures (lent s) refl (s .pre)) ∙ ap refusalIn (t .enum-told .given .1)
 
 returns : tie.Need-returns
 returns c =
     let k = c .before .before .before in
-    let s = k .before .before .before .before .before .before in
-    arrival-refused (lent s) _ _ _ _ _ _ _ _ _ _ (k .check-arrival .ensures) (c .before .checked .given .1)
+    let s = k .before .before .before in
+    arrival-refused (lent s) _ _ _ _ _ _ _ _ _ _ (k .check-arrival .ensures (lent s) refl (s .pre)) (c .before .checked .given .1)
 
 same-length : tie.Need-same-length
 same-length c = search needs

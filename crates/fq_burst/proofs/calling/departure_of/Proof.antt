@@ -1,6 +1,6 @@
 -- `departure_of`: refused as the check says, else served.
 use borrow.Author.Needs.{needs}
-use mathlib.Core.Path.{ap, sym, _∙_}
+use mathlib.Core.Path.{ap, refl, sym, _∙_}
 use Rattle.refusals.specs.Numbers.{refusalIn}
 use Rattle.fq_state.specs.State.{State}
 use Rattle.fq_state.specs.Words.{stateOf}
@@ -25,17 +25,18 @@ enum-told c = search needs
 
 serve-requires : tie.Need-serve-requires
 serve-requires c κs =
-    let t = c .before .before .before .before .before in
+    let t = c .before .before .before .before in
     let k = t .before .before in
+    let s = k .before .before .before in
     let none = ap refusalIn (t .enum-told .given .1) in
-    (sym (k .check-departure .ensures .0) ∙ none, k .check-departure .ensures .1 none)
+    (sym (k .check-departure .ensures (lent s) refl (s .pre .0)) ∙ none, s .pre .1)
 
 returns : tie.Need-returns
 returns c =
     let n = c .before .before in
     let k = n .before .before in
-    let s = k .before .before .before .before .before .before .before in
-    rw (c .refuse .ensures) (departure-refused (lent s) _ _ _ _ _ (k .check-departure .ensures .0) (n .checked .given .1))
+    let s = k .before .before .before in
+    rw (c .refuse .ensures) (departure-refused (lent s) _ _ _ _ _ (k .check-departure .ensures (lent s) refl (s .pre .0)) (n .checked .given .1))
 
 same-length : tie.Need-same-length
 same-length c = search needs

@@ -1,9 +1,17 @@
--- `arrive`: the reply's number and words, and the tables as the call left them.
+-- `arrive`: the reply's number and words, the tables as the call left them, and the counts.
 use mathlib.Core.Path.{refl, ap, sym, _∙_}
+use native.Mathlib.Omega.{arith}
+use denote.Ref.{now}
+use Rattle.fq_state.specs.State.{State}
+use Rattle.fq_state.specs.Words.{stateOf}
+use Rattle.fq_state.proofs.Facts.{common-fits, passes}
 use Rattle.fq.specs.Answer.{arrivalAnswer}
 use Rattle.fq_capi.proofs.Kept.{arrival-kept}
 use Rattle.fq_capi.proofs.Returned.{accepted, not-accepted}
+use Rattle.fq_guarantees.specs.Calls as calls
+use Rattle.fq_guarantees.specs.Kept.{Sound}
 use borrow.Author.Needs.{needs}
+use Rattle.fq_burst.proofs.Noting.{arrival-noted, count-low}
 use Rattle.fq_burst.proofs.entering.arrive.Statement.{statement}
 use Rattle.fq_burst.proofs.entering.arrive.Tie as tie
 
@@ -16,14 +24,42 @@ decode-requires c κs = search needs
 decode-lists-requires : tie.Need-decode-lists-requires
 decode-lists-requires c κs = search needs
 
+-- the record as it is lent
+abbrev given : tie.After-decode-lists → State
+given c =
+    let a = c .before .before .before .before .before .before .before .before .args in
+    stateOf (c .before .before .decode .result) (c .decode-lists .result) (a .order .now) (a .deficits .now) (a .flows .now)
+
+sound : (c : tie.After-decode-lists) → Sound (given c)
+sound c = rw (c .before .before .decode .ensures, c .decode-lists .ensures) (c .before .before .before .before .before .before .before .before .pre .0)
+
+cast-flow-of : tie.Need-cast-flow-of
+cast-flow-of c =
+    let l = c .before in
+    let k = common-fits (l .before .before .decode .result) (passes (given l) (sound l .formed) .common) in omega (arith, k .settings .salt-high)
+
+flow-of-requires : tie.Need-flow-of-requires
+flow-of-requires c κs = search needs
+
+cast-flow : tie.Need-cast-flow
+cast-flow c = search needs
+
 arrival-of-requires : tie.Need-arrival-of-requires
-arrival-of-requires c κs =
-    let l = c .before .before .before .before .before in
-    let d = l .before .before in
-    rw (d .decode .ensures, l .decode-lists .ensures) (d .before .before .before .before .before .before .pre)
+arrival-of-requires c κs = sound (c .before .before .before .before .before .before .before) .formed
 
 sized-requires-2 : tie.Need-sized-requires-2
 sized-requires-2 c κs = search needs
+
+note-requires : tie.Need-note-requires
+note-requires c κs =
+    let k = c .before .before .before .before .before .before .before .before in
+    let f = k .before .before .before .before .before .before in
+    let l = f .before .before in
+    let a = l .before .before .before .before .before .before .before .before .args in
+    let call = calls.arrive (a .handles .now) (a .sizes .now) (a .clock) (now (a .key)) (a .handle) (a .size) (a .ecn) (a .u) in (
+      f .flow-of .ensures .1,
+      rw (ap (λ (s : State). s .flows) (k .arrival-of .ensures .1)) (count-low (given l) call (sound l) (f .flow-of .result) (f .flow-of .ensures .1)),
+    )
 
 enum-known-answer : tie.Need-enum-known-answer
 enum-known-answer c = search needs
@@ -48,20 +84,26 @@ same-length-2 c = search needs
 
 returns : tie.Need-returns
 returns c =
-    let z = c .before .before .before .before .before .before in
+    let n = c .before .before .before .before .before .before in
+    let z = n .before .before .before in
     let k = z .before .before .before .before .before .before in
-    let l = k .before .before .before .before .before .before in
+    let f = k .before .before .before .before .before .before in
+    let l = f .before .before in
     let d = l .before .before in
     let y = d .before .before in
-    let a = y .before .before .before .before .args in
+    let start = y .before .before .before .before in
+    let a = start .args in
     let e = k .arrival-of .ensures in
-    let given = sym (e .0) ∙ ap arrivalAnswer (c .before .before .answer .given .1) in
-    let same = arrival-kept _ _ _ _ _ _ _ _ _ given in
+    let given' = sym (e .0) ∙ ap arrivalAnswer (c .before .before .answer .given .1) in
+    let same = arrival-kept _ _ _ _ _ _ _ _ _ given' in
     let g =
     not-accepted _ _ _ _ (a .common .now) (a .order .now) (a .deficits .now) (a .flows .now) _ _ _
-    (z .sized2 .ensures) (e .1) _ _ (y .sized .ensures) _ given same (c .refused .ensures) in
+    (z .sized2 .ensures) (e .1) _ _ (y .sized .ensures) _ given' same (c .refused .ensures) in
+    let counts =
+    arrival-noted (given l) (sound l) _ _ _ _ (start .pre .1) (n .note .ensures) _ _ _ _ (a .handle) _ _ _ (f .flow-of .ensures .0)
+    (ap (λ (s : State). s .flows) (e .1)) in
     rw (← (d .decode .ensures), ← (l .decode-lists .ensures))
-    (g .code-is, g .common-is, g .order-is, g .flows-are, g .deficits-are, e .2, e .3)
+    ((g .code-is, g .common-is, g .order-is, g .flows-are, g .deficits-are, e .2, e .3), counts)
 
 same-length-3 : tie.Need-same-length-3
 same-length-3 c = search needs
@@ -71,19 +113,25 @@ same-length-4 c = search needs
 
 returns-2 : tie.Need-returns-2
 returns-2 c =
-    let n = c .before in
-    let z = n .before .before .before .before .before .before .before in
+    let w = c .before in
+    let n = c .before .before .before .before .before .before .before .before in
+    let z = n .before .before .before in
     let k = z .before .before .before .before .before .before in
-    let l = k .before .before .before .before .before .before in
+    let f = k .before .before .before .before .before .before in
+    let l = f .before .before in
     let d = l .before .before in
-    let a = d .before .before .before .before .before .before .args in
+    let start = d .before .before .before .before .before .before in
+    let a = start .args in
     let e = k .arrival-of .ensures in
-    let told = sym (e .0) ∙ ap arrivalAnswer (n .before .before .before .answer2 .given .1) in
+    let told = sym (e .0) ∙ ap arrivalAnswer (w .before .before .before .answer2 .given .1) in
     let g =
     accepted _ _ _ _ (a .common .now) (a .order .now) (a .deficits .now) (a .flows .now) _ _ _
-    (z .sized2 .ensures) (e .1) _ _ told refl (c .numbered .ensures) (n .encode .ensures) in
+    (z .sized2 .ensures) (e .1) _ _ told refl (c .numbered .ensures) (w .encode .ensures) in
+    let counts =
+    arrival-noted (given l) (sound l) _ _ _ _ (start .pre .1) (n .note .ensures) _ _ _ _ (a .handle) _ _ _ (f .flow-of .ensures .0)
+    (ap (λ (s : State). s .flows) (e .1)) in
     rw (← (d .decode .ensures), ← (l .decode-lists .ensures))
-    (g .code-is, g .common-is, g .order-is, g .flows-are, g .deficits-are, e .2, e .3)
+    ((g .code-is, g .common-is, g .order-is, g .flows-are, g .deficits-are, e .2, e .3), counts)
 
 pub arrive-spec : {M : Type 1} → statement M
 arrive-spec =
@@ -92,8 +140,12 @@ arrive-spec =
     sized-requires
     decode-requires
     decode-lists-requires
+    cast-flow-of
+    flow-of-requires
+    cast-flow
     arrival-of-requires
     sized-requires-2
+    note-requires
     enum-known-answer
     refused-requires
     enum-known-answer-2

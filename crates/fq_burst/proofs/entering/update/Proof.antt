@@ -1,9 +1,11 @@
--- `update`: the reply's number and words.
-use mathlib.Core.Path.{refl, sym, _∙_}
+-- `update`: the reply's number and words; the counts stay.
+use mathlib.Core.Path.{refl, ap, sym, _∙_}
+use Rattle.fq_state.specs.State.{State, countsOf}
 use Rattle.fq.specs.Answer.{ticked}
 use Rattle.fq_capi.proofs.Kept.{tick-kept}
 use Rattle.fq_capi.proofs.Returned.{accepted, not-accepted, told-no, told-yes}
 use borrow.Author.Needs.{needs}
+use Rattle.fq_burst.proofs.Noting.{tick-counts}
 use Rattle.fq_burst.proofs.entering.update.Statement.{statement}
 use Rattle.fq_burst.proofs.entering.update.Tie as tie
 
@@ -20,7 +22,7 @@ tick-of-requires : tie.Need-tick-of-requires
 tick-of-requires c κs =
     let l = c .before in
     let d = l .before .before in
-    rw (d .decode .ensures, l .decode-lists .ensures) (d .before .before .before .before .pre)
+    rw (d .decode .ensures, l .decode-lists .ensures) (d .before .before .before .before .pre .formed)
 
 sized-requires-2 : tie.Need-sized-requires-2
 sized-requires-2 c κs = search needs
@@ -51,7 +53,8 @@ returns c =
     let g =
     not-accepted _ _ _ _ (a .common .now) (a .order .now) (a .deficits .now) (a .flows .now) _ _ _
     (z .sized2 .ensures) (e .1) _ _ (y .sized .ensures) _ given same (c .refused .ensures) in
-    rw (← (d .decode .ensures), ← (l .decode-lists .ensures)) (g .code-is, g .common-is, g .flows-are)
+    rw (← (d .decode .ensures), ← (l .decode-lists .ensures))
+    ((g .code-is, g .common-is, g .flows-are), ap (λ (s : State). countsOf (s .flows)) (e .1) ∙ tick-counts _ _)
 
 returns-2 : tie.Need-returns-2
 returns-2 c =
@@ -66,7 +69,8 @@ returns-2 c =
     let g =
     accepted _ _ _ _ (a .common .now) (a .order .now) (a .deficits .now) (a .flows .now) _ _ _
     (z .sized2 .ensures) (e .1) _ _ told refl refl (c .encode .ensures) in
-    rw (← (d .decode .ensures), ← (l .decode-lists .ensures)) (g .code-is, g .common-is, g .flows-are)
+    rw (← (d .decode .ensures), ← (l .decode-lists .ensures))
+    ((g .code-is, g .common-is, g .flows-are), ap (λ (s : State). countsOf (s .flows)) (e .1) ∙ tick-counts _ _)
 
 pub update-spec : {M : Type 1} → statement M
 update-spec =
