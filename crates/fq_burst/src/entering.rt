@@ -2,6 +2,8 @@
 use crate::calling::arrival_of;
 use crate::calling::departure_of;
 use crate::calling::tick_of;
+use crate::writing::write_arrived;
+use crate::writing::write_left;
 use fq_capi::decode;
 use fq_capi::decode_lists;
 use fq_capi::encode;
@@ -90,7 +92,7 @@ pub fn arrive(
     match answer {
         ArrivalAnswer::Refused(refusal) => refused(refusal),
         ArrivalAnswer::Decided(v) => {
-            encode(common, arrived, lists);
+            write_arrived(common, arrived, lists, v);
             numbered(v)
         }
     }
@@ -146,7 +148,7 @@ pub fn depart(
     match accepted {
         Accepted::No(refusal) => refused(refusal),
         Accepted::Yes => {
-            encode(common, left, lists);
+            write_left(common, left, lists);
             0
         }
     }

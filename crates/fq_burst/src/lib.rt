@@ -26,6 +26,7 @@ mod calling;
 mod checking;
 mod entering;
 mod numbers;
+mod writing;
 
 // The call at `at`, on a well-formed record. The counts are the flows'.
 fn answered(

@@ -63,8 +63,8 @@ loop-again c =
       omega (arith, l .inv .1, c .before .before .loop-test .taken),
       length-set (l .answers) (l .i) (m .result) ∙ l .inv .1,
       λ q e.
-      let step = malformed-step q calls (10 * l .i) e in
-      one-more q calls (now (a .answers)) (l .i) q (l .answers) (m .result) q (l .inv .2 q e) (m .ensures ∙ step .0, step .1),
+          let step = malformed-step q calls (10 * l .i) e in
+          one-more q calls (now (a .answers)) (l .i) q (l .answers) (m .result) q (l .inv .2 q e) (m .ensures ∙ step .0, step .1),
     )
 
 same-length : tie.Need-same-length Inv-loop μ-loop

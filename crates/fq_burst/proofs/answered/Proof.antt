@@ -120,8 +120,8 @@ returns c =
     let r = c .before .before .before .before .before .arrive .ensures in
     let e = r .0 in (
       arrival-step (now (a .args .common)) (now (a .args .order)) (now (a .args .flows)) (now (a .args .deficits)) (now (a .args .handles)) (now (a .args .sizes))
-      (now (a .args .calls)) (a .args .at) (t .clock-of .result) (k .key-of .result) (t .clock-of .ensures) (k .key-of .ensures) (f .if1 .taken) _ _ _ _ _ _ _
-      (c .wide .ensures ∙ e .0) (e .1) (e .2) (e .3) (e .4) (e .5) (e .6),
+          (now (a .args .calls)) (a .args .at) (t .clock-of .result) (k .key-of .result) (t .clock-of .ensures) (k .key-of .ensures) (f .if1 .taken) _ _ _ _ _ _ _
+          (c .wide .ensures ∙ e .0) (e .1) (e .2) (e .3) (e .4) (e .5) (e .6),
       r .1,
     )
 
@@ -159,8 +159,8 @@ returns-2 c =
     let r = c .before .before .before .depart .ensures in
     let e = r .0 in (
       departure-step (now (a .args .common)) (now (a .args .order)) (now (a .args .flows)) (now (a .args .deficits)) (now (a .args .handles)) (now (a .args .sizes))
-      (now (a .args .calls)) (a .args .at) (t .clock-of .result) (t .clock-of .ensures) (f .before .if1 .left) (f .if2 .taken) _ _ _ _ _ _
-      (rw (e .0, e .6) at (c .word .ensures)) (e .1) (e .2) (e .3) (e .4) (e .5),
+          (now (a .args .calls)) (a .args .at) (t .clock-of .result) (t .clock-of .ensures) (f .before .if1 .left) (f .if2 .taken) _ _ _ _ _ _
+          (rw (e .0, e .6) at (c .word .ensures)) (e .1) (e .2) (e .3) (e .4) (e .5),
       r .1,
     )
 
@@ -178,8 +178,8 @@ returns-3 c =
     let r = c .before .update .ensures in
     let e = r .0 in (
       tick-step (now (a .args .common)) (now (a .args .order)) (now (a .args .flows)) (now (a .args .deficits)) (now (a .args .handles)) (now (a .args .sizes))
-      (now (a .args .calls)) (a .args .at) (t .clock-of .result) (t .clock-of .ensures) (f .before .before .if1 .left) (f .before .if2 .left) (f .if3 .taken) _ _ _
-      (c .wide2 .ensures ∙ e .0) (e .1) (e .2),
+          (now (a .args .calls)) (a .args .at) (t .clock-of .result) (t .clock-of .ensures) (f .before .before .if1 .left) (f .before .if2 .left) (f .if3 .taken) _ _ _
+          (c .wide2 .ensures ∙ e .0) (e .1) (e .2),
       a .pre .1 .0 ∙ sym (r .1),
     )
 
@@ -187,7 +187,7 @@ returns-4 : tie.Need-returns-4
 returns-4 c =
     let a = c .before .before .before .before .before .before .before .before .before .before in (
       unknown-step (now (a .args .common)) (now (a .args .order)) (now (a .args .flows)) (now (a .args .deficits)) (now (a .args .handles)) (now (a .args .sizes))
-      (now (a .args .calls)) (a .args .at) (c .before .before .if1 .left) (c .before .if2 .left) (c .if3 .left),
+          (now (a .args .calls)) (a .args .at) (c .before .before .if1 .left) (c .before .if2 .left) (c .if3 .left),
       a .pre .1 .0,
     )
 

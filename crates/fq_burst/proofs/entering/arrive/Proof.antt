@@ -12,6 +12,7 @@ use Rattle.fq_guarantees.specs.Calls as calls
 use Rattle.fq_guarantees.specs.Kept.{Sound}
 use borrow.Author.Needs.{needs}
 use Rattle.fq_burst.proofs.Noting.{arrival-noted, count-low}
+use Rattle.fq_burst.proofs.Stays.{arrival-stays}
 use Rattle.fq_burst.proofs.entering.arrive.Statement.{statement}
 use Rattle.fq_burst.proofs.entering.arrive.Tie as tie
 
@@ -70,8 +71,17 @@ refused-requires c κs = search needs
 enum-known-answer-2 : tie.Need-enum-known-answer-2
 enum-known-answer-2 c = search needs
 
-encode-requires : tie.Need-encode-requires
-encode-requires c κs = search needs
+write-arrived-requires : tie.Need-write-arrived-requires
+write-arrived-requires c κs =
+    let k = c .before .before .before .before .before .before .before .before .before .before .before .before .before .before .before in
+    let l = k .before .before .before .before .before .before .before .before in
+    let d = l .before .before in
+    let a = d .before .before .before .before .before .before .args in
+    let e = k .arrival-of .ensures in
+    let told = sym (ap arrivalAnswer (c .before .before .answer2 .given .1)) ∙ e .0 in
+    let t = arrival-stays (given l) (a .handles .now) (a .sizes .now) (a .clock) (now (a .key)) (a .handle) (a .size) (a .ecn) (a .u) _ _ (e .1) told in
+    let high = common-fits (d .decode .result) (passes (given l) (sound l .formed) .common) .total-high in
+    rw (← (d .decode .ensures), ← (l .decode-lists .ensures)) ((t .0, t .1, t .2, high), (t .3, t .4))
 
 numbered-requires : tie.Need-numbered-requires
 numbered-requires c κs = search needs
@@ -126,7 +136,7 @@ returns-2 c =
     let told = sym (e .0) ∙ ap arrivalAnswer (w .before .before .before .answer2 .given .1) in
     let g =
     accepted _ _ _ _ (a .common .now) (a .order .now) (a .deficits .now) (a .flows .now) _ _ _
-    (z .sized2 .ensures) (e .1) _ _ told refl (c .numbered .ensures) (w .encode .ensures) in
+    (z .sized2 .ensures) (e .1) _ _ told refl (c .numbered .ensures) (w .write-arrived .ensures) in
     let counts =
     arrival-noted (given l) (sound l) _ _ _ _ (start .pre .1) (n .note .ensures) _ _ _ _ (a .handle) _ _ _ (f .flow-of .ensures .0)
     (ap (λ (s : State). s .flows) (e .1)) in
@@ -149,7 +159,7 @@ arrive-spec =
     enum-known-answer
     refused-requires
     enum-known-answer-2
-    encode-requires
+    write-arrived-requires
     numbered-requires
     same-length
     same-length-2

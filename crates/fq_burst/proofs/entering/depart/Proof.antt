@@ -11,6 +11,7 @@ use Rattle.fq_guarantees.specs.Calls as calls
 use Rattle.fq_guarantees.specs.Kept.{Sound}
 use borrow.Author.Needs.{needs}
 use Rattle.fq_burst.proofs.Noting.{count-low, departed-low, departure-noted}
+use Rattle.fq_burst.proofs.Stays.{departure-stays}
 use Rattle.fq_burst.proofs.entering.depart.Statement.{statement}
 use Rattle.fq_burst.proofs.entering.depart.Tie as tie
 
@@ -60,8 +61,12 @@ refused-requires c κs = search needs
 enum-told : tie.Need-enum-told
 enum-told c = search needs
 
-encode-requires : tie.Need-encode-requires
-encode-requires c κs = search needs
+write-left-requires : tie.Need-write-left-requires
+write-left-requires c κs =
+    let k = c .before .before .before .before .before .before .before .before .before .before .before .before .before in
+    let l = k .before .before .before .before .before .before in
+    let d = l .before .before in
+    rw (← (d .decode .ensures)) (departure-stays (given l) _ _ _ _ (k .departure-of .ensures .4))
 
 same-length : tie.Need-same-length
 same-length c = search needs
@@ -106,7 +111,7 @@ returns-2 c =
     let told = sym (e .0) ∙ told-yes (r .accepted) (departed (r .flow) (r .handle) (r .size)) (t .enum-told .given .1) in
     let g =
     accepted _ _ _ _ (a .common .now) (a .order .now) (a .deficits .now) (a .flows .now) _ _ _
-    (z .sized2 .ensures) (e .4) _ _ told refl refl (c .encode .ensures) in
+    (z .sized2 .ensures) (e .4) _ _ told refl refl (c .write-left .ensures) in
     let counts =
     departure-noted (given l) (sound l) _ _ _ _ (start .pre .1) (n .note .ensures) _ _ _ (e .1) (ap (λ (s : State). s .flows) (e .4)) in
     rw (← (d .decode .ensures), ← (l .decode-lists .ensures))
@@ -126,7 +131,7 @@ depart-spec =
     enum-known-accepted
     refused-requires
     enum-told
-    encode-requires
+    write-left-requires
     same-length
     returns
     same-length-2
