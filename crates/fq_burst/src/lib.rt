@@ -185,8 +185,10 @@ pub extern "C" fn obikuteru_fq_calls_of(
         all_refused(calls, answers);
         return 0;
     }
+    // A copy, which can stand in registers.
+    let mut words = *common;
     all_answered(
-        common,
+        &mut words,
         order,
         flows,
         deficits,
@@ -196,5 +198,6 @@ pub extern "C" fn obikuteru_fq_calls_of(
         calls,
         answers,
     );
+    *common = words;
     0
 }

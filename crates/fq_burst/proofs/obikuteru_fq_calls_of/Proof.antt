@@ -67,7 +67,7 @@ returns-2 c =
 
 all-answered-requires : tie.Need-all-answered-requires
 all-answered-requires c κs =
-    let e = c .before .before .before .before .before .before .before .before in
+    let e = c .before .before .before .before .before .before .before .before .before in
     let t = e .before in
     let w = t .before .before .before .before .before .before .before .before .before .whole .ensures in
     let formed = not-false _ (e .if2 .left) in (
@@ -91,7 +91,7 @@ same-length-4 c = search needs
 
 returns-3 : tie.Need-returns-3
 returns-3 c =
-    rw (fit (c .before .before .before .before .before .before .before .before .before .before .before .before .before .before .before .before .before .before .before .before .before .before .before .before .before .before .before .before))
+    rw (fit (c .before .before .before .before .before .before .before .before .before .before .before .before .before .before .before .before .before .before .before .before .before .before .before .before .before .before .before .before .before))
     (refl, c .before .before .before .before .before .before .all-answered .ensures)
 
 pub obikuteru-fq-calls-of-spec : {M : Type 1} → statement M
