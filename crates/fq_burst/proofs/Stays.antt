@@ -17,8 +17,9 @@ use Rattle.fq_state.specs.declared.Common.{Common}
 use Rattle.fq.specs.Answer.{Reply, verdict}
 use Rattle.fq.specs.Arrival.{arrival, arrivedCommon, arrivedSchedule}
 use Rattle.fq.specs.Departure.{departedCommon, departure}
+use Rattle.fq.specs.Tick.{tick}
 use Rattle.fq_capi.specs.Words.{commonOf, commonWords, listsOf}
-use Rattle.fq_guarantees.specs.Calls.{arrive, depart}
+use Rattle.fq_guarantees.specs.Calls.{arrive, depart, update}
 use Rattle.fq_guarantees.proofs.Replies.{by-number}
 
 -- ── an arrival ──
@@ -120,5 +121,21 @@ unfolding departedCommon
 departure-stays s handles sizes clock t e =
     rw e
     (by-number (λ (r : Reply). DepartureStays s (r .state)) s (depart handles sizes clock)
+    (λ n some given. (refl, refl, refl, refl))
+    (λ none. (refl, refl, refl, refl)))
+
+-- ── a tick ──
+
+abbrev pub TickStays : (s t : State) → Type 0
+TickStays s t =
+    (t .common .settings ≡ s .common .settings)
+    × (t .common .backlog ≡ s .common .backlog)
+    × (t .common .store ≡ s .common .store)
+    × (t .common .verdicts ≡ s .common .verdicts)
+
+pub tick-stays : (s : State) (clock : ℕ) (t : State) → t ≡ tick s clock .state → TickStays s t
+tick-stays s clock t e =
+    rw e
+    (by-number (λ (r : Reply). TickStays s (r .state)) s (update clock)
     (λ n some given. (refl, refl, refl, refl))
     (λ none. (refl, refl, refl, refl)))

@@ -4,9 +4,9 @@ use crate::calling::departure_of;
 use crate::calling::tick_of;
 use crate::writing::write_arrived;
 use crate::writing::write_left;
+use crate::writing::write_ticked;
 use fq_capi::decode;
 use fq_capi::decode_lists;
-use fq_capi::encode;
 use fq_capi::numbered;
 use fq_capi::refused;
 use fq_capi::sized;
@@ -179,7 +179,7 @@ pub fn update(
     match accepted {
         Accepted::No(refusal) => refused(refusal),
         Accepted::Yes => {
-            encode(common, ticked, l);
+            write_ticked(common, ticked);
             0
         }
     }

@@ -70,3 +70,33 @@ pub fn write_left(w: &mut [u64; 19], c: Common, l: Lists)
         l.listed as u64,
     ];
 }
+
+// After a tick.
+pub fn write_ticked(w: &mut [u64; 19], c: Common)
+    requires { ⌜ (c .settings ≡ commonOf (now w) .settings) × (c .backlog ≡ commonOf (now w) .backlog)
+        × (c .store ≡ commonOf (now w) .store) × (c .verdicts ≡ commonOf (now w) .verdicts) ⌝ }
+    ensures { λ _. ⌜ now (w .exit) ≡ commonWords c (listsOf (now (w .entry))) ⌝ }
+{
+    let before = *w;
+    *w = [
+        before[0],
+        before[1],
+        before[2],
+        before[3],
+        c.clock.0,
+        c.last.0,
+        before[6],
+        before[7],
+        before[8],
+        before[9],
+        before[10],
+        before[11],
+        before[12],
+        before[13],
+        before[14],
+        before[15],
+        before[16],
+        before[17],
+        before[18],
+    ];
+}

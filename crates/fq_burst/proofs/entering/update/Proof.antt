@@ -2,10 +2,12 @@
 use mathlib.Core.Path.{refl, ap, sym, _∙_}
 use Rattle.fq_state.specs.State.{State, countsOf}
 use Rattle.fq.specs.Answer.{ticked}
+use Rattle.fq_capi.specs.Words.{commonWords}
 use Rattle.fq_capi.proofs.Kept.{tick-kept}
 use Rattle.fq_capi.proofs.Returned.{accepted, not-accepted, told-no, told-yes}
 use borrow.Author.Needs.{needs}
 use Rattle.fq_burst.proofs.Noting.{tick-counts}
+use Rattle.fq_burst.proofs.Stays.{tick-stays}
 use Rattle.fq_burst.proofs.entering.update.Statement.{statement}
 use Rattle.fq_burst.proofs.entering.update.Tie as tie
 
@@ -36,8 +38,12 @@ refused-requires c κs = search needs
 enum-told : tie.Need-enum-told
 enum-told c = search needs
 
-encode-requires : tie.Need-encode-requires
-encode-requires c κs = search needs
+write-ticked-requires : tie.Need-write-ticked-requires
+write-ticked-requires c κs =
+    let k = c .before .before .before .before .before .before in
+    let l = k .before .before in
+    let d = l .before .before in
+    rw (← (d .decode .ensures)) (tick-stays _ _ _ (k .tick-of .ensures .1))
 
 returns : tie.Need-returns
 returns c =
@@ -68,7 +74,7 @@ returns-2 c =
     let told = sym (e .0) ∙ told-yes (k .tick-of .result .accepted) ticked (t .enum-told .given .1) in
     let g =
     accepted _ _ _ _ (a .common .now) (a .order .now) (a .deficits .now) (a .flows .now) _ _ _
-    (z .sized2 .ensures) (e .1) _ _ told refl refl (c .encode .ensures) in
+    (z .sized2 .ensures) (e .1) _ _ told refl refl (c .write-ticked .ensures ∙ ap (commonWords _) (sym (l .decode-lists .ensures))) in
     rw (← (d .decode .ensures), ← (l .decode-lists .ensures))
     ((g .code-is, g .common-is, g .flows-are), ap (λ (s : State). countsOf (s .flows)) (e .1) ∙ tick-counts _ _)
 
@@ -84,6 +90,6 @@ update-spec =
     enum-known-accepted
     refused-requires
     enum-told
-    encode-requires
+    write-ticked-requires
     returns
     returns-2)
