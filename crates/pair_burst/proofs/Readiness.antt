@@ -25,8 +25,8 @@ use Rattle.pair.specs.Arrival.{arrival, arrivalRefusal, arrivedState, arrivedSt
 use Rattle.pair.specs.Departure.{departedState, departure, departureRefusal}
 use Rattle.pair.specs.Tick.{tick, tickRefusal, tickedState}
 use Rattle.pair_isolation.specs.Handed.{Queues, replyTo, returned}
-use Rattle.pair_capi.specs.Codes.{ownAfter, sharedAfter}
-use Rattle.pair_capi.specs.Words.{flagWord, isSet, pairOf, sharedOf, sharedWords, stateOf, stateWords}
+use Rattle.pair_words.specs.Codes.{ownAfter, sharedAfter}
+use Rattle.pair_words.specs.Words.{flagWord, isSet, pairOf, sharedOf, sharedWords, stateOf, stateWords}
 use Rattle.pair_burst.specs.Calls.{Call, asked, unknown}
 use Rattle.pair_burst.specs.Burst.{Lent, Ready, after, lent, otherWords, ownWords, queuesOf, sharedLeft}
 use Rattle.pair_burst.proofs.Formed.{reply-formed}

@@ -20,8 +20,8 @@ use Rattle.pair.specs.Answer.{unlessRefused}
 use Rattle.pair.specs.Arrival.{arrival, arrivalRefusal, arrivedHandles, arrivedSizes}
 use Rattle.pair.specs.Departure.{departedSizes, departure, departureRefusal, departureRefusals, headHandle, headSize}
 use Rattle.pair.specs.Tick.{tick, tickRefusal}
-use Rattle.pair_capi.specs.Codes.{codeOf, ownAfter, sharedAfter}
-use Rattle.pair_capi.specs.Words.{pairOf, whichOf}
+use Rattle.pair_words.specs.Codes.{codeOf, ownAfter, sharedAfter}
+use Rattle.pair_words.specs.Words.{pairOf, whichOf}
 use Rattle.pair_burst.specs.Calls.{Call, asked, callAt, clockAt, requestAt}
 use Rattle.pair_burst.specs.Burst.{Lent, after, answerTo, answerWord, burst, done, lent}
 

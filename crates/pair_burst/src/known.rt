@@ -28,8 +28,8 @@ ghost use Rattle.pair_state.specs.declared.Which.the-variants.{Intercom};
 ghost use Rattle.pair.specs.Arrival.{arrival, arrivedHandles, arrivedSizes};
 ghost use Rattle.pair.specs.Departure.{departedSizes, departure};
 ghost use Rattle.pair.specs.Tick.{tick};
-ghost use Rattle.pair_capi.specs.Codes.{codeOf, ownAfter, packetOf, sharedAfter};
-ghost use Rattle.pair_capi.specs.Words.{pairOf, sharedOf, stateOf, whichOf};
+ghost use Rattle.pair_words.specs.Codes.{codeOf, ownAfter, packetOf, sharedAfter};
+ghost use Rattle.pair_words.specs.Words.{pairOf, sharedOf, stateOf, whichOf};
 ghost use Rattle.pair_burst.specs.Calls.{asked, callAt, requestAt};
 ghost use Rattle.pair_burst.specs.Burst.{Ready, after, answerTo, answerWord, lent};
 

@@ -13,7 +13,7 @@ ghost use Rattle.pair_state.specs.declared.Which.the-variants.{Intercom};
 ghost use Rattle.pie.specs.Constants.{mostVerdicts};
 ghost use Rattle.pie.specs.Verdicts.{total};
 ghost use Rattle.pair_state.specs.WellFormed.{wellFormed};
-ghost use Rattle.pair_capi.specs.Words.{pairOf, sharedOf, stateOf};
+ghost use Rattle.pair_words.specs.Words.{pairOf, sharedOf, stateOf};
 ghost use Rattle.pair_burst.specs.Burst.{Ready, burst, done, fits, lent, outcome};
 
 mod arriving;

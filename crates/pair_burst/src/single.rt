@@ -9,7 +9,7 @@ ghost use mathlib.Core.Path.{_≡_};
 ghost use Prim.Native.Nat.{_+_, _<_};
 ghost use lib.ListN.{length};
 ghost use Rattle.pair_state.specs.declared.Which.the-variants.{Intercom};
-ghost use Rattle.pair_capi.specs.Words.{whichOf};
+ghost use Rattle.pair_words.specs.Words.{whichOf};
 ghost use Rattle.pair_burst.specs.Calls.{asked, callAt, requestAt};
 ghost use Rattle.pair_burst.specs.Burst.{after, answerTo, answerWord, lent};
 

@@ -1,49 +1,33 @@
-// The pair's C interface (include/obikuteru.h): the calls on two queues over records that are lent as words. Each entry decodes the words,
-// makes the one call of the pair and writes back what changed. An entry that names a queue is lent that queue's words first and the other
-// one's second; the header picks them.
-use crate::words::encode;
-use crate::words::encode_shared;
-use pair::arrival;
-use pair::departure;
-use pair::tick;
+// The pair's C interface (include/obikuteru.h): the calls on two queues over records that are lent as words. Each entry tests the records
+// and the tables and leaves the rest to the call on records that are well formed. An entry that names a queue is lent that queue's words
+// first and the other one's second; the header picks them.
 use pair_state::Settings;
 use pair_state::Setup;
 use pair_state::fresh;
-use pair_state::well_formed;
-use queue::ArrivalAnswer;
+use pair_steps::arrive;
+use pair_steps::depart;
+use pair_steps::tick;
+use pair_words::encode;
+use pair_words::encode_shared;
+use pair_words::records_fit;
+use pair_words::refused;
+use pie::LARGEST;
+use pie::LATEST;
 use refusals::Accepted;
-use refusals::Refusal;
+use refusals::counts_full;
 use units::Bytes;
 use units::Micros;
 ghost use mathlib.Core.Path.{_≡_};
 ghost use mathlib.Core.Bool.{false};
 ghost use mathlib.Core.List.{[]};
 ghost use Prim.Native.Nat.{_+_};
-ghost use Rattle.refusals.specs.Numbers.{numberOf};
 ghost use Rattle.pair_state.specs.Fresh.{fresh, setupOf};
 ghost use Rattle.pair_state.specs.WellFormed.{wellFormed};
 ghost use Rattle.pair.specs.Arrival.{arrival, arrivedHandles, arrivedSizes};
 ghost use Rattle.pair.specs.Departure.{departedSizes, departure};
 ghost use Rattle.pair.specs.Tick.{tick};
-ghost use Rattle.pair_capi.specs.Codes.{codeOf, ownAfter, packetOf, sharedAfter};
-ghost use Rattle.pair_capi.specs.Words.{pairOf, sharedWords, stateWords, whichOf};
-
-mod words;
-
-pub use words::decode;
-pub use words::decode_shared;
-pub use words::named;
-pub use words::write_arrival;
-pub use words::write_departure;
-pub use words::write_store;
-pub use words::write_tick;
-
-// The number of a refusal, with 100.
-pub fn refused(r: Refusal) -> u32
-    ensures { λ n. ⌜ n ≡ 100 + numberOf r ⌝ }
-{
-    100 + r.number()
-}
+ghost use Rattle.pair_words.specs.Codes.{codeOf, ownAfter, packetOf, sharedAfter};
+ghost use Rattle.pair_words.specs.Words.{pairOf, sharedWords, stateWords, whichOf};
 
 // What `obikuteru_pair_fresh` is told of a queue.
 fn setup(target: u64, buffer: u64, reserve: u64, clock: u64) -> Setup
@@ -117,33 +101,31 @@ pub extern "C" fn obikuteru_pair_arrival_of(
         × (now (handles .exit) ≡ arrivedHandles p (a .answer) (now (handles .entry)) handle)
         × (now (sizes .exit) ≡ arrivedSizes p (whichOf second) (a .answer) (now (sizes .entry)) size)) ⌝ }
 {
-    let which = named(second);
-    let s = decode_shared(*shared);
-    let o = decode(*own);
-    let t = decode(*other);
-    let r = arrival(
-        which,
-        s,
-        o,
-        t,
-        handles,
-        sizes,
-        Micros(clock),
-        handle,
-        Bytes(size as u64),
-        ecn,
-        u,
-    );
-    let store = r.store;
-    let state = r.state;
-    let answer = r.answer;
-    match answer {
-        ArrivalAnswer::Refused(refusal) => refused(refusal),
-        ArrivalAnswer::Decided(v) => {
-            write_store(shared, store);
-            write_arrival(own, state, v)
-        }
+    let fit = records_fit(shared, own, other, second);
+    if !fit {
+        return 102;
     }
+    let slots = shared[0];
+    let tables_fit = (handles.len() as u64 == slots) & (sizes.len() as u64 == slots);
+    if !tables_fit {
+        return 103;
+    }
+    let full = counts_full([own[16], own[17], own[18], own[19], own[20]]);
+    if full {
+        let wrong_clock = (clock < own[2]) | (LATEST < clock);
+        if wrong_clock {
+            return 104;
+        }
+        let bytes = size as u64;
+        let wrong_size = (bytes == 0) | (LARGEST < bytes);
+        if wrong_size {
+            return 107;
+        }
+        return 108;
+    }
+    arrive(
+        shared, own, other, second, handles, sizes, clock, handle, size, ecn, u,
+    )
 }
 
 #[no_mangle]
@@ -165,25 +147,17 @@ pub extern "C" fn obikuteru_pair_departure_of(
         × (now (sizes .exit) ≡ departedSizes p (whichOf second) (a .answer) (now (sizes .entry)))
         × (now (packet .exit) ≡ packetOf (a .answer))) ⌝ }
 {
-    let which = named(second);
-    let s = decode_shared(*shared);
-    let o = decode(*own);
-    let t = decode(*other);
-    let r = departure(which, s, o, t, handles, sizes, Micros(clock));
-    let handle = r.handle;
-    let size = r.size;
-    let store = r.store;
-    let state = r.state;
-    let accepted = r.accepted;
-    *packet = [handle, size];
-    match accepted {
-        Accepted::No(refusal) => refused(refusal),
-        Accepted::Yes => {
-            write_store(shared, store);
-            write_departure(own, state);
-            0
-        }
+    *packet = [0, 0];
+    let fit = records_fit(shared, own, other, second);
+    if !fit {
+        return 102;
     }
+    let slots = shared[0];
+    let tables_fit = (handles.len() as u64 == slots) & (sizes.len() as u64 == slots);
+    if !tables_fit {
+        return 103;
+    }
+    depart(shared, own, other, second, handles, sizes, clock, packet)
 }
 
 #[no_mangle]
@@ -198,20 +172,11 @@ pub extern "C" fn obikuteru_pair_tick_of(
         let a = tick p (whichOf second) clock in
         (r ≡ codeOf (a .answer)) × (now (own .exit) ≡ ownAfter (whichOf second) a (now (own .entry)))) ⌝ }
 {
-    let which = named(second);
-    let s = decode_shared(*shared);
-    let o = decode(*own);
-    let t = decode(*other);
-    let r = tick(which, s, o, t, Micros(clock));
-    let state = r.state;
-    let accepted = r.accepted;
-    match accepted {
-        Accepted::No(refusal) => refused(refusal),
-        Accepted::Yes => {
-            write_tick(own, state);
-            0
-        }
+    let fit = records_fit(shared, own, other, second);
+    if !fit {
+        return 102;
     }
+    tick(shared, own, other, second, clock)
 }
 
 #[no_mangle]
@@ -222,8 +187,5 @@ pub extern "C" fn obikuteru_pair_well_formed(
 ) -> bool
     ensures { λ r. ⌜ r ≡ wellFormed (pairOf false (now (shared .entry)) (now (intercom .entry)) (now (passengers .entry))) ⌝ }
 {
-    let s = decode_shared(*shared);
-    let o = decode(*intercom);
-    let t = decode(*passengers);
-    well_formed(s, o, t)
+    records_fit(shared, intercom, passengers, false)
 }

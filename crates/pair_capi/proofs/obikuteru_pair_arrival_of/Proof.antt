@@ -1,45 +1,135 @@
--- `obikuteru_pair_arrival_of`: the reply's number and words, and the tables as the pair left them.
-use Rattle.pair_capi.proofs.Entries.{arrival-decided, arrival-refused, count-low}
+-- `obikuteru_pair_arrival_of`: refusals 2 and 3, and where the counts are full 4, 7 and 8; the rest is the call's on well-formed records.
 use borrow.Author.Needs.{needs}
+use borrow.Author.Tests.{eqb-false, eqb-true, not-false, not-true}
+use mathlib.Core.Path.{_≡_, refl, sym, _∙_}
+use mathlib.Core.Bool.{Bool, true, _&&_}
+use mathlib.Core.Logic.{_≢_}
+use Prim.Native.Nat.{_≤_}
+use native.Mathlib.Omega.{arith}
+use lib.Dec.{eqb}
+use lib.ListN.{length}
+use denote.Ref.{now}
+use Rattle.laws.proofs.Tests.{and-left, and-right}
+use Rattle.pie.specs.Constants.{mostVerdicts}
+use Rattle.pie.specs.Verdicts.{total}
+use Rattle.pair_state.specs.WellFormed.{wellFormed}
+use Rattle.pair_state.proofs.Symmetry.{well-formed-seen}
+use Rattle.pair.proofs.WhenAccepted.{known}
+use Rattle.pair_words.specs.Words.{pairOf, sharedOf, stateOf, whichOf}
+use Rattle.pair_steps.proofs.Replies.{arrival-counts, arrival-late, arrival-malformed, arrival-size, arrival-tables}
 use Rattle.pair_capi.proofs.obikuteru_pair_arrival_of.Statement.{statement}
 use Rattle.pair_capi.proofs.obikuteru_pair_arrival_of.Tie as tie
 
-named-requires : tie.Need-named-requires
-named-requires c κs = search needs
+abbrev at-start : tie.Else1 → tie.Start
+at-start c = c .before .before .before .before .before .before
 
-decode-shared-requires : tie.Need-decode-shared-requires
-decode-shared-requires c κs = search needs
+formed : (c : tie.Else1) →
+    let a = at-start c .args in wellFormed (pairOf (a .second) (now (a .shared)) (now (a .own)) (now (a .other))) ≡ true
+formed c = sym (c .before .records-fit .ensures .0) ∙ not-false _ (c .if1 .left)
 
-decode-requires : tie.Need-decode-requires
-decode-requires c κs = search needs
+counted : (c : tie.Else1) → total (stateOf (now (at-start c .args .own)) .verdicts) ≤ mostVerdicts
+counted c =
+    let a = at-start c .args in
+    let w = whichOf (a .second) in
+    let s = sharedOf (now (a .shared)) in
+    let o = stateOf (now (a .own)) in
+    let t = stateOf (now (a .other)) in
+    known w s o t (sym (well-formed-seen w s o t) ∙ formed c) .own .total-high
 
-decode-requires-2 : tie.Need-decode-requires-2
-decode-requires-2 c κs = search needs
+records-fit-requires : tie.Need-records-fit-requires
+records-fit-requires c κs = search needs
 
-arrival-requires : tie.Need-arrival-requires
-arrival-requires c κs = search needs
+returns : tie.Need-returns
+returns c =
+    let a = c .before .before .before .before .before .before .args in
+    let p = pairOf (a .second) (now (a .shared)) (now (a .own)) (now (a .other)) in
+    rw (arrival-malformed p (whichOf (a .second)) (now (a .handles)) (now (a .sizes)) (a .clock) (a .size) (a .ecn) (a .u)
+    (sym (c .before .records-fit .ensures .0) ∙ not-true _ (c .if1 .taken))) (refl, refl, refl, refl, refl)
 
-enum-known-answer : tie.Need-enum-known-answer
-enum-known-answer c = search needs
+element-copy-out-slots : tie.Need-element-copy-out-slots
+element-copy-out-slots c = search needs
 
-refused-requires : tie.Need-refused-requires
-refused-requires c κs = search needs
+returns-2 : tie.Need-returns-2
+unfolding sharedOf
+returns-2 c =
+    let e1 = c .before .before in
+    let a = at-start e1 .args in
+    rw (arrival-tables (whichOf (a .second)) (sharedOf (now (a .shared))) (stateOf (now (a .own))) (stateOf (now (a .other)))
+    (now (a .handles)) (now (a .sizes)) (a .clock) (a .size) (a .ecn) (a .u) (formed e1) (c .if2 .taken)) (refl, refl, refl, refl, refl)
 
-enum-known-answer-2 : tie.Need-enum-known-answer-2
-enum-known-answer-2 c = search needs
+element-copy-out-t24 : tie.Need-element-copy-out-t24
+element-copy-out-t24 c = search needs
 
-write-store-requires : tie.Need-write-store-requires
-write-store-requires c κs = search needs
+element-copy-out-t27 : tie.Need-element-copy-out-t27
+element-copy-out-t27 c = search needs
 
-write-arrival-requires : tie.Need-write-arrival-requires
-write-arrival-requires c κs =
-    let k = c .before .before .before .before .before .before .before .before .before .before .before .before in
-    let t = k .before .before .before in
-    let o = t .before .before in
-    let s = o .before .before in
-    let n = s .before .before in
-    count-low (n .named .result) (s .decode-shared .result) (o .decode .result) (t .decode2 .result) _ _ _ _ _ _ _ _ _
-    (k .arrival .ensures .0) _ (c .before .before .before .before .answer2 .given .1) _ (o .decode .ensures .0)
+element-copy-out-t35 : tie.Need-element-copy-out-t35
+element-copy-out-t35 c = search needs
+
+element-copy-out-t38 : tie.Need-element-copy-out-t38
+element-copy-out-t38 c = search needs
+
+element-copy-out-t41 : tie.Need-element-copy-out-t41
+element-copy-out-t41 c = search needs
+
+counts-full-requires : tie.Need-counts-full-requires
+unfolding stateOf
+counts-full-requires c κs = counted (c .before .before .before .before .before .before .before)
+
+element-copy-out-wrong-clock : tie.Need-element-copy-out-wrong-clock
+element-copy-out-wrong-clock c = search needs
+
+-- past the test of the tables' lengths
+abbrev at-tables : tie.Then3 → tie.Else2
+at-tables c = c .before .before .before .before .before .before .before
+
+returns-3 : tie.Need-returns-3
+unfolding sharedOf stateOf
+returns-3 c =
+    let e2 = at-tables (c .before .before) in
+    let e1 = e2 .before .before in
+    let a = at-start e1 .args in
+    rw (arrival-late (sharedOf (now (a .shared))) (stateOf (now (a .own))) (stateOf (now (a .other))) (now (a .handles)) (now (a .sizes))
+    (a .clock) (a .size) (a .ecn) (a .u) (e2 .if2 .left) (whichOf (a .second)) (formed e1) (c .if4 .taken)) (refl, refl, refl, refl, refl)
+
+returns-4 : tie.Need-returns-4
+unfolding sharedOf stateOf
+returns-4 c =
+    let e4 = c .before in
+    let e2 = at-tables (e4 .before .before) in
+    let e1 = e2 .before .before in
+    let a = at-start e1 .args in
+    rw (arrival-size (sharedOf (now (a .shared))) (stateOf (now (a .own))) (stateOf (now (a .other))) (now (a .handles)) (now (a .sizes))
+    (a .clock) (a .size) (a .ecn) (a .u) (e2 .if2 .left) (whichOf (a .second)) (formed e1) (e4 .if4 .left) (c .if5 .taken))
+    (refl, refl, refl, refl, refl)
+
+returns-5 : tie.Need-returns-5
+unfolding sharedOf stateOf
+returns-5 c =
+    let e4 = c .before in
+    let t3 = e4 .before .before in
+    let e2 = at-tables t3 in
+    let e1 = e2 .before .before in
+    let a = at-start e1 .args in
+    rw (arrival-counts (sharedOf (now (a .shared))) (stateOf (now (a .own))) (stateOf (now (a .other))) (now (a .handles)) (now (a .sizes))
+    (a .clock) (a .size) (a .ecn) (a .u) (e2 .if2 .left) (whichOf (a .second)) (formed e1) (e4 .if4 .left) (c .if5 .left)
+    (sym (t3 .before .counts-full .ensures) ∙ t3 .if3 .taken)) (refl, refl, refl, refl, refl)
+
+arrive-requires : tie.Need-arrive-requires
+unfolding sharedOf stateOf
+arrive-requires c κs =
+    let e3 = c .before .before .before .before in
+    let e2 = e3 .before .before .before .before .before .before .before in
+    let e1 = e2 .before .before in
+    let a = at-start e1 .args in
+    let slots = sharedOf (now (a .shared)) .slots in
+    let h = eqb (length (now (a .handles))) slots in
+    let z = eqb (length (now (a .sizes))) slots in
+    let fit : h && z ≡ true = not-false (h && z) (e2 .if2 .left) in
+    let n = total (stateOf (now (a .own)) .verdicts) in
+    let low : n ≤ mostVerdicts = counted e1 in
+    let room : n ≢ mostVerdicts = eqb-false n mostVerdicts (sym (e3 .before .counts-full .ensures) ∙ e3 .if3 .left) in
+    (formed e1, ((eqb-true _ _ (and-left h z fit), eqb-true _ _ (and-right h z fit)), omega (arith, low, room)))
 
 same-length : tie.Need-same-length
 same-length c = search needs
@@ -47,59 +137,28 @@ same-length c = search needs
 same-length-2 : tie.Need-same-length-2
 same-length-2 c = search needs
 
-returns : tie.Need-returns
-returns c =
-    let k = c .before .before .before .before .before .before .before .before .before .before in
-    let t = k .before .before .before in
-    let o = t .before .before in
-    let s = o .before .before in
-    let n = s .before .before in
-    let a = k .arrival .ensures in
-    let g =
-    arrival-refused (n .named .result) (s .decode-shared .result) (o .decode .result) (t .decode2 .result) _ _ _ _ _ _ _ _ _ (a .0) _ _ _ _
-    (c .before .before .answer .given .1) (c .refused .ensures) in
-    rw (← (n .named .ensures), ← (s .decode-shared .ensures .0), ← (o .decode .ensures .0), ← (t .decode2 .ensures .0))
-    (g .0, g .1, g .2, a .1 .0, a .1 .1)
-
-same-length-3 : tie.Need-same-length-3
-same-length-3 c = search needs
-
-same-length-4 : tie.Need-same-length-4
-same-length-4 c = search needs
-
-returns-2 : tie.Need-returns-2
-returns-2 c =
-    let k = c .before .before .before .before .before .before .before .before .before .before .before .before .before in
-    let t = k .before .before .before in
-    let o = t .before .before in
-    let s = o .before .before in
-    let n = s .before .before in
-    let a = k .arrival .ensures in
-    let w = c .write-arrival .ensures in
-    let g =
-    arrival-decided (n .named .result) (s .decode-shared .result) (o .decode .result) (t .decode2 .result) _ _ _ _ _ _ _ _ _ (a .0) _
-    (c .before .before .before .before .before .answer2 .given .1) _ _ _ _ _ (s .decode-shared .ensures) (o .decode .ensures)
-    (w .0) (c .before .before .write-store .ensures) (w .1) in
-    rw (← (n .named .ensures), ← (s .decode-shared .ensures .0), ← (o .decode .ensures .0), ← (t .decode2 .ensures .0))
-    (g .0, g .1, g .2, a .1 .0, a .1 .1)
+returns-6 : tie.Need-returns-6
+returns-6 c = search needs
 
 pub obikuteru-pair-arrival-of-spec : {M : Type 1} → statement M
 obikuteru-pair-arrival-of-spec =
     tie.close
     (tie.spec
-    named-requires
-    decode-shared-requires
-    decode-requires
-    decode-requires-2
-    arrival-requires
-    enum-known-answer
-    refused-requires
-    enum-known-answer-2
-    write-store-requires
-    write-arrival-requires
+    records-fit-requires
+    returns
+    element-copy-out-slots
+    returns-2
+    element-copy-out-t24
+    element-copy-out-t27
+    element-copy-out-t35
+    element-copy-out-t38
+    element-copy-out-t41
+    counts-full-requires
+    element-copy-out-wrong-clock
+    returns-3
+    returns-4
+    returns-5
+    arrive-requires
     same-length
     same-length-2
-    returns
-    same-length-3
-    same-length-4
-    returns-2)
+    returns-6)

@@ -1,89 +1,72 @@
--- `obikuteru_pair_departure_of`: the reply's number, words and packet, and the sizes as the pair left them.
-use Rattle.queue.specs.Answer.{departed}
-use Rattle.pair_capi.proofs.Entries.{departure-accepted, not-accepted}
+-- `obikuteru_pair_departure_of`: refusals 2 and 3; all others, and the packet, are the call's on well-formed records.
 use borrow.Author.Needs.{needs}
+use borrow.Author.Tests.{eqb-true, not-false, not-true}
+use mathlib.Core.Path.{_≡_, refl, sym, _∙_}
+use mathlib.Core.Bool.{true, _&&_}
+use lib.Dec.{eqb}
+use lib.ListN.{length}
+use denote.Ref.{now}
+use Rattle.laws.proofs.Tests.{and-left, and-right}
+use Rattle.pair_state.specs.WellFormed.{wellFormed}
+use Rattle.pair_words.specs.Words.{pairOf, sharedOf, stateOf, whichOf}
+use Rattle.pair_steps.proofs.Replies.{departure-malformed, departure-tables}
 use Rattle.pair_capi.proofs.obikuteru_pair_departure_of.Statement.{statement}
 use Rattle.pair_capi.proofs.obikuteru_pair_departure_of.Tie as tie
 
-named-requires : tie.Need-named-requires
-named-requires c κs = search needs
+abbrev at-start : tie.Else1 → tie.Start
+at-start c = c .before .before .before .before .before .before .before
 
-decode-shared-requires : tie.Need-decode-shared-requires
-decode-shared-requires c κs = search needs
+formed : (c : tie.Else1) →
+    let a = at-start c .args in wellFormed (pairOf (a .second) (now (a .shared)) (now (a .own)) (now (a .other))) ≡ true
+formed c = sym (c .before .records-fit .ensures .0) ∙ not-false _ (c .if1 .left)
 
-decode-requires : tie.Need-decode-requires
-decode-requires c κs = search needs
+records-fit-requires : tie.Need-records-fit-requires
+records-fit-requires c κs = search needs
 
-decode-requires-2 : tie.Need-decode-requires-2
-decode-requires-2 c κs = search needs
+returns : tie.Need-returns
+returns c =
+    let a = c .before .before .before .before .before .before .before .args in
+    let p = pairOf (a .second) (now (a .shared)) (now (a .own)) (now (a .other)) in
+    rw (departure-malformed p (whichOf (a .second)) (now (a .handles)) (now (a .sizes)) (a .clock)
+    (sym (c .before .records-fit .ensures .0) ∙ not-true _ (c .if1 .taken))) (refl, refl, refl, refl, refl)
 
-departure-requires : tie.Need-departure-requires
-departure-requires c κs = search needs
+element-copy-out-slots : tie.Need-element-copy-out-slots
+element-copy-out-slots c = search needs
 
-enum-known-accepted : tie.Need-enum-known-accepted
-enum-known-accepted c = search needs
+returns-2 : tie.Need-returns-2
+unfolding sharedOf
+returns-2 c =
+    let e1 = c .before .before in
+    let a = at-start e1 .args in
+    rw (departure-tables (whichOf (a .second)) (sharedOf (now (a .shared))) (stateOf (now (a .own))) (stateOf (now (a .other)))
+    (now (a .handles)) (now (a .sizes)) (a .clock) (formed e1) (c .if2 .taken)) (refl, refl, refl, refl, refl)
 
-refused-requires : tie.Need-refused-requires
-refused-requires c κs = search needs
-
-enum-told : tie.Need-enum-told
-enum-told c = search needs
-
-write-store-requires : tie.Need-write-store-requires
-write-store-requires c κs = search needs
-
-write-departure-requires : tie.Need-write-departure-requires
-write-departure-requires c κs = search needs
+depart-requires : tie.Need-depart-requires
+unfolding sharedOf
+depart-requires c κs =
+    let e2 = c .before .before .before .before in
+    let e1 = e2 .before .before in
+    let a = at-start e1 .args in
+    let slots = sharedOf (now (a .shared)) .slots in
+    let h = eqb (length (now (a .handles))) slots in
+    let z = eqb (length (now (a .sizes))) slots in
+    let fit : h && z ≡ true = not-false (h && z) (e2 .if2 .left) in
+    (formed e1, (eqb-true _ _ (and-left h z fit), eqb-true _ _ (and-right h z fit)))
 
 same-length : tie.Need-same-length
 same-length c = search needs
 
-returns : tie.Need-returns
-returns c =
-    let k = c .before .before .before .before .before .before .before .before .before in
-    let t = k .before .before in
-    let o = t .before .before in
-    let s = o .before .before in
-    let n = s .before .before in
-    let d = k .departure .ensures in
-    let g =
-    not-accepted (n .named .result) _ _ _ (departed _ _) _ _ _ _ (d .0) (c .before .before .accepted .given .1) (c .refused .ensures) in
-    rw (← (n .named .ensures), ← (s .decode-shared .ensures .0), ← (o .decode .ensures .0), ← (t .decode2 .ensures .0))
-    (g .0, g .1, g .2, d .1 .2, rw (d .1 .0, d .1 .1))
-
-same-length-2 : tie.Need-same-length-2
-same-length-2 c = search needs
-
-returns-2 : tie.Need-returns-2
-returns-2 c =
-    let k = c .before .before .before .before .before .before .before .before .before .before .before in
-    let t = k .before .before in
-    let o = t .before .before in
-    let s = o .before .before in
-    let n = s .before .before in
-    let d = k .departure .ensures in
-    let g =
-    departure-accepted (n .named .result) (s .decode-shared .result) (o .decode .result) (t .decode2 .result) _ _ _ _ _ _ _ _ (d .0)
-    (c .before .before .before .before .enum-told .given .1) _ _ _ _ (s .decode-shared .ensures) (o .decode .ensures)
-    (c .before .before .write-store .ensures) (c .write-departure .ensures) in
-    rw (← (n .named .ensures), ← (s .decode-shared .ensures .0), ← (o .decode .ensures .0), ← (t .decode2 .ensures .0))
-    (g .0, g .1, g .2, d .1 .2, rw (d .1 .0, d .1 .1))
+returns-3 : tie.Need-returns-3
+returns-3 c = search needs
 
 pub obikuteru-pair-departure-of-spec : {M : Type 1} → statement M
 obikuteru-pair-departure-of-spec =
     tie.close
     (tie.spec
-    named-requires
-    decode-shared-requires
-    decode-requires
-    decode-requires-2
-    departure-requires
-    enum-known-accepted
-    refused-requires
-    enum-told
-    write-store-requires
-    write-departure-requires
-    same-length
+    records-fit-requires
     returns
-    same-length-2
-    returns-2)
+    element-copy-out-slots
+    returns-2
+    depart-requires
+    same-length
+    returns-3)

@@ -3,7 +3,7 @@ use Rattle.pair_burst.proofs.single.of_queue.Statement.{statement}
 use Rattle.pair_burst.proofs.single.of_queue.Tie as tie
 use mathlib.Core.Path.{_∙_}
 use denote.Ref.{now}
-use Rattle.pair_capi.specs.Words.{pairOf, whichOf}
+use Rattle.pair_words.specs.Words.{pairOf, whichOf}
 use Rattle.pair_burst.proofs.Steps.{arrival-step, departure-small, departure-step, tick-step}
 
 mul-clock-of : tie.Need-mul-clock-of

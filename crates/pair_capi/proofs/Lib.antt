@@ -1,4 +1,0 @@
--- What the entries' proofs share.
-pub mod Written
-pub mod Accepted
-pub mod Entries

@@ -1,0 +1,5 @@
+-- What the proofs of the calls share.
+pub mod AsFirst
+pub mod Replies
+pub mod Accepted
+pub mod Entries

@@ -1,0 +1,139 @@
+-- The reply of each call, by the tests that are made in turn.
+use mathlib.Core.Path.{_≡_}
+use mathlib.Core.Bool.{Bool, true, false}
+use mathlib.Core.List.{List}
+use Prim.Native.Nat.{ℕ}
+use lib.ListN.{length}
+use borrow.Author.Tests.{eq-eqb}
+use Rattle.queue.specs.Answer.{departed, refused, ticked}
+use Rattle.refusals.specs.Tests.{sizeRefused}
+use Rattle.pair_state.specs.Answer.{Reply}
+use Rattle.store.specs.Take.{storeAfterTake}
+use Rattle.pair_state.specs.Queues.{paired, storing}
+use Rattle.pair_state.specs.WellFormed.{wellFormed}
+use Rattle.pair_state.specs.declared.Pair.{Pair}
+use Rattle.pair_state.specs.declared.Shared.{Shared}
+use Rattle.pair_state.specs.declared.State.{State}
+use Rattle.pair_state.specs.declared.Which.{Which}
+use Rattle.pair_state.specs.declared.Which.the-variants.{Intercom, Passengers}
+use Rattle.pair.specs.Arrival.{arrival, arrivalRefusal}
+use Rattle.pair.specs.Departure.{departedState, departure, departureRefusal, headHandle, headSize, headWordRefused}
+use Rattle.pair.specs.Refusals.{clockRefused, countsRefused, emptyRefused, tablesRefused, tooSoonRefused}
+use Rattle.pair.specs.Tick.{tick, tickRefusal, tickedState}
+
+-- refused by this number
+abbrev pub refusedBy : (number : ℕ) → Pair → Reply
+refusedBy number p = record { answer = refused number; pair = p }
+
+-- ── records that are not well formed ──
+
+pub tick-malformed : (p : Pair) (w : Which) (clock : ℕ) → wellFormed p ≡ false → tick p w clock ≡ refusedBy 2 p
+unfolding tick tickRefusal
+tick-malformed p w clock e = rw e
+
+module _ (p : Pair) (w : Which) (handles sizes : List ℕ) (clock : ℕ) where
+  pub departure-malformed : wellFormed p ≡ false → departure p w handles sizes clock ≡ refusedBy 2 p
+  unfolding departure departureRefusal
+  departure-malformed e = rw e
+
+  module _ (size : ℕ) (ecn : Bool) (u : ℕ) where
+    pub arrival-malformed : wellFormed p ≡ false → arrival p w handles sizes clock size ecn u ≡ refusedBy 2 p
+    unfolding arrival arrivalRefusal
+    arrival-malformed e = rw e
+
+-- ── well-formed records, and tables that fit them ──
+
+abbrev pub Formed : Which → Shared → (own other : State) → Type 0
+Formed w s o t = wellFormed (paired w s o t) ≡ true
+
+abbrev pub Fit : Shared → (handles sizes : List ℕ) → Type 0
+Fit s handles sizes = tablesRefused s (length handles) (length sizes) ≡ false
+
+pub tables-fit : (s : Shared) (handles sizes : List ℕ) → length handles ≡ s .slots → length sizes ≡ s .slots → Fit s handles sizes
+tables-fit s handles sizes h z = rw (eq-eqb (length handles) (s .slots) h, eq-eqb (length sizes) (s .slots) z)
+
+-- ── a tick ──
+
+module _ (s : Shared) (o t : State) (clock : ℕ) where
+  pub tick-late : (w : Which) → Formed w s o t → clockRefused o clock ≡ true → tick (paired w s o t) w clock ≡ refusedBy 4 (paired w s o t)
+  unfolding tick tickRefusal
+  tick-late Intercom f e = rw (f, e)
+  tick-late Passengers f e = rw (f, e)
+
+  pub tick-early : (w : Which) → Formed w s o t → clockRefused o clock ≡ false → tooSoonRefused o clock ≡ true →
+      tick (paired w s o t) w clock ≡ refusedBy 5 (paired w s o t)
+  unfolding tick tickRefusal
+  tick-early Intercom f e k = rw (f, e, k)
+  tick-early Passengers f e k = rw (f, e, k)
+
+  pub tick-made : (w : Which) → Formed w s o t → clockRefused o clock ≡ false → tooSoonRefused o clock ≡ false →
+      tick (paired w s o t) w clock ≡ record { answer = ticked; pair = paired w s (tickedState o clock) t }
+  unfolding tick tickRefusal
+  tick-made Intercom f e k = rw (f, e, k)
+  tick-made Passengers f e k = rw (f, e, k)
+
+-- ── a departure ──
+
+pub departure-tables : (w : Which) (s : Shared) (o t : State) (handles sizes : List ℕ) (clock : ℕ) → Formed w s o t →
+    tablesRefused s (length handles) (length sizes) ≡ true → departure (paired w s o t) w handles sizes clock ≡ refusedBy 3 (paired w s o t)
+unfolding departure departureRefusal
+departure-tables Intercom s o t handles sizes clock f e = rw (f, e)
+departure-tables Passengers s o t handles sizes clock f e = rw (f, e)
+
+module _ (s : Shared) (o t : State) (handles sizes : List ℕ) (clock : ℕ) (fit : Fit s handles sizes) where
+  pub departure-late : (w : Which) → Formed w s o t → clockRefused o clock ≡ true →
+      departure (paired w s o t) w handles sizes clock ≡ refusedBy 4 (paired w s o t)
+  unfolding departure departureRefusal
+  departure-late Intercom f e = rw (f, fit, e)
+  departure-late Passengers f e = rw (f, fit, e)
+
+  pub departure-empty : (w : Which) → Formed w s o t → clockRefused o clock ≡ false → emptyRefused o ≡ true →
+      departure (paired w s o t) w handles sizes clock ≡ refusedBy 6 (paired w s o t)
+  unfolding departure departureRefusal
+  departure-empty Intercom f e k = rw (f, fit, e, k)
+  departure-empty Passengers f e k = rw (f, fit, e, k)
+
+  pub departure-wrong : (w : Which) → Formed w s o t → clockRefused o clock ≡ false → emptyRefused o ≡ false →
+      headWordRefused (s .slots) o sizes ≡ true → departure (paired w s o t) w handles sizes clock ≡ refusedBy 9 (paired w s o t)
+  unfolding departure departureRefusal
+  departure-wrong Intercom f e k x = rw (f, fit, e, k, x)
+  departure-wrong Passengers f e k x = rw (f, fit, e, k, x)
+
+  pub departure-made : (w : Which) → Formed w s o t → clockRefused o clock ≡ false → emptyRefused o ≡ false →
+      headWordRefused (s .slots) o sizes ≡ false →
+      departure (paired w s o t) w handles sizes clock
+      ≡ record {
+        answer = departed (headHandle o handles) (headSize o sizes);
+        pair = paired w (storing s (storeAfterTake (s .store) (o .ends .head))) (departedState o sizes clock (headSize o sizes)) t;
+      }
+  unfolding departure departureRefusal
+  departure-made Intercom f e k x = rw (f, fit, e, k, x)
+  departure-made Passengers f e k x = rw (f, fit, e, k, x)
+
+-- ── an arrival ──
+
+pub arrival-tables : (w : Which) (s : Shared) (o t : State) (handles sizes : List ℕ) (clock size : ℕ) (ecn : Bool) (u : ℕ) →
+    Formed w s o t → tablesRefused s (length handles) (length sizes) ≡ true →
+    arrival (paired w s o t) w handles sizes clock size ecn u ≡ refusedBy 3 (paired w s o t)
+unfolding arrival arrivalRefusal
+arrival-tables Intercom s o t handles sizes clock size ecn u f e = rw (f, e)
+arrival-tables Passengers s o t handles sizes clock size ecn u f e = rw (f, e)
+
+module _ (s : Shared) (o t : State) (handles sizes : List ℕ) (clock size : ℕ) (ecn : Bool) (u : ℕ) (fit : Fit s handles sizes) where
+  pub arrival-late : (w : Which) → Formed w s o t → clockRefused o clock ≡ true →
+      arrival (paired w s o t) w handles sizes clock size ecn u ≡ refusedBy 4 (paired w s o t)
+  unfolding arrival arrivalRefusal
+  arrival-late Intercom f e = rw (f, fit, e)
+  arrival-late Passengers f e = rw (f, fit, e)
+
+  pub arrival-size : (w : Which) → Formed w s o t → clockRefused o clock ≡ false → sizeRefused size ≡ true →
+      arrival (paired w s o t) w handles sizes clock size ecn u ≡ refusedBy 7 (paired w s o t)
+  unfolding arrival arrivalRefusal
+  arrival-size Intercom f e k = rw (f, fit, e, k)
+  arrival-size Passengers f e k = rw (f, fit, e, k)
+
+  pub arrival-counts : (w : Which) → Formed w s o t → clockRefused o clock ≡ false → sizeRefused size ≡ false → countsRefused o ≡ true →
+      arrival (paired w s o t) w handles sizes clock size ecn u ≡ refusedBy 8 (paired w s o t)
+  unfolding arrival arrivalRefusal
+  arrival-counts Intercom f e k x = rw (f, fit, e, k, x)
+  arrival-counts Passengers f e k x = rw (f, fit, e, k, x)

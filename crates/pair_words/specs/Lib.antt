@@ -1,0 +1,4 @@
+-- The records of two queues as words, and an answer as a number.
+pub mod Words
+pub mod Codes
+pub mod Changed

@@ -1,0 +1,26 @@
+// The records of two queues as words that are lent (include/obikuteru.h): those that a call reads, their test, and those that it writes.
+use refusals::Refusal;
+ghost use mathlib.Core.Path.{_≡_};
+ghost use Prim.Native.Nat.{_+_};
+ghost use Rattle.refusals.specs.Numbers.{numberOf};
+
+mod testing;
+mod words;
+
+pub use testing::records_fit;
+pub use words::decode;
+pub use words::decode_shared;
+pub use words::encode;
+pub use words::encode_shared;
+pub use words::named;
+pub use words::write_arrival;
+pub use words::write_departure;
+pub use words::write_store;
+pub use words::write_tick;
+
+// The number of a refusal, with 100.
+pub fn refused(r: Refusal) -> u32
+    ensures { λ n. ⌜ n ≡ 100 + numberOf r ⌝ }
+{
+    100 + r.number()
+}
