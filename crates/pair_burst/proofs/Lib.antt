@@ -3,5 +3,4 @@ pub mod Kept
 pub mod Steps
 pub mod InTurn
 pub mod Formed
-pub mod AsFirst
 pub mod Readiness

@@ -1,22 +1,10 @@
-// A call on records that are ready for it: the words are decoded, and what changed is written back, as the single entries do.
-use crate::arriving::arrival;
-use crate::departing::departure;
+// A call on records that are ready for it.
 use crate::numbers::clock_of;
 use crate::numbers::wide;
 use crate::numbers::word;
-use crate::ticking::tick;
-use pair_capi::decode;
-use pair_capi::decode_shared;
-use pair_capi::named;
-use pair_capi::refused;
-use pair_capi::write_arrival;
-use pair_capi::write_departure;
-use pair_capi::write_store;
-use pair_capi::write_tick;
-use queue::ArrivalAnswer;
-use refusals::Accepted;
-use units::Bytes;
-use units::Micros;
+use pair_steps::arrive;
+use pair_steps::depart;
+use pair_steps::tick;
 ghost use mathlib.Core.Path.{_≡_};
 ghost use mathlib.Core.Bool.{true};
 ghost use Prim.Native.Nat.{_+_, _<_};
@@ -25,135 +13,9 @@ ghost use Rattle.pie.specs.Constants.{mostVerdicts};
 ghost use Rattle.pie.specs.Verdicts.{total};
 ghost use Rattle.pair_state.specs.WellFormed.{wellFormed};
 ghost use Rattle.pair_state.specs.declared.Which.the-variants.{Intercom};
-ghost use Rattle.pair.specs.Arrival.{arrival, arrivedHandles, arrivedSizes};
-ghost use Rattle.pair.specs.Departure.{departedSizes, departure};
-ghost use Rattle.pair.specs.Tick.{tick};
-ghost use Rattle.pair_words.specs.Codes.{codeOf, ownAfter, packetOf, sharedAfter};
 ghost use Rattle.pair_words.specs.Words.{pairOf, sharedOf, stateOf, whichOf};
 ghost use Rattle.pair_burst.specs.Calls.{asked, callAt, requestAt};
 ghost use Rattle.pair_burst.specs.Burst.{Ready, after, answerTo, answerWord, lent};
-
-fn arrival_of(
-    shared: &mut [u64; 6],
-    own: &mut [u64; 21],
-    other: &[u64; 21],
-    second: bool,
-    handles: &mut [u32],
-    sizes: &mut [u32],
-    clock: u64,
-    handle: u32,
-    size: u32,
-    ecn: bool,
-    u: u32,
-) -> u32
-    requires { ⌜ wellFormed (pairOf second (now shared) (now own) (now other)) ≡ true ⌝ }
-    requires { ⌜ (length (now handles) ≡ sharedOf (now shared) .slots) × (length (now sizes) ≡ sharedOf (now shared) .slots) ⌝ }
-    requires { ⌜ total (stateOf (now own) .verdicts) < mostVerdicts ⌝ }
-    ensures { λ r. ⌜ (let p = pairOf second (now (shared .entry)) (now (own .entry)) (now (other .entry)) in
-        let a = arrival p (whichOf second) (now (handles .entry)) (now (sizes .entry)) clock size ecn u in
-        (r ≡ codeOf (a .answer))
-        × (now (shared .exit) ≡ sharedAfter a (now (shared .entry)))
-        × (now (own .exit) ≡ ownAfter (whichOf second) a (now (own .entry)))
-        × (now (handles .exit) ≡ arrivedHandles p (a .answer) (now (handles .entry)) handle)
-        × (now (sizes .exit) ≡ arrivedSizes p (whichOf second) (a .answer) (now (sizes .entry)) size)) ⌝ }
-{
-    let which = named(second);
-    let s = decode_shared(*shared);
-    let o = decode(*own);
-    let t = decode(*other);
-    let r = arrival(
-        which,
-        s,
-        o,
-        t,
-        handles,
-        sizes,
-        Micros(clock),
-        handle,
-        Bytes(size as u64),
-        ecn,
-        u,
-    );
-    let store = r.store;
-    let state = r.state;
-    let answer = r.answer;
-    match answer {
-        ArrivalAnswer::Refused(refusal) => refused(refusal),
-        ArrivalAnswer::Decided(v) => {
-            write_store(shared, store);
-            write_arrival(own, state, v)
-        }
-    }
-}
-
-fn departure_of(
-    shared: &mut [u64; 6],
-    own: &mut [u64; 21],
-    other: &[u64; 21],
-    second: bool,
-    handles: &[u32],
-    sizes: &mut [u32],
-    clock: u64,
-    packet: &mut [u32; 2],
-) -> u32
-    requires { ⌜ wellFormed (pairOf second (now shared) (now own) (now other)) ≡ true ⌝ }
-    requires { ⌜ (length (now handles) ≡ sharedOf (now shared) .slots) × (length (now sizes) ≡ sharedOf (now shared) .slots) ⌝ }
-    ensures { λ r. ⌜ (let p = pairOf second (now (shared .entry)) (now (own .entry)) (now (other .entry)) in
-        let a = departure p (whichOf second) (now (handles .entry)) (now (sizes .entry)) clock in
-        (r ≡ codeOf (a .answer))
-        × (now (shared .exit) ≡ sharedAfter a (now (shared .entry)))
-        × (now (own .exit) ≡ ownAfter (whichOf second) a (now (own .entry)))
-        × (now (sizes .exit) ≡ departedSizes p (whichOf second) (a .answer) (now (sizes .entry)))
-        × (now (packet .exit) ≡ packetOf (a .answer))) ⌝ }
-{
-    let which = named(second);
-    let s = decode_shared(*shared);
-    let o = decode(*own);
-    let t = decode(*other);
-    let r = departure(which, s, o, t, handles, sizes, Micros(clock));
-    let handle = r.handle;
-    let size = r.size;
-    let store = r.store;
-    let state = r.state;
-    let accepted = r.accepted;
-    *packet = [handle, size];
-    match accepted {
-        Accepted::No(refusal) => refused(refusal),
-        Accepted::Yes => {
-            write_store(shared, store);
-            write_departure(own, state);
-            0
-        }
-    }
-}
-
-fn tick_of(
-    shared: &[u64; 6],
-    own: &mut [u64; 21],
-    other: &[u64; 21],
-    second: bool,
-    clock: u64,
-) -> u32
-    requires { ⌜ wellFormed (pairOf second (now shared) (now own) (now other)) ≡ true ⌝ }
-    ensures { λ r. ⌜ (let p = pairOf second (now (shared .entry)) (now (own .entry)) (now (other .entry)) in
-        let a = tick p (whichOf second) clock in
-        (r ≡ codeOf (a .answer)) × (now (own .exit) ≡ ownAfter (whichOf second) a (now (own .entry)))) ⌝ }
-{
-    let which = named(second);
-    let s = decode_shared(*shared);
-    let o = decode(*own);
-    let t = decode(*other);
-    let r = tick(which, s, o, t, Micros(clock));
-    let state = r.state;
-    let accepted = r.accepted;
-    match accepted {
-        Accepted::No(refusal) => refused(refusal),
-        Accepted::Yes => {
-            write_tick(own, state);
-            0
-        }
-    }
-}
 
 // The call at `at` on the queue whose words are `own`; `kind` tells what it asks.
 fn of_queue(
@@ -183,7 +45,7 @@ fn of_queue(
     let clock = clock_of(calls[at], calls[at + 1]);
     let arrives = kind < 2;
     if arrives {
-        let code = arrival_of(
+        let code = arrive(
             shared,
             own,
             other,
@@ -201,7 +63,7 @@ fn of_queue(
     let departs = kind == 2;
     if departs {
         let mut packet: [u32; 2] = [0, 0];
-        let code = departure_of(
+        let code = depart(
             shared,
             own,
             other,
@@ -213,7 +75,7 @@ fn of_queue(
         );
         return word(code, packet[1], packet[0]);
     }
-    wide(tick_of(shared, own, other, second, clock))
+    wide(tick(shared, own, other, second, clock))
 }
 
 // The call at `at`.

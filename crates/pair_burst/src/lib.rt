@@ -1,9 +1,9 @@
 // One entry for a list of calls on two queues: the records are tested once, and each call is answered as the single entries would.
 use crate::known::call_known;
 use crate::single::call_single;
-use pair_capi::decode;
-use pair_capi::decode_shared;
 use pair_state::well_formed;
+use pair_words::decode;
+use pair_words::decode_shared;
 use pie::MOST_VERDICTS;
 ghost use mathlib.Core.Path.{_≡_};
 ghost use mathlib.Core.Bool.{cond, false, true};
@@ -16,12 +16,9 @@ ghost use Rattle.pair_state.specs.WellFormed.{wellFormed};
 ghost use Rattle.pair_words.specs.Words.{pairOf, sharedOf, stateOf};
 ghost use Rattle.pair_burst.specs.Burst.{Ready, burst, done, fits, lent, outcome};
 
-mod arriving;
-mod departing;
 mod known;
 mod numbers;
 mod single;
-mod ticking;
 
 // Whether the counts, which sum to at most 2^48, have room for `n` arrivals.
 fn has_room(counts: [u64; 5], n: u64) -> bool

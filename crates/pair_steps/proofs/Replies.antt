@@ -1,14 +1,14 @@
 -- The reply of each call, by the tests that are made in turn.
-use mathlib.Core.Path.{_≡_}
+use mathlib.Core.Path.{_≡_, refl}
 use mathlib.Core.Bool.{Bool, true, false}
-use mathlib.Core.List.{List}
+use mathlib.Core.List.{List, [], _∷_}
 use Prim.Native.Nat.{ℕ}
 use lib.ListN.{length}
 use borrow.Author.Tests.{eq-eqb}
 use Rattle.queue.specs.Answer.{departed, refused, ticked}
 use Rattle.refusals.specs.Tests.{sizeRefused}
 use Rattle.pair_state.specs.Answer.{Reply}
-use Rattle.store.specs.Take.{storeAfterTake}
+use Rattle.store.specs.Take.{sizesAfterTake, storeAfterTake}
 use Rattle.pair_state.specs.Queues.{paired, storing}
 use Rattle.pair_state.specs.WellFormed.{wellFormed}
 use Rattle.pair_state.specs.declared.Pair.{Pair}
@@ -17,9 +17,11 @@ use Rattle.pair_state.specs.declared.State.{State}
 use Rattle.pair_state.specs.declared.Which.{Which}
 use Rattle.pair_state.specs.declared.Which.the-variants.{Intercom, Passengers}
 use Rattle.pair.specs.Arrival.{arrival, arrivalRefusal}
-use Rattle.pair.specs.Departure.{departedState, departure, departureRefusal, headHandle, headSize, headWordRefused}
+use Rattle.pair.specs.Departure.{departedSizes, departedState, departure, departureRefusal, headHandle, headSize, headWordRefused}
 use Rattle.pair.specs.Refusals.{clockRefused, countsRefused, emptyRefused, tablesRefused, tooSoonRefused}
 use Rattle.pair.specs.Tick.{tick, tickRefusal, tickedState}
+use Rattle.pair_words.specs.Codes.{codeOf, ownAfter, packetOf, sharedAfter}
+use Rattle.pair_words.specs.Words.{sharedWords, stateWords}
 
 -- refused by this number
 abbrev pub refusedBy : (number : ℕ) → Pair → Reply
@@ -109,6 +111,26 @@ module _ (s : Shared) (o t : State) (handles sizes : List ℕ) (clock : ℕ) (fi
   unfolding departure departureRefusal
   departure-made Intercom f e k x = rw (f, fit, e, k, x)
   departure-made Passengers f e k x = rw (f, fit, e, k, x)
+
+-- what is written is what the reply says
+pub departed-gives : (w : Which) (s : Shared) (o t : State) (handles sizes : List ℕ) (clock : ℕ) (sh sh' ow ow' sizes' packet : List ℕ) →
+    departure (paired w s o t) w handles sizes clock
+    ≡ record {
+      answer = departed (headHandle o handles) (headSize o sizes);
+      pair = paired w (storing s (storeAfterTake (s .store) (o .ends .head))) (departedState o sizes clock (headSize o sizes)) t;
+    } →
+    sh' ≡ sharedWords (storing s (storeAfterTake (s .store) (o .ends .head))) →
+    ow' ≡ stateWords ow (departedState o sizes clock (headSize o sizes)) →
+    sizes' ≡ sizesAfterTake sizes (o .ends .head) (s .store .freed) →
+    packet ≡ headHandle o handles ∷ headSize o sizes ∷ [] →
+    let a = departure (paired w s o t) w handles sizes clock in
+    (0 ≡ codeOf (a .answer))
+    × (sh' ≡ sharedAfter a sh)
+    × (ow' ≡ ownAfter w a ow)
+    × (sizes' ≡ departedSizes (paired w s o t) w (a .answer) sizes)
+    × (packet ≡ packetOf (a .answer))
+departed-gives Intercom s o t handles sizes clock sh sh' ow ow' sizes' packet e es eo ez ep = rw e (refl, es, eo, ez, ep)
+departed-gives Passengers s o t handles sizes clock sh sh' ow ow' sizes' packet e es eo ez ep = rw e (refl, es, eo, ez, ep)
 
 -- ── an arrival ──
 

@@ -1,14 +1,12 @@
 // A call on records that are well formed, with tables that fit them and, for an arrival, room in the counts: its other refusals are given as
 // the pair gives them.
 use crate::arriving::arrival;
-use crate::departing::departure;
 use crate::ticking::tick as tick_state;
 use pair_words::decode;
 use pair_words::decode_shared;
 use pair_words::named;
 use pair_words::refused;
 use pair_words::write_arrival;
-use pair_words::write_departure;
 use pair_words::write_store;
 use pair_words::write_tick;
 use queue::ArrivalAnswer;
@@ -23,9 +21,8 @@ ghost use Rattle.pie.specs.Constants.{mostVerdicts};
 ghost use Rattle.pie.specs.Verdicts.{total};
 ghost use Rattle.pair_state.specs.WellFormed.{wellFormed};
 ghost use Rattle.pair.specs.Arrival.{arrival, arrivedHandles, arrivedSizes};
-ghost use Rattle.pair.specs.Departure.{departedSizes, departure};
 ghost use Rattle.pair.specs.Tick.{tick};
-ghost use Rattle.pair_words.specs.Codes.{codeOf, ownAfter, packetOf, sharedAfter};
+ghost use Rattle.pair_words.specs.Codes.{codeOf, ownAfter, sharedAfter};
 ghost use Rattle.pair_words.specs.Words.{pairOf, sharedOf, stateOf, whichOf};
 
 // A packet arrives.
@@ -78,48 +75,6 @@ pub fn arrive(
         ArrivalAnswer::Decided(v) => {
             write_store(shared, store);
             write_arrival(own, state, v)
-        }
-    }
-}
-
-// The head leaves.
-pub fn depart(
-    shared: &mut [u64; 6],
-    own: &mut [u64; 21],
-    other: &[u64; 21],
-    second: bool,
-    handles: &[u32],
-    sizes: &mut [u32],
-    clock: u64,
-    packet: &mut [u32; 2],
-) -> u32
-    requires { ⌜ wellFormed (pairOf second (now shared) (now own) (now other)) ≡ true ⌝ }
-    requires { ⌜ (length (now handles) ≡ sharedOf (now shared) .slots) × (length (now sizes) ≡ sharedOf (now shared) .slots) ⌝ }
-    ensures { λ r. ⌜ (let p = pairOf second (now (shared .entry)) (now (own .entry)) (now (other .entry)) in
-        let a = departure p (whichOf second) (now (handles .entry)) (now (sizes .entry)) clock in
-        (r ≡ codeOf (a .answer))
-        × (now (shared .exit) ≡ sharedAfter a (now (shared .entry)))
-        × (now (own .exit) ≡ ownAfter (whichOf second) a (now (own .entry)))
-        × (now (sizes .exit) ≡ departedSizes p (whichOf second) (a .answer) (now (sizes .entry)))
-        × (now (packet .exit) ≡ packetOf (a .answer))) ⌝ }
-{
-    let which = named(second);
-    let s = decode_shared(*shared);
-    let o = decode(*own);
-    let t = decode(*other);
-    let r = departure(which, s, o, t, handles, sizes, Micros(clock));
-    let handle = r.handle;
-    let size = r.size;
-    let store = r.store;
-    let state = r.state;
-    let accepted = r.accepted;
-    *packet = [handle, size];
-    match accepted {
-        Accepted::No(refusal) => refused(refusal),
-        Accepted::Yes => {
-            write_store(shared, store);
-            write_departure(own, state);
-            0
         }
     }
 }

@@ -5,5 +5,5 @@ mod departing;
 mod ticking;
 
 pub use calling::arrive;
-pub use calling::depart;
 pub use calling::tick;
+pub use departing::depart;

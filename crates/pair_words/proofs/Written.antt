@@ -27,18 +27,18 @@ use Rattle.pair_words.specs.Changed.{arrivalWords, departureWords, rateW
 use Rattle.pair_words.specs.Words.{flagWord, isSet, sharedOf, sharedWords, stateOf, stateWords}
 
 -- f 0, f 1, ..: n of them
-abbrev listed : ℕ → (ℕ → ℕ) → List ℕ
+abbrev pub listed : ℕ → (ℕ → ℕ) → List ℕ
 listed zero f = []
 listed (suc n) f = f 0 ∷ listed n (λ i. f (suc i))
 
-written-out : (n : ℕ) (w : List ℕ) → length w ≡ n → w ≡ listed n (λ i. getD w i 0)
+pub written-out : (n : ℕ) (w : List ℕ) → length w ≡ n → w ≡ listed n (λ i. getD w i 0)
 written-out zero [] h = refl
 written-out zero (x ∷ w) h = absurd (omega arith)
 written-out (suc n) [] h = absurd (omega arith)
 written-out (suc n) (x ∷ w) h = ap (λ (l : List ℕ). x ∷ l) (written-out n w (omega arith))
 
 -- a word that says what it said is left as it is
-flag-kept : (word : ℕ) → flagWord word (isSet word) ≡ word
+pub flag-kept : (word : ℕ) → flagWord word (isSet word) ≡ word
 flag-kept word = go (eqb word 0) refl
   where
     go : (b : Bool) → eqb word 0 ≡ b → cond (not b) (cond (not b) word 0) (cond (not b) 1 0) ≡ word

@@ -51,7 +51,10 @@ depart-requires c κs =
     let h = eqb (length (now (a .handles))) slots in
     let z = eqb (length (now (a .sizes))) slots in
     let fit : h && z ≡ true = not-false (h && z) (e2 .if2 .left) in
-    (formed e1, (eqb-true _ _ (and-left h z fit), eqb-true _ _ (and-right h z fit)))
+    let long = e1 .before .records-fit .ensures .1 (not-false _ (e1 .if1 .left)) in (
+      (long .0, long .1),
+      (formed e1, ((eqb-true _ _ (and-left h z fit), eqb-true _ _ (and-right h z fit)), refl)),
+    )
 
 same-length : tie.Need-same-length
 same-length c = search needs

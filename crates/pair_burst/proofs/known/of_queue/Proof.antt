@@ -24,37 +24,37 @@ shared-slice-read-clock-of-2 c = search needs
 clock-of-requires : tie.Need-clock-of-requires
 clock-of-requires c κs = search needs
 
-add-arrival-of : tie.Need-add-arrival-of
-add-arrival-of c = search needs
+add-arrive : tie.Need-add-arrive
+add-arrive c = search needs
 
-mul-arrival-of : tie.Need-mul-arrival-of
-mul-arrival-of c = search needs
+mul-arrive : tie.Need-mul-arrive
+mul-arrive c = search needs
 
-shared-slice-read-arrival-of : tie.Need-shared-slice-read-arrival-of
-shared-slice-read-arrival-of c = search needs
+shared-slice-read-arrive : tie.Need-shared-slice-read-arrive
+shared-slice-read-arrive c = search needs
 
-add-arrival-of-2 : tie.Need-add-arrival-of-2
-add-arrival-of-2 c = search needs
+add-arrive-2 : tie.Need-add-arrive-2
+add-arrive-2 c = search needs
 
-mul-arrival-of-2 : tie.Need-mul-arrival-of-2
-mul-arrival-of-2 c = search needs
+mul-arrive-2 : tie.Need-mul-arrive-2
+mul-arrive-2 c = search needs
 
-shared-slice-read-arrival-of-2 :
-    tie.Need-shared-slice-read-arrival-of-2
-shared-slice-read-arrival-of-2 c = search needs
+shared-slice-read-arrive-2 :
+    tie.Need-shared-slice-read-arrive-2
+shared-slice-read-arrive-2 c = search needs
 
-add-arrival-of-3 : tie.Need-add-arrival-of-3
-add-arrival-of-3 c = search needs
+add-arrive-3 : tie.Need-add-arrive-3
+add-arrive-3 c = search needs
 
-mul-arrival-of-3 : tie.Need-mul-arrival-of-3
-mul-arrival-of-3 c = search needs
+mul-arrive-3 : tie.Need-mul-arrive-3
+mul-arrive-3 c = search needs
 
-shared-slice-read-arrival-of-3 :
-    tie.Need-shared-slice-read-arrival-of-3
-shared-slice-read-arrival-of-3 c = search needs
+shared-slice-read-arrive-3 :
+    tie.Need-shared-slice-read-arrive-3
+shared-slice-read-arrive-3 c = search needs
 
-arrival-of-requires : tie.Need-arrival-of-requires
-arrival-of-requires c κs = c .before .before .before .before .before .before .before .before .before .before .before .before .before .before .pre .1
+arrive-requires : tie.Need-arrive-requires
+arrive-requires c κs = c .before .before .before .before .before .before .before .before .before .before .before .before .before .before .pre .1
 
 wide-requires : tie.Need-wide-requires
 wide-requires c κs = search needs
@@ -75,12 +75,12 @@ returns c =
     let z = now (a .args .sizes) in
     let k = now (a .args .calls) in
     let clock = c .before .before .before .before .before .before .before .before .before .before .before .before .before .before .clock-of in
-    let e = c .before .before .before .before .before .arrival-of .ensures in
+    let e = c .before .before .before .before .before .arrive .ensures in
     arrival-step (a .args .second) s o t h z k (a .args .at) (a .args .kind) (clock .result) (clock .ensures) (c .before .before .before .before .before .before .before .before .before .before .before .before .before .if1 .taken)
     _ _ _ _ _ (c .wide .ensures ∙ e .0) (e .1) (e .2) (e .3) (e .4)
 
-departure-of-requires : tie.Need-departure-of-requires
-departure-of-requires c κs = let b = c .before .before .before .before .before .before .before .before .before .before .before .before .before .pre .1 in (b .0, b .1 .0)
+depart-requires : tie.Need-depart-requires
+depart-requires c κs = let b = c .before .before .before .before .before .before .before .before .before .before .before .before .before .pre .1 in (b .0, b .1 .0)
 
 array-read-word : tie.Need-array-read-word
 array-read-word c = search needs
@@ -93,7 +93,7 @@ word-requires c κs =
     let a = c .before .before .before .before .before .before .before .before .before .before .before .before .before .before .before .before in
     let p = pairOf (a .args .second) (now (a .args .shared)) (now (a .args .own)) (now (a .args .other)) in
     let small = departure-small p (whichOf (a .args .second)) (now (a .args .handles)) (now (a .args .sizes)) (c .before .before .before .before .before .before .before .before .before .before .clock-of .result) in
-    let e = c .before .before .departure-of .ensures in
+    let e = c .before .before .depart .ensures in
     (rw (e .0) (small .0), rw (e .4) (small .1))
 
 same-length-3 : tie.Need-same-length-3
@@ -112,12 +112,12 @@ returns-2 c =
     let z = now (a .args .sizes) in
     let k = now (a .args .calls) in
     let clock = c .before .before .before .before .before .before .before .before .before .before .before .clock-of in
-    let e = c .before .before .before .departure-of .ensures in
+    let e = c .before .before .before .depart .ensures in
     departure-step (a .args .second) s o t h z k (a .args .at) (a .args .kind) (clock .result) (clock .ensures) (c .before .before .before .before .before .before .before .before .before .before .if1 .left) (c .before .before .before .before .before .before .before .before .before .if2 .taken)
     _ _ _ _ (rw (e .0, e .4) at (c .word .ensures)) (e .1) (e .2) (e .3)
 
-tick-of-requires : tie.Need-tick-of-requires
-tick-of-requires c κs = c .before .before .before .before .before .before .before .before .before .before .pre .1 .0
+tick-requires : tie.Need-tick-requires
+tick-requires c κs = c .before .before .before .before .before .before .before .before .before .before .pre .1 .0
 
 wide-requires-2 : tie.Need-wide-requires-2
 wide-requires-2 c κs = search needs
@@ -132,7 +132,7 @@ returns-3 c =
     let z = now (a .args .sizes) in
     let k = now (a .args .calls) in
     let clock = c .before .before .before .before .before .before .clock-of in
-    let e = c .before .tick-of .ensures in
+    let e = c .before .tick .ensures in
     tick-step (a .args .second) s o t h z k (a .args .at) (a .args .kind) (clock .result) (clock .ensures) (c .before .before .before .before .before .if1 .left) (c .before .before .before .before .if2 .left)
     _ _ (c .wide2 .ensures ∙ e .0) (e .1)
 
@@ -146,27 +146,27 @@ of-queue-spec =
     mul-clock-of-2
     shared-slice-read-clock-of-2
     clock-of-requires
-    add-arrival-of
-    mul-arrival-of
-    shared-slice-read-arrival-of
-    add-arrival-of-2
-    mul-arrival-of-2
-    shared-slice-read-arrival-of-2
-    add-arrival-of-3
-    mul-arrival-of-3
-    shared-slice-read-arrival-of-3
-    arrival-of-requires
+    add-arrive
+    mul-arrive
+    shared-slice-read-arrive
+    add-arrive-2
+    mul-arrive-2
+    shared-slice-read-arrive-2
+    add-arrive-3
+    mul-arrive-3
+    shared-slice-read-arrive-3
+    arrive-requires
     wide-requires
     same-length
     same-length-2
     returns
-    departure-of-requires
+    depart-requires
     array-read-word
     array-read-word-2
     word-requires
     same-length-3
     same-length-4
     returns-2
-    tick-of-requires
+    tick-requires
     wide-requires-2
     returns-3)

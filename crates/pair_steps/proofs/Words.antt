@@ -1,0 +1,109 @@
+-- Twenty-one words, written out, and what the inner functions make of them.
+use mathlib.Core.Path.{_≡_, refl, subst⁻¹}
+use mathlib.Core.Bool.{Bool, true, false, cond, not, _&&_}
+use mathlib.Core.List.{List, [], _∷_}
+use Prim.Native.Nat.{ℕ, _+_, _-_, _<_}
+use lib.Dec.{eqb, leb, ltb}
+use lib.ListN.{getD, length, set}
+use borrow.Author.Tests.{lt-leb, ltb-true, not-true}
+use Rattle.laws.proofs.Tests.{and-left, and-right}
+use Rattle.pie.specs.Constants.{threshold}
+use Rattle.pie.specs.DepartureRate.{rateAfter, running}
+use Rattle.pie.specs.declared.Rate.{Rate}
+use Rattle.store.specs.Following.{followed}
+use Rattle.store.specs.Take.{storeAfterTake}
+use Rattle.pair_state.specs.Queues.{storing}
+use Rattle.pair.specs.Departure.{departedState}
+use Rattle.pair_words.specs.Words.{isSet, rateOf, sharedOf, sharedWords, stateOf, stateWords}
+use Rattle.pair_words.proofs.Written.{flag-kept, listed, written-out}
+use Rattle.pair_steps.specs.Written.{rateWords}
+
+-- what holds of any twenty-one words written out holds of twenty-one words
+pub for-words : (P : List ℕ → Type 0) → ((f : ℕ → ℕ) → P (listed 21 f)) → (w : List ℕ) → length w ≡ 21 → P w
+for-words P h w e = subst⁻¹ P (written-out 21 w e) (h (λ i. getD w i 0))
+
+pub for-shared : (P : List ℕ → Type 0) → ((f : ℕ → ℕ) → P (listed 6 f)) → (w : List ℕ) → length w ≡ 6 → P w
+for-shared P h w e = subst⁻¹ P (written-out 6 w e) (h (λ i. getD w i 0))
+
+-- ── the departure rate ──
+
+pub counting-words : (counted : ℕ) (w : List ℕ) → length w ≡ 21 → isSet (getD w 9 0) ≡ true →
+    set w 11 counted ≡ rateWords w (running (getD w 8 0) (getD w 10 0) counted)
+unfolding stateOf stateWords rateWords
+counting-words counted =
+    for-words (λ w. isSet (getD w 9 0) ≡ true → set w 11 counted ≡ rateWords w (running (getD w 8 0) (getD w 10 0) counted))
+    (λ f e. rw e)
+
+pub same-words : (w : List ℕ) → length w ≡ 21 → w ≡ rateWords w (rateOf w)
+unfolding stateOf stateWords rateWords
+same-words = for-words (λ w. w ≡ rateWords w (rateOf w)) (λ f. rw (flag-kept (f 9)))
+
+abbrev pub rated : List ℕ → Rate → List ℕ
+rated w r = set (set (set w 8 (r .average .0)) 10 (r .start .0)) 11 (r .counted .0)
+
+pub going-on : (r : Rate) → r .measuring ≡ true → (w : List ℕ) → length w ≡ 21 → isSet (getD w 9 0) ≡ true → rated w r ≡ rateWords w r
+unfolding stateOf stateWords rateWords
+going-on r m = for-words (λ w. isSet (getD w 9 0) ≡ true → rated w r ≡ rateWords w r) (λ f e. rw (m, e))
+
+pub starting-words : (r : Rate) → r .measuring ≡ true → (w : List ℕ) → length w ≡ 21 → isSet (getD w 9 0) ≡ false →
+    set (rated w r) 9 1 ≡ rateWords w r
+unfolding stateOf stateWords rateWords
+starting-words r m = for-words (λ w. isSet (getD w 9 0) ≡ false → set (rated w r) 9 1 ≡ rateWords w r) (λ f e. rw (m, e))
+
+none : (b : Bool) → _≡_ {A = ℕ} (cond b 0 0) 0
+none true = refl
+none false = refl
+
+pub resting-words : (r : Rate) → r .measuring ≡ false → (w : List ℕ) → length w ≡ 21 → set (rated w r) 9 0 ≡ rateWords w r
+unfolding stateOf stateWords rateWords
+resting-words r m = for-words (λ w. set (rated w r) 9 0 ≡ rateWords w r) (λ f. rw (m, none (isSet (f 9))))
+
+-- a measurement goes on
+pub counting-rate : (w : List ℕ) (clock size count bytesLeft : ℕ) → isSet (getD w 9 0) ≡ true →
+    ltb (getD w 11 0 + size) threshold && not (eqb count 0) ≡ true →
+    rateAfter (rateOf w) clock size count bytesLeft ≡ running (getD w 8 0) (getD w 10 0) (getD w 11 0 + size)
+unfolding rateAfter
+counting-rate w clock size count bytesLeft e f =
+    let low = ltb (getD w 11 0 + size) threshold in
+    let below : getD w 11 0 + size < threshold = ltb-true _ _ (and-left low (not (eqb count 0)) f) in
+    let some : eqb count 0 ≡ false = not-true (eqb count 0) (and-right low (not (eqb count 0)) f) in
+    rw (e, lt-leb threshold (getD w 11 0 + size) below, some)
+
+-- none runs, and none starts
+pub resting-rate : (w : List ℕ) (clock size count bytesLeft : ℕ) → isSet (getD w 9 0) ≡ false → not (leb threshold bytesLeft) ≡ true →
+    rateAfter (rateOf w) clock size count bytesLeft ≡ rateOf w
+unfolding rateAfter
+resting-rate w clock size count bytesLeft e f = rw (e, not-true (leb threshold bytesLeft) f)
+
+-- ── a departure ──
+
+-- clock, count, bytes and head
+abbrev pub leftWords : List ℕ → (clock size head : ℕ) → List ℕ
+leftWords w clock size head = set (set (set (set w 2 clock) 12 (getD w 12 0 - 1)) 13 (getD w 13 0 - size)) 14 head
+
+abbrev departureWritten : List ℕ → (sizes : List ℕ) (clock size : ℕ) → List ℕ
+departureWritten w sizes clock size =
+    let left = leftWords w clock size (followed sizes (getD w 14 0) (getD w 12 0)) in
+    rateWords left (rateAfter (rateOf left) clock size (getD w 12 0 - 1) (getD w 13 0 - size))
+
+pub departed-words : (sizes : List ℕ) (clock size : ℕ) (w : List ℕ) → length w ≡ 21 →
+    departureWritten w sizes clock size ≡ stateWords w (departedState (stateOf w) sizes clock size)
+unfolding stateOf stateWords rateWords departedState
+departed-words sizes clock size =
+    for-words (λ w. departureWritten w sizes clock size ≡ stateWords w (departedState (stateOf w) sizes clock size)) (λ f. refl)
+
+pub left-rate : (clock size head : ℕ) (w : List ℕ) → length w ≡ 21 → rateOf (leftWords w clock size head) ≡ rateOf w
+left-rate clock size head = for-words (λ w. rateOf (leftWords w clock size head) ≡ rateOf w) (λ f. refl)
+
+pub left-long : (clock size head : ℕ) (w : List ℕ) → length w ≡ 21 → length (leftWords w clock size head) ≡ 21
+left-long clock size head = for-words (λ w. length (leftWords w clock size head) ≡ 21) (λ f. refl)
+
+-- the store's words: freed, spare
+abbrev pub takenWords : List ℕ → (head : ℕ) → List ℕ
+takenWords w head = let next = set w 4 head in set next 5 (getD next 5 0 + 1)
+
+pub taken-words : (head : ℕ) (w : List ℕ) → length w ≡ 6 →
+    takenWords w head ≡ sharedWords (storing (sharedOf w) (storeAfterTake (sharedOf w .store) head))
+unfolding sharedOf sharedWords
+taken-words head =
+    for-shared (λ w. takenWords w head ≡ sharedWords (storing (sharedOf w) (storeAfterTake (sharedOf w .store) head))) (λ f. refl)

@@ -1,0 +1,2 @@
+-- Calls on two queues over words: what their inner functions write.
+pub mod Written
