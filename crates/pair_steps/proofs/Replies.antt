@@ -5,9 +5,12 @@ use mathlib.Core.List.{List, [], _∷_}
 use Prim.Native.Nat.{ℕ}
 use lib.ListN.{length}
 use borrow.Author.Tests.{eq-eqb}
-use Rattle.queue.specs.Answer.{departed, refused, ticked}
+use Rattle.pie.specs.Verdicts.{admitted, placeOf}
+use Rattle.pie.specs.declared.Verdict.{Verdict}
+use Rattle.queue.specs.Answer.{departed, refused, ticked, verdict}
 use Rattle.refusals.specs.Tests.{sizeRefused}
 use Rattle.pair_state.specs.Answer.{Reply}
+use Rattle.store.specs.Put.{freePlace, handlesAfterPut, sizesAfterPut, storeAfterPut}
 use Rattle.store.specs.Take.{sizesAfterTake, storeAfterTake}
 use Rattle.pair_state.specs.Queues.{paired, storing}
 use Rattle.pair_state.specs.WellFormed.{wellFormed}
@@ -16,7 +19,7 @@ use Rattle.pair_state.specs.declared.Shared.{Shared}
 use Rattle.pair_state.specs.declared.State.{State}
 use Rattle.pair_state.specs.declared.Which.{Which}
 use Rattle.pair_state.specs.declared.Which.the-variants.{Intercom, Passengers}
-use Rattle.pair.specs.Arrival.{arrival, arrivalRefusal}
+use Rattle.pair.specs.Arrival.{arrival, arrivalRefusal, arrivedHandles, arrivedSizes, arrivedState, arrivedStore, freedRefused, verdictOf}
 use Rattle.pair.specs.Departure.{departedSizes, departedState, departure, departureRefusal, headHandle, headSize, headWordRefused}
 use Rattle.pair.specs.Refusals.{clockRefused, countsRefused, emptyRefused, tablesRefused, tooSoonRefused}
 use Rattle.pair.specs.Tick.{tick, tickRefusal, tickedState}
@@ -73,6 +76,14 @@ module _ (s : Shared) (o t : State) (clock : ℕ) where
   unfolding tick tickRefusal
   tick-made Intercom f e k = rw (f, e, k)
   tick-made Passengers f e k = rw (f, e, k)
+
+-- what is written is what the reply says
+pub ticked-gives : (w : Which) (s : Shared) (o t : State) (clock : ℕ) (ow ow' : List ℕ) →
+    tick (paired w s o t) w clock ≡ record { answer = ticked; pair = paired w s (tickedState o clock) t } →
+    ow' ≡ stateWords ow (tickedState o clock) →
+    let a = tick (paired w s o t) w clock in (0 ≡ codeOf (a .answer)) × (ow' ≡ ownAfter w a ow)
+ticked-gives Intercom s o t clock ow ow' e eo = rw e (refl, eo)
+ticked-gives Passengers s o t clock ow ow' e eo = rw e (refl, eo)
 
 -- ── a departure ──
 
@@ -159,3 +170,61 @@ module _ (s : Shared) (o t : State) (handles sizes : List ℕ) (clock size : ℕ
   unfolding arrival arrivalRefusal
   arrival-counts Intercom f e k x = rw (f, fit, e, k, x)
   arrival-counts Passengers f e k x = rw (f, fit, e, k, x)
+
+  module _ (v : Verdict) where
+    pub arrival-lost : (w : Which) → Formed w s o t → clockRefused o clock ≡ false → sizeRefused size ≡ false → countsRefused o ≡ false →
+        v ≡ verdictOf (paired w s o t) w size ecn u → freedRefused s sizes v ≡ true →
+        arrival (paired w s o t) w handles sizes clock size ecn u ≡ refusedBy 9 (paired w s o t)
+    unfolding arrival arrivalRefusal
+    arrival-lost Intercom f e k x ev y = rw (← ev, f, fit, e, k, x, y)
+    arrival-lost Passengers f e k x ev y = rw (← ev, f, fit, e, k, x, y)
+
+    pub arrival-made : (w : Which) → Formed w s o t → clockRefused o clock ≡ false → sizeRefused size ≡ false → countsRefused o ≡ false →
+        v ≡ verdictOf (paired w s o t) w size ecn u → freedRefused s sizes v ≡ false →
+        arrival (paired w s o t) w handles sizes clock size ecn u
+        ≡ record {
+          answer = verdict v;
+          pair = paired w (storing s (arrivedStore (s .store) sizes v)) (arrivedState o clock size (freePlace (s .store)) v) t;
+        }
+    unfolding arrival arrivalRefusal
+    arrival-made Intercom f e k x ev y = rw (← ev, f, fit, e, k, x, y)
+    arrival-made Passengers f e k x ev y = rw (← ev, f, fit, e, k, x, y)
+
+-- what is written is what the reply says
+abbrev pub GivesArrival : Which → Shared → (own other : State) (handles sizes : List ℕ) (clock size : ℕ) (ecn : Bool) (u : ℕ) →
+    (handle code : ℕ) (sh sh' ow ow' handles' sizes' : List ℕ) → Type 0
+GivesArrival w s o t handles sizes clock size ecn u handle code sh sh' ow ow' handles' sizes' =
+    let a = arrival (paired w s o t) w handles sizes clock size ecn u in
+    (code ≡ codeOf (a .answer))
+    × (sh' ≡ sharedAfter a sh)
+    × (ow' ≡ ownAfter w a ow)
+    × (handles' ≡ arrivedHandles (paired w s o t) (a .answer) handles handle)
+    × (sizes' ≡ arrivedSizes (paired w s o t) w (a .answer) sizes size)
+
+module _ (s : Shared) (o t : State) (handles sizes : List ℕ) (clock size : ℕ) (ecn : Bool) (u : ℕ) (v : Verdict) where
+  abbrev pub Made : Which → Type 0
+  Made w =
+      arrival (paired w s o t) w handles sizes clock size ecn u
+      ≡ record {
+        answer = verdict v;
+        pair = paired w (storing s (arrivedStore (s .store) sizes v)) (arrivedState o clock size (freePlace (s .store)) v) t;
+      }
+
+  abbrev pub After : State
+  After = arrivedState o clock size (freePlace (s .store)) v
+
+  pub dropped-gives : (w : Which) → Made w → admitted v ≡ false → (handle code : ℕ) (sh ow ow' : List ℕ) → code ≡ placeOf v →
+      sh ≡ sharedWords s → ow' ≡ stateWords ow After →
+      GivesArrival w s o t handles sizes clock size ecn u handle code sh sh ow ow' handles sizes
+  unfolding arrivedStore
+  dropped-gives Intercom m e handle code sh ow ow' ec es eo = rw (m, e) (ec, es, eo, refl, refl)
+  dropped-gives Passengers m e handle code sh ow ow' ec es eo = rw (m, e) (ec, es, eo, refl, refl)
+
+  pub admitted-gives : (w : Which) → Made w → admitted v ≡ true → (handle code : ℕ) (sh sh' ow ow' handles' sizes' : List ℕ) →
+      code ≡ placeOf v → sh' ≡ sharedWords (storing s (storeAfterPut (s .store) sizes)) → ow' ≡ stateWords ow After →
+      handles' ≡ handlesAfterPut handles (freePlace (s .store)) handle →
+      sizes' ≡ sizesAfterPut (o .ends) (o .backlog .count) sizes (freePlace (s .store)) size →
+      GivesArrival w s o t handles sizes clock size ecn u handle code sh sh' ow ow' handles' sizes'
+  unfolding arrivedStore
+  admitted-gives Intercom m e handle code sh sh' ow ow' handles' sizes' ec es eo eh ez = rw (m, e) (ec, es, eo, eh, ez)
+  admitted-gives Passengers m e handle code sh sh' ow ow' handles' sizes' ec es eo eh ez = rw (m, e) (ec, es, eo, eh, ez)

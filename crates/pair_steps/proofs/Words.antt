@@ -1,22 +1,30 @@
 -- Twenty-one words, written out, and what the inner functions make of them.
-use mathlib.Core.Path.{_≡_, refl, subst⁻¹}
-use mathlib.Core.Bool.{Bool, true, false, cond, not, _&&_}
+use mathlib.Core.Path.{_≡_, refl, subst⁻¹, sym, _∙_}
+use mathlib.Core.Bool.{Bool, true, false, cond, not, _&&_, false≢true}
 use mathlib.Core.List.{List, [], _∷_}
-use Prim.Native.Nat.{ℕ, _+_, _-_, _<_}
+use Prim.Native.Nat.{ℕ, _+_, _-_, _≤_, _<_}
+use native.Mathlib.Omega.{arith}
 use lib.Dec.{eqb, leb, ltb}
 use lib.ListN.{getD, length, set}
+use lib.Seq.{getD-set-other}
 use borrow.Author.Tests.{lt-leb, ltb-true, not-true}
 use Rattle.laws.proofs.Tests.{and-left, and-right}
 use Rattle.pie.specs.Constants.{threshold}
 use Rattle.pie.specs.DepartureRate.{rateAfter, running}
+use Rattle.pie.specs.Update.{updated}
+use Rattle.pie.specs.Verdicts.{admitted, placeOf, raised}
 use Rattle.pie.specs.declared.Rate.{Rate}
+use Rattle.pie.specs.declared.Verdict.{Verdict}
+use Rattle.pie.specs.declared.Verdict.the-variants.{Enqueued, Marked, DroppedBytes, DroppedSlots, DroppedEarly}
 use Rattle.store.specs.Following.{followed}
 use Rattle.store.specs.Take.{storeAfterTake}
 use Rattle.pair_state.specs.Queues.{storing}
+use Rattle.pair.specs.Arrival.{arrivedPie, arrivedState}
 use Rattle.pair.specs.Departure.{departedState}
-use Rattle.pair_words.specs.Words.{isSet, rateOf, sharedOf, sharedWords, stateOf, stateWords}
+use Rattle.pair.specs.Tick.{tickedState}
+use Rattle.pair_words.specs.Words.{isSet, pieOf, rateOf, sharedOf, sharedWords, stateOf, stateWords}
 use Rattle.pair_words.proofs.Written.{flag-kept, listed, written-out}
-use Rattle.pair_steps.specs.Written.{rateWords}
+use Rattle.pair_steps.specs.Written.{enteredWords, rateWords, settledWords}
 
 -- what holds of any twenty-one words written out holds of twenty-one words
 pub for-words : (P : List ℕ → Type 0) → ((f : ℕ → ℕ) → P (listed 21 f)) → (w : List ℕ) → length w ≡ 21 → P w
@@ -107,3 +115,71 @@ pub taken-words : (head : ℕ) (w : List ℕ) → length w ≡ 6 →
 unfolding sharedOf sharedWords
 taken-words head =
     for-shared (λ w. takenWords w head ≡ sharedWords (storing (sharedOf w) (storeAfterTake (sharedOf w .store) head))) (λ f. refl)
+
+-- ── an arrival ──
+
+-- the counts stand past clock and accumulated probability
+pub past-early : (w : List ℕ) (a b at : ℕ) → 16 ≤ at → getD (set (set w 2 a) 7 b) at 0 ≡ getD w at 0
+past-early w a b at h = getD-set-other (set w 2 a) 7 at b 0 (λ x. omega arith) ∙ getD-set-other w 2 at a 0 (λ x. omega arith)
+
+-- and past the words of a packet that enters
+pub past-entered : (size place : ℕ) (v : Verdict) (w : List ℕ) → length w ≡ 21 →
+    getD (enteredWords w size place) (16 + placeOf v) 0 ≡ getD w (16 + placeOf v) 0
+past-entered size place v = for-words (λ w. getD (enteredWords w size place) (16 + placeOf v) 0 ≡ getD w (16 + placeOf v) 0) (go v)
+  where
+    go : (v : Verdict) (f : ℕ → ℕ) →
+        getD (enteredWords (listed 21 f) size place) (16 + placeOf v) 0 ≡ getD (listed 21 f) (16 + placeOf v) 0
+    go Enqueued f = refl
+    go Marked f = refl
+    go DroppedBytes f = refl
+    go DroppedSlots f = refl
+    go DroppedEarly f = refl
+
+abbrev pub settled : (w base : List ℕ) (clock : ℕ) → Verdict → List ℕ
+settled w base clock v = settledWords w clock (arrivedPie (stateOf base) v .accumulated .0) v
+
+pub dropped-words : (clock size place : ℕ) (v : Verdict) → admitted v ≡ false → (w : List ℕ) → length w ≡ 21 →
+    settled w w clock v ≡ stateWords w (arrivedState (stateOf w) clock size place v)
+unfolding stateOf stateWords arrivedState raised
+dropped-words clock size place v e =
+    for-words (λ w. settled w w clock v ≡ stateWords w (arrivedState (stateOf w) clock size place v)) (go v e)
+  where
+    go : (v : Verdict) → admitted v ≡ false → (f : ℕ → ℕ) →
+        settled (listed 21 f) (listed 21 f) clock v ≡ stateWords (listed 21 f) (arrivedState (stateOf (listed 21 f)) clock size place v)
+    go Enqueued e f = absurd (false≢true (sym e))
+    go Marked e f = absurd (false≢true (sym e))
+    go DroppedBytes e f = rw (flag-kept (f 9))
+    go DroppedSlots e f = rw (flag-kept (f 9))
+    go DroppedEarly e f = rw (flag-kept (f 9))
+
+pub admitted-words : (clock size place : ℕ) (v : Verdict) → admitted v ≡ true → (w : List ℕ) → length w ≡ 21 →
+    settled (enteredWords w size place) w clock v ≡ stateWords w (arrivedState (stateOf w) clock size place v)
+unfolding stateOf stateWords arrivedState raised
+admitted-words clock size place v e =
+    for-words (λ w. settled (enteredWords w size place) w clock v ≡ stateWords w (arrivedState (stateOf w) clock size place v)) (go v e)
+  where
+    go : (v : Verdict) → admitted v ≡ true → (f : ℕ → ℕ) →
+        settled (enteredWords (listed 21 f) size place) (listed 21 f) clock v
+        ≡ stateWords (listed 21 f) (arrivedState (stateOf (listed 21 f)) clock size place v)
+    go Enqueued e f = rw (flag-kept (f 9))
+    go Marked e f = rw (flag-kept (f 9))
+    go DroppedBytes e f = absurd (false≢true e)
+    go DroppedSlots e f = absurd (false≢true e)
+    go DroppedEarly e f = absurd (false≢true e)
+
+-- a shared record and its words determine each other
+pub same-shared : (w : List ℕ) → length w ≡ 6 → w ≡ sharedWords (sharedOf w)
+unfolding sharedOf sharedWords
+same-shared = for-shared (λ w. w ≡ sharedWords (sharedOf w)) (λ f. refl)
+
+-- ── a tick ──
+
+abbrev tickWritten : List ℕ → (clock : ℕ) → List ℕ
+tickWritten w clock =
+    let next = updated (pieOf w) false (getD w 0 0) (getD w 13 0) in
+    set (set (set (set (set w 2 clock) 3 clock) 4 (next .prob .0)) 5 (next .old .0)) 6 (next .allowance .0)
+
+pub ticked-words : (clock : ℕ) (w : List ℕ) → length w ≡ 21 → tickWritten w clock ≡ stateWords w (tickedState (stateOf w) clock)
+unfolding stateOf stateWords tickedState updated
+ticked-words clock =
+    for-words (λ w. tickWritten w clock ≡ stateWords w (tickedState (stateOf w) clock)) (λ f. rw (flag-kept (f 9)))

@@ -1,9 +1,9 @@
-// Calls on two queues whose records are known to be well formed, over words that are lent. The single entries and the burst share them.
+// Calls on two queues whose records are known to be well formed, over words that are lent: the single entries and the burst share them.
+// Each reads a word where it needs it and writes those that it changes.
 mod arriving;
-mod calling;
 mod departing;
 mod ticking;
 
-pub use calling::arrive;
-pub use calling::tick;
+pub use arriving::arrive;
 pub use departing::depart;
+pub use ticking::tick;

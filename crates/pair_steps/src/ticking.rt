@@ -1,56 +1,58 @@
-// A tick of records that are ready for it.
-use pair::Ticked;
-use pair::after_tick;
-use pair_state::Shared;
-use pair_state::State;
-use pair_state::Which;
+// A tick of records that are well formed.
 use pie::LATEST;
 use pie::PERIOD;
-use refusals::Accepted;
-use refusals::Refusal;
+use pie::Pie;
+use pie::Rate;
+use units::Bytes;
 use units::Micros;
+use units::Prob;
 ghost use mathlib.Core.Path.{_≡_};
 ghost use mathlib.Core.Bool.{true};
-ghost use Rattle.refusals.specs.Numbers.{refusalIn};
-ghost use Rattle.pair.specs.Answer.{tickReply};
-ghost use Rattle.pair_state.specs.Queues.{paired};
-ghost use Rattle.pair.specs.Tick.{tick, tickRefusal};
+ghost use lib.ListN.{length};
 ghost use Rattle.pair_state.specs.WellFormed.{wellFormed};
-ghost use Rattle.pair_state.specs.declared.Which.the-variants.{Intercom};
+ghost use Rattle.pair.specs.Tick.{tick};
+ghost use Rattle.pair_words.specs.Codes.{codeOf, ownAfter};
+ghost use Rattle.pair_words.specs.Words.{pairOf, whichOf};
 
-// Refusals 4 and 5, where the first queue is called: 2 is not given.
-fn check_tick(shared: Shared, own: State, other: State, clock: Micros) -> Accepted
-    requires { ⌜ wellFormed (paired Intercom shared own other) ≡ true ⌝ }
-    ensures { λ r. ⌜ refusalIn r ≡ tickRefusal (paired Intercom shared own other) Intercom (clock .0) ⌝ }
+pub fn tick(
+    shared: &[u64; 6],
+    own: &mut [u64; 21],
+    other: &[u64; 21],
+    second: bool,
+    clock: u64,
+) -> u32
+    requires { ⌜ length (now own) ≡ 21 ⌝ }
+    requires { ⌜ wellFormed (pairOf second (now shared) (now own) (now other)) ≡ true ⌝ }
+    ensures { λ r. ⌜ (let p = pairOf second (now (shared .entry)) (now (own .entry)) (now (other .entry)) in
+        let a = tick p (whichOf second) clock in
+        (r ≡ codeOf (a .answer)) × (now (own .exit) ≡ ownAfter (whichOf second) a (now (own .entry)))) ⌝ }
 {
-    let wrong_clock = (clock.0 < own.clock.0) | (LATEST < clock.0);
+    let wrong_clock = (clock < own[2]) | (LATEST < clock);
     if wrong_clock {
-        return Accepted::No(Refusal::Clock);
+        return 104;
     }
-    let too_soon = clock.0 < own.last.0 + PERIOD;
+    let too_soon = clock < own[3] + PERIOD;
     if too_soon {
-        return Accepted::No(Refusal::TooSoon);
+        return 105;
     }
-    Accepted::Yes
-}
-
-// `pair::tick` on records that are well formed.
-pub fn tick(which: Which, shared: Shared, own: State, other: State, clock: Micros) -> Ticked
-    requires { ⌜ wellFormed (paired which shared own other) ≡ true ⌝ }
-    ensures { λ r. ⌜ tickReply which shared other r ≡ tick (paired which shared own other) which (clock .0) ⌝ }
-{
-    let accepted = check_tick(shared.facing(which), own, other, clock);
-    match accepted {
-        Accepted::No(refusal) => Ticked {
-            accepted: Accepted::No(refusal),
-            state: own,
-        },
-        Accepted::Yes => {
-            let state = after_tick(own, shared.slots, clock);
-            Ticked {
-                accepted: Accepted::Yes,
-                state,
-            }
-        }
-    }
+    let rate = Rate {
+        average: Micros(own[8]),
+        measuring: own[9] != 0,
+        start: Micros(own[10]),
+        counted: Bytes(own[11]),
+    };
+    let pie = Pie {
+        prob: Prob(own[4]),
+        old: Micros(own[5]),
+        allowance: Micros(own[6]),
+        accumulated: Prob(own[7]),
+        rate,
+    };
+    let next = pie.update(false, Micros(own[0]), Bytes(own[13]));
+    own[2] = clock;
+    own[3] = clock;
+    own[4] = next.prob.0;
+    own[5] = next.old.0;
+    own[6] = next.allowance.0;
+    0
 }

@@ -1,58 +1,121 @@
--- `tick`: refused as the check says, else the ticked state.
 use borrow.Author.Needs.{needs}
-use mathlib.Core.Path.{ap, sym, _∙_}
-use Rattle.refusals.specs.Numbers.{refusalIn}
-use Rattle.pair.proofs.Replies.{tick-refused, tick-taken}
-use Rattle.pair.proofs.WhenAccepted.{tick-accepted}
-use Rattle.pair_steps.proofs.AsFirst.{as-first}
 use Rattle.pair_steps.proofs.ticking.tick.Statement.{statement}
 use Rattle.pair_steps.proofs.ticking.tick.Tie as tie
+use Rattle.pair_steps.proofs.ticking.tick.Reads as reads
+use Rattle.pair_steps.proofs.ticking.tick.Lts as lts
+use Rattle.pie.proofs.Pie.update.Reads as update-reads
 
-facing-requires : tie.Need-facing-requires
-facing-requires c κs = search needs
+-- src/ticking.rt:30:32
+element-copy-out-wrong-clock : tie.Need-element-copy-out-wrong-clock
+element-copy-out-wrong-clock c = search needs
 
-check-tick-requires : tie.Need-check-tick-requires
-check-tick-requires c κs =
-    let b = c .before in
-    let a = b .args in as-first (a .which) (a .shared) (a .own) (a .other) (c .facing .result) (c .facing .ensures) (b .pre) .0
-
-enum-known-accepted : tie.Need-enum-known-accepted
-enum-known-accepted c = search needs
-
-enum-told : tie.Need-enum-told
-enum-told c = search needs
-
-ticked-requires : tie.Need-ticked-requires
-ticked-requires c κs =
-    let k = c .before .before in
-    let f = k .before in
-    let a = f .before .args in
-    tick-accepted (a .which) (a .shared) (a .own) (a .other) (a .clock .0) (f .facing .result) (f .facing .ensures)
-    (sym (k .check-tick .ensures) ∙ ap refusalIn (c .enum-told .given .1)) .records .passes
-
+-- src/ticking.rt:32:9
 returns : tie.Need-returns
-returns c =
-    let k = c .before .before .before in
-    let f = k .before in
-    let a = f .before .args in
-    tick-refused (a .which) (a .shared) _ _ _ _ _ _ (f .facing .ensures) (k .check-tick .ensures) (c .before .accepted .given .1)
+returns c = ?
 
+-- src/ticking.rt:34:28
+element-copy-out-too-soon : tie.Need-element-copy-out-too-soon
+element-copy-out-too-soon c = search needs
+
+-- src/ticking.rt:34:28
+add-too-soon : tie.Need-add-too-soon
+add-too-soon c = ?
+
+-- src/ticking.rt:36:9
 returns-2 : tie.Need-returns-2
-returns-2 c =
-    let t = c .before in
-    let k = t .before .before in
-    let f = k .before in
-    let a = f .before .args in
-    tick-taken (a .which) (a .shared) _ _ _ _ _ _ (f .facing .ensures) (k .check-tick .ensures) (t .enum-told .given .1) (c .ticked .ensures)
+returns-2 c = ?
+
+-- src/ticking.rt:39:25
+element-copy-out-t18 : tie.Need-element-copy-out-t18
+element-copy-out-t18 c = search needs
+
+-- src/ticking.rt:40:20
+element-copy-out-t13 : tie.Need-element-copy-out-t13
+element-copy-out-t13 c = search needs
+
+-- src/ticking.rt:41:23
+element-copy-out-t26 : tie.Need-element-copy-out-t26
+element-copy-out-t26 c = search needs
+
+-- src/ticking.rt:42:24
+element-copy-out-t30 : tie.Need-element-copy-out-t30
+element-copy-out-t30 c = search needs
+
+-- src/ticking.rt:45:20
+element-copy-out-t18-2 : tie.Need-element-copy-out-t18-2
+element-copy-out-t18-2 c = search needs
+
+-- src/ticking.rt:46:21
+element-copy-out-t13-2 : tie.Need-element-copy-out-t13-2
+element-copy-out-t13-2 c = search needs
+
+-- src/ticking.rt:47:27
+element-copy-out-t30-2 : tie.Need-element-copy-out-t30-2
+element-copy-out-t30-2 c = search needs
+
+-- src/ticking.rt:48:27
+element-copy-out-t26-2 : tie.Need-element-copy-out-t26-2
+element-copy-out-t26-2 c = search needs
+
+-- src/ticking.rt:51:41
+element-copy-out-t18-3 : tie.Need-element-copy-out-t18-3
+element-copy-out-t18-3 c = search needs
+
+-- src/ticking.rt:51:56
+element-copy-out-t13-3 : tie.Need-element-copy-out-t13-3
+element-copy-out-t13-3 c = search needs
+
+-- src/ticking.rt:51:9
+update-requires : tie.Need-update-requires
+update-requires c κs = ?
+
+-- src/ticking.rt:52:5
+element-write-own : tie.Need-element-write-own
+element-write-own c = search needs
+
+-- src/ticking.rt:53:5
+element-write-own-2 : tie.Need-element-write-own-2
+element-write-own-2 c = search needs
+
+-- src/ticking.rt:54:5
+element-write-own-3 : tie.Need-element-write-own-3
+element-write-own-3 c = search needs
+
+-- src/ticking.rt:55:5
+element-write-own-4 : tie.Need-element-write-own-4
+element-write-own-4 c = search needs
+
+-- src/ticking.rt:56:5
+element-write-own-5 : tie.Need-element-write-own-5
+element-write-own-5 c = search needs
+
+-- src/ticking.rt:17:1
+returns-3 : tie.Need-returns-3
+returns-3 c = ?
 
 pub tick-spec : {M : Type 1} → statement M
 tick-spec =
     tie.close
     (tie.spec
-    facing-requires
-    check-tick-requires
-    enum-known-accepted
-    enum-told
-    ticked-requires
+    element-copy-out-wrong-clock
     returns
-    returns-2)
+    element-copy-out-too-soon
+    add-too-soon
+    returns-2
+    element-copy-out-t18
+    element-copy-out-t13
+    element-copy-out-t26
+    element-copy-out-t30
+    element-copy-out-t18-2
+    element-copy-out-t13-2
+    element-copy-out-t30-2
+    element-copy-out-t26-2
+    element-copy-out-t18-3
+    element-copy-out-t13-3
+    update-requires
+    element-write-own
+    element-write-own-2
+    element-write-own-3
+    element-write-own-4
+    element-write-own-5
+    returns-3)
