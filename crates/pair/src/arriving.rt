@@ -123,7 +123,7 @@ pub fn decide(shared: Shared, own: State, other: State, size: Bytes, ecn: bool, 
 }
 
 // The state after an arrival with this verdict; where it admits, the packet stands at `place`.
-pub fn arrived(
+fn arrived(
     own: State,
     clock: Micros,
     size: Bytes,

@@ -82,7 +82,7 @@ fn check_departure(
 }
 
 // The state after the head, of this size, has left.
-pub fn departed(own: State, slots: u64, sizes: &[u32], clock: Micros, size: Bytes) -> State
+fn departed(own: State, slots: u64, sizes: &[u32], clock: Micros, size: Bytes) -> State
     requires { ⌜ (all (queueConditions slots own) ≡ true) × (length (now sizes) ≡ slots) × (slots ≤ 65536) ⌝ }
     requires { ⌜ (own .clock .0 ≤ clock .0) × (0 < own .backlog .count)
         × (size .0 ≤ own .backlog .bytes .0) × (size .0 ≤ largest) ⌝ }

@@ -31,9 +31,6 @@ pub struct Ticked {
 }
 
 pub use arriving::arrival;
-pub use arriving::arrived as after_arrival;
 pub use arriving::decide;
-pub use departing::departed as after_departure;
 pub use departing::departure;
 pub use ticking::tick;
-pub use ticking::ticked as after_tick;

@@ -52,7 +52,7 @@ fn check_tick(shared: Shared, own: State, other: State, clock: Micros) -> Accept
 }
 
 // The state after a tick.
-pub fn ticked(own: State, slots: u64, clock: Micros) -> State
+fn ticked(own: State, slots: u64, clock: Micros) -> State
     requires { ⌜ all (queueConditions slots own) ≡ true ⌝ }
     ensures { λ r. ⌜ r ≡ tickedState own (clock .0) ⌝ }
 {

@@ -1,7 +1,7 @@
 -- A call leaves records that are ready for one arrival less.
 use mathlib.Core.Path.{_≡_, refl, sym, ap, _∙_}
 use mathlib.Core.Bool.{Bool, true, false, cond, not}
-use mathlib.Core.List.{List, [], _∷_}
+use mathlib.Core.List.{List}
 use Prim.Native.Nat.{ℕ, zero, suc, _+_, _-_, _≤_, _<_}
 use native.Mathlib.Omega.{arith}
 use lib.Dec.{eqb}
@@ -27,36 +27,28 @@ use Rattle.pair.specs.Tick.{tick, tickRefusal, tickedState}
 use Rattle.pair_isolation.specs.Handed.{Queues, replyTo, returned}
 use Rattle.pair_words.specs.Codes.{ownAfter, sharedAfter}
 use Rattle.pair_words.specs.Words.{flagWord, isSet, pairOf, sharedOf, sharedWords, stateOf, stateWords}
+use Rattle.pair_words.proofs.Written.{written-out}
 use Rattle.pair_burst.specs.Calls.{Call, asked, unknown}
 use Rattle.pair_burst.specs.Burst.{Lent, Ready, after, lent, otherWords, ownWords, queuesOf, sharedLeft}
 use Rattle.pair_burst.proofs.Formed.{reply-formed}
 use Rattle.pair_burst.proofs.Kept.{after-long}
 
 pub first-ready : (s o t handles sizes : List ℕ) → Ready (lent Intercom s o t handles sizes) 1 →
-    (wellFormed (pairOf false s o t) ≡ true)
-    × (((length handles ≡ sharedOf s .slots) × (length sizes ≡ sharedOf s .slots)) × (total (stateOf o .verdicts) < mostVerdicts))
-first-ready s o t handles sizes (_, _, _, formed, h, z, room, _) = (formed, ((h, z), omega arith))
+    ((length s ≡ 6) × (length o ≡ 21))
+    × ((wellFormed (pairOf false s o t) ≡ true)
+    × (((length handles ≡ sharedOf s .slots) × (length sizes ≡ sharedOf s .slots)) × (total (stateOf o .verdicts) < mostVerdicts)))
+first-ready s o t handles sizes (a, b, _, formed, h, z, room, _) = ((a, b), (formed, ((h, z), omega arith)))
 
 pub second-ready : (s o t handles sizes : List ℕ) → Ready (lent Intercom s o t handles sizes) 1 →
-    (wellFormed (pairOf true s t o) ≡ true)
-    × (((length handles ≡ sharedOf s .slots) × (length sizes ≡ sharedOf s .slots)) × (total (stateOf t .verdicts) < mostVerdicts))
-second-ready s o t handles sizes (_, _, _, formed, h, z, _, room) = (formed, ((h, z), omega arith))
+    ((length s ≡ 6) × (length t ≡ 21))
+    × ((wellFormed (pairOf true s t o) ≡ true)
+    × (((length handles ≡ sharedOf s .slots) × (length sizes ≡ sharedOf s .slots)) × (total (stateOf t .verdicts) < mostVerdicts)))
+second-ready s o t handles sizes (a, _, c, formed, h, z, _, room) = ((a, c), (formed, ((h, z), omega arith)))
 
 pub ready-one : (q : Lent) (n : ℕ) → 1 ≤ n → Ready q n → Ready q 1
 ready-one q n some (a, b, c, formed, h, z, r, s) = (a, b, c, formed, h, z, omega arith, omega arith)
 
 -- ── words hold the record that was written to them ──
-
--- f 0, f 1, ..: n of them
-abbrev listed : ℕ → (ℕ → ℕ) → List ℕ
-listed zero f = []
-listed (suc n) f = f 0 ∷ listed n (λ i. f (suc i))
-
-written-out : (n : ℕ) (w : List ℕ) → length w ≡ n → w ≡ listed n (λ i. getD w i 0)
-written-out zero [] h = refl
-written-out zero (x ∷ w) h = absurd (omega arith)
-written-out (suc n) [] h = absurd (omega arith)
-written-out (suc n) (x ∷ w) h = ap (λ (l : List ℕ). x ∷ l) (written-out n w (omega arith))
 
 flag-says : (word : ℕ) (said : Bool) → isSet (flagWord word said) ≡ said
 flag-says word said = go (eqb word 0) refl said

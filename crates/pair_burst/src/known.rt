@@ -30,6 +30,7 @@ fn of_queue(
     kind: u32,
 ) -> u64
     requires { ⌜ at + 5 < length (now calls) ⌝ }
+    requires { ⌜ (length (now shared) ≡ 6) × (length (now own) ≡ 21) ⌝ }
     requires { ⌜ wellFormed (pairOf second (now shared) (now own) (now other)) ≡ true ⌝ }
     requires { ⌜ (length (now handles) ≡ sharedOf (now shared) .slots) × (length (now sizes) ≡ sharedOf (now shared) .slots) ⌝ }
     requires { ⌜ total (stateOf (now own) .verdicts) < mostVerdicts ⌝ }

@@ -124,7 +124,17 @@ pub extern "C" fn obikuteru_pair_arrival_of(
         return 108;
     }
     arrive(
-        shared, own, other, second, handles, sizes, clock, handle, size, ecn, u,
+        shared,
+        own,
+        other,
+        second,
+        handles,
+        sizes,
+        clock,
+        handle,
+        size,
+        ecn,
+        u,
     )
 }
 

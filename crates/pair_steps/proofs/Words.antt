@@ -18,6 +18,7 @@ use Rattle.pie.specs.declared.Verdict.{Verdict}
 use Rattle.pie.specs.declared.Verdict.the-variants.{Enqueued, Marked, DroppedBytes, DroppedSlots, DroppedEarly}
 use Rattle.store.specs.Following.{followed}
 use Rattle.store.specs.Take.{storeAfterTake}
+use Rattle.store.specs.declared.Store.{Store}
 use Rattle.pair_state.specs.Queues.{storing}
 use Rattle.pair.specs.Arrival.{arrivedPie, arrivedState}
 use Rattle.pair.specs.Departure.{departedState}
@@ -166,6 +167,14 @@ admitted-words clock size place v e =
     go DroppedBytes e f = absurd (false≢true e)
     go DroppedSlots e f = absurd (false≢true e)
     go DroppedEarly e f = absurd (false≢true e)
+
+-- the store's words: used, freed, spare
+pub stored-words : (store : Store) (w : List ℕ) → length w ≡ 6 →
+    set (set (set w 3 (store .used)) 4 (store .freed)) 5 (store .spare) ≡ sharedWords (storing (sharedOf w) store)
+unfolding sharedOf sharedWords
+stored-words store =
+    for-shared (λ w. set (set (set w 3 (store .used)) 4 (store .freed)) 5 (store .spare) ≡ sharedWords (storing (sharedOf w) store))
+    (λ f. refl)
 
 -- a shared record and its words determine each other
 pub same-shared : (w : List ℕ) → length w ≡ 6 → w ≡ sharedWords (sharedOf w)

@@ -1,4 +1,3 @@
 -- The records of two queues as words, and an answer as a number.
 pub mod Words
 pub mod Codes
-pub mod Changed

@@ -1,4 +1,4 @@
-// The records of two queues as words that are lent (include/obikuteru.h): those that a call reads, their test, and those that it writes.
+// The records of two queues as words that are lent (include/obikuteru.h), and their test.
 use refusals::Refusal;
 ghost use mathlib.Core.Path.{_≡_};
 ghost use Prim.Native.Nat.{_+_};
@@ -13,10 +13,6 @@ pub use words::decode_shared;
 pub use words::encode;
 pub use words::encode_shared;
 pub use words::named;
-pub use words::write_arrival;
-pub use words::write_departure;
-pub use words::write_store;
-pub use words::write_tick;
 
 // The number of a refusal, with 100.
 pub fn refused(r: Refusal) -> u32

@@ -1,4 +1,4 @@
-// The records as words: those that a call is lent, and those that it writes back.
+// The records that words hold, and the words of fresh ones.
 use pair_state::Reserves;
 use pair_state::Settings;
 use pair_state::Shared;
@@ -7,7 +7,6 @@ use pair_state::Which;
 use pie::Backlog;
 use pie::Pie;
 use pie::Rate;
-use pie::Verdict;
 use store::Ends;
 use store::Store;
 use units::Bytes;
@@ -15,12 +14,8 @@ use units::Micros;
 use units::Prob;
 ghost use mathlib.Core.Path.{_≡_};
 ghost use mathlib.Core.List.{[], _∷_};
-ghost use Prim.Native.Nat.{_+_, _<_};
-ghost use lib.ListN.{getD, length};
-ghost use Rattle.pie.specs.Constants.{mostVerdicts};
-ghost use Rattle.pie.specs.Verdicts.{placeOf};
-ghost use Rattle.pair_words.specs.Changed.{arrivalWords, departureWords, storeWords, tickWords};
-ghost use Rattle.pair_words.specs.Words.{flagWord, sharedOf, sharedWords, stateOf, stateWords, whichOf};
+ghost use lib.ListN.{length};
+ghost use Rattle.pair_words.specs.Words.{sharedOf, sharedWords, stateOf, stateWords, whichOf};
 
 // The queue that a call names.
 pub fn named(second: bool) -> Which
@@ -139,74 +134,4 @@ pub fn encode(w: &mut [u64; 21], s: State)
         v3,
         v4,
     ];
-}
-
-// The word of the flag `measuring`, left as it is where it says so already.
-fn flag(word: u64, said: bool) -> u64
-    ensures { λ r. ⌜ r ≡ flagWord word said ⌝ }
-{
-    let set = word != 0;
-    if set {
-        if said {
-            return word;
-        }
-        return 0;
-    }
-    said as u64
-}
-
-// The words of the shared record that change with a packet.
-pub fn write_store(w: &mut [u64; 6], store: Store)
-    ensures { λ _. ⌜ now (w .exit) ≡ storeWords (now (w .entry)) store ⌝ }
-{
-    w[3] = store.used;
-    w[4] = store.freed;
-    w[5] = store.spare;
-}
-
-// The words of the called queue that an arrival with this verdict changes.
-pub fn write_arrival(w: &mut [u64; 21], s: State, v: Verdict) -> u32
-    requires { ⌜ getD (now w) (16 + placeOf v) 0 < mostVerdicts ⌝ }
-    ensures { λ r. ⌜ r ≡ placeOf v ⌝ }
-    ensures { λ _. ⌜ now (w .exit) ≡ arrivalWords (now (w .entry)) s v ⌝ }
-{
-    let place = v.place();
-    let at = 16 + place;
-    w[2] = s.clock.0;
-    w[7] = s.pie.accumulated.0;
-    w[12] = s.backlog.count;
-    w[13] = s.backlog.bytes.0;
-    w[14] = s.ends.head;
-    w[15] = s.ends.tail;
-    w[at] = w[at] + 1;
-    place as u32
-}
-
-// Those that a departure changes. A measurement that has counted bytes goes on, and its other words stay.
-pub fn write_departure(w: &mut [u64; 21], s: State)
-    ensures { λ _. ⌜ now (w .exit) ≡ departureWords (now (w .entry)) s ⌝ }
-{
-    let rate = s.pie.rate;
-    w[11] = rate.counted.0;
-    let anew = rate.counted.0 == 0;
-    if anew {
-        w[8] = rate.average.0;
-        w[9] = flag(w[9], rate.measuring);
-        w[10] = rate.start.0;
-    }
-    w[2] = s.clock.0;
-    w[12] = s.backlog.count;
-    w[13] = s.backlog.bytes.0;
-    w[14] = s.ends.head;
-}
-
-// Those that a tick changes.
-pub fn write_tick(w: &mut [u64; 21], s: State)
-    ensures { λ _. ⌜ now (w .exit) ≡ tickWords (now (w .entry)) s ⌝ }
-{
-    w[2] = s.clock.0;
-    w[3] = s.last.0;
-    w[4] = s.pie.prob.0;
-    w[5] = s.pie.old.0;
-    w[6] = s.pie.allowance.0;
 }

@@ -129,7 +129,10 @@ arrive-requires c κs =
     let n = total (stateOf (now (a .own)) .verdicts) in
     let low : n ≤ mostVerdicts = counted e1 in
     let room : n ≢ mostVerdicts = eqb-false n mostVerdicts (sym (e3 .before .counts-full .ensures) ∙ e3 .if3 .left) in
-    (formed e1, ((eqb-true _ _ (and-left h z fit), eqb-true _ _ (and-right h z fit)), omega (arith, low, room)))
+    let long = e1 .before .records-fit .ensures .1 (not-false _ (e1 .if1 .left)) in (
+      (long .0, long .1),
+      (formed e1, ((eqb-true _ _ (and-left h z fit), eqb-true _ _ (and-right h z fit)), omega (arith, low, room))),
+    )
 
 same-length : tie.Need-same-length
 same-length c = search needs

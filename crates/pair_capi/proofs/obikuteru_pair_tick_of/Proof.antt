@@ -19,7 +19,9 @@ returns c =
     (refl, refl)
 
 tick-requires : tie.Need-tick-requires
-tick-requires c κs = sym (c .before .before .records-fit .ensures .0) ∙ not-false _ (c .before .if1 .left)
+tick-requires c κs =
+    let f = c .before .before .records-fit .ensures in
+    let fits = not-false _ (c .before .if1 .left) in (f .1 fits .1, sym (f .0) ∙ fits)
 
 returns-2 : tie.Need-returns-2
 returns-2 c = search needs

@@ -1,7 +1,7 @@
 use borrow.Author.Needs.{needs}
 use Rattle.pair_burst.proofs.known.of_queue.Statement.{statement}
 use Rattle.pair_burst.proofs.known.of_queue.Tie as tie
-use mathlib.Core.Path.{_∙_}
+use mathlib.Core.Path.{_∙_, refl}
 use denote.Ref.{now}
 use Rattle.pair_words.specs.Words.{pairOf, whichOf}
 use Rattle.pair_burst.proofs.Steps.{arrival-step, departure-small, departure-step, tick-step}
@@ -80,7 +80,7 @@ returns c =
     _ _ _ _ _ (c .wide .ensures ∙ e .0) (e .1) (e .2) (e .3) (e .4)
 
 depart-requires : tie.Need-depart-requires
-depart-requires c κs = let b = c .before .before .before .before .before .before .before .before .before .before .before .before .before .pre .1 in (b .0, b .1 .0)
+depart-requires c κs = let b = c .before .before .before .before .before .before .before .before .before .before .before .before .before .pre .1 in (b .0, (b .1 .0, (b .1 .1 .0, refl)))
 
 array-read-word : tie.Need-array-read-word
 array-read-word c = search needs
@@ -117,7 +117,7 @@ returns-2 c =
     _ _ _ _ (rw (e .0, e .4) at (c .word .ensures)) (e .1) (e .2) (e .3)
 
 tick-requires : tie.Need-tick-requires
-tick-requires c κs = c .before .before .before .before .before .before .before .before .before .before .pre .1 .0
+tick-requires c κs = let b = c .before .before .before .before .before .before .before .before .before .before .pre .1 in (b .0 .1, b .1 .0)
 
 wide-requires-2 : tie.Need-wide-requires-2
 wide-requires-2 c κs = search needs

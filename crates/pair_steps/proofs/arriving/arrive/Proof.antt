@@ -28,8 +28,8 @@ use Rattle.pair.proofs.WhenAccepted.{Known, admitted-room, known, room}
 use Rattle.pair_words.specs.Words.{sharedOf, stateOf, whichOf}
 use Rattle.pair_words.proofs.Written.{count-word}
 use Rattle.pair_steps.specs.Written.{enteredWords, settledWords}
-use Rattle.pair_steps.proofs.Replies.{Fit, Made, admitted-gives, arrival-late, arrival-lost, arrival-made, arrival-size, dropped-gives}
-use Rattle.pair_steps.proofs.Replies.{tables-fit}
+use Rattle.pair_steps.proofs.Replies.{Fit, Made, admitted-gives, dropped-gives, tables-fit}
+use Rattle.pair_steps.proofs.Replies.{arrival-late, arrival-lost, arrival-made, arrival-size}
 use Rattle.pair_steps.proofs.Words.{admitted-words, dropped-words, past-entered, same-shared}
 use Rattle.pair_steps.proofs.arriving.arrive.Statement.{statement}
 use Rattle.pair_steps.proofs.arriving.arrive.Tie as tie
@@ -250,7 +250,8 @@ returns-5 c =
     let kept : freedRefused (shared a) (now (a .args .sizes)) v ≡ false = rw (admits-it e3, link) in
     let g = n .enter .ensures in
     admitted-gives (shared a) (own a) (other a) (now (a .args .handles)) (now (a .args .sizes)) (a .args .clock)
-    (a .args .size) (a .args .ecn) (a .args .u) v (which a) (made d kept) (admits-it e3) (a .args .handle) _ (now (a .args .shared)) _ ow _ _ _
+    (a .args .size) (a .args .ecn) (a .args .u) v (which a) (made d kept) (admits-it e3) (a .args .handle) _
+    (now (a .args .shared)) _ ow _ _ _
     (c .settle2 .ensures .0)
     (g .0)
     (c .settle2 .ensures .1

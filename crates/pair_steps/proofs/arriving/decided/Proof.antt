@@ -51,10 +51,9 @@ decide-requires c κs =
     let d = x .before in
     let n = d .before .before in
     let b = n .before in
-    let a = b .args in
-    (
+    let a = b .args in (
       seen-formed (a .second) (now (a .shared)) (now (a .own)) (now (a .other)) _ _ _ _ _ (n .named .ensures) (d .decode-shared .ensures .0)
-      (x .facing .ensures) (o .decode .ensures .0) (c .decode2 .ensures .0) (b .pre .0),
+          (x .facing .ensures) (o .decode .ensures .0) (c .decode2 .ensures .0) (b .pre .0),
       b .pre .1,
     )
 
@@ -65,11 +64,10 @@ returns c =
     let x = o .before .before in
     let d = x .before in
     let n = d .before .before in
-    let a = n .before .args in
-    (
+    let a = n .before .args in (
       c .decide .ensures .0
-      ∙ seen-verdict (a .second) (now (a .shared)) (now (a .own)) (now (a .other)) _ _ _ _ _ (n .named .ensures)
-      (d .decode-shared .ensures .0) (x .facing .ensures) (o .decode .ensures .0) (t .decode2 .ensures .0) (a .size) (a .ecn) (a .u),
+          ∙ seen-verdict (a .second) (now (a .shared)) (now (a .own)) (now (a .other)) _ _ _ _ _ (n .named .ensures)
+          (d .decode-shared .ensures .0) (x .facing .ensures) (o .decode .ensures .0) (t .decode2 .ensures .0) (a .size) (a .ecn) (a .u),
       rw (o .decode .ensures .0) at (c .decide .ensures .1),
     )
 

@@ -12,7 +12,7 @@ use Rattle.store.specs.declared.Ends.{Ends}
 use Rattle.store.specs.declared.Store.{Store}
 use Rattle.pair_state.specs.Queues.{storing}
 use Rattle.pair_words.specs.Words.{endsOf, sharedOf, sharedWords}
-use Rattle.pair_words.proofs.Written.{store-words}
+use Rattle.pair_steps.proofs.Words.{stored-words}
 use Rattle.pair_steps.proofs.arriving.enter.Statement.{statement}
 use Rattle.pair_steps.proofs.arriving.enter.Tie as tie
 
@@ -110,9 +110,8 @@ returns c =
     let ends = at-ends c .put2 in
     let packet = at-packet c .write-packet .ensures in
     let counted = set ow 12 (getD ow 12 0 + 1) in
-    let held = set counted 13 (getD counted 13 0 + a .args .size) in
-    (
-      store-words sh (put .result) (a .pre .0 .0) ∙ ap (λ (s : Store). sharedWords (storing (sharedOf sh) s)) (put .ensures),
+    let held = set counted 13 (getD counted 13 0 + a .args .size) in (
+      stored-words (put .result) sh (a .pre .0 .0) ∙ ap (λ (s : Store). sharedWords (storing (sharedOf sh) s)) (put .ensures),
       (
         ap (λ (e : Ends). set (set held 14 (e .head)) 15 (e .tail)) (ends .ensures ∙ ap (endsAfterPut (endsOf ow) (getD ow 12 0)) f),
         (

@@ -21,7 +21,8 @@ use Rattle.pair_state.proofs.Symmetry.{well-formed-seen}
 use Rattle.pair.specs.Departure.{headHandle, headSize, headWordRefused}
 use Rattle.pair.proofs.WhenAccepted.{Known, known}
 use Rattle.pair_words.specs.Words.{sharedOf, stateOf, whichOf}
-use Rattle.pair_steps.proofs.Replies.{Fit, departed-gives, departure-empty, departure-late, departure-made, departure-wrong, tables-fit}
+use Rattle.pair_steps.proofs.Replies.{Fit, departed-gives, tables-fit}
+use Rattle.pair_steps.proofs.Replies.{departure-empty, departure-late, departure-made, departure-wrong}
 use Rattle.pair_steps.proofs.Words.{departed-words, left-long, left-rate, taken-words}
 use Rattle.pair_steps.proofs.departing.depart.Statement.{statement}
 use Rattle.pair_steps.proofs.departing.depart.Tie as tie

@@ -1,97 +1,126 @@
+-- `tick`: the tests in their order, then the words in which the new state differs.
 use borrow.Author.Needs.{needs}
+use mathlib.Core.Path.{refl, sym, _∙_}
+use native.Mathlib.Omega.{arith}
+use denote.Ref.{now}
+use Rattle.pair_state.specs.declared.Shared.{Shared}
+use Rattle.pair_state.specs.declared.State.{State}
+use Rattle.pair_state.specs.declared.Which.{Which}
+use Rattle.pair_state.proofs.Symmetry.{well-formed-seen}
+use Rattle.pair.proofs.WhenAccepted.{Known, known}
+use Rattle.pair_words.specs.Words.{sharedOf, stateOf, whichOf}
+use Rattle.pair_steps.proofs.Replies.{tick-early, tick-late, tick-made, ticked-gives}
+use Rattle.pair_steps.proofs.Words.{ticked-words}
 use Rattle.pair_steps.proofs.ticking.tick.Statement.{statement}
 use Rattle.pair_steps.proofs.ticking.tick.Tie as tie
-use Rattle.pair_steps.proofs.ticking.tick.Reads as reads
-use Rattle.pair_steps.proofs.ticking.tick.Lts as lts
-use Rattle.pie.proofs.Pie.update.Reads as update-reads
 
--- src/ticking.rt:30:32
+abbrev shared : tie.Start → Shared
+shared a = sharedOf (now (a .args .shared))
+
+abbrev own : tie.Start → State
+own a = stateOf (now (a .args .own))
+
+abbrev other : tie.Start → State
+other a = stateOf (now (a .args .other))
+
+abbrev which : tie.Start → Which
+which a = whichOf (a .args .second)
+
+known-of : (a : tie.Start) → Known (shared a .slots) (shared a .store) (own a)
+known-of a = known (which a) (shared a) (own a) (other a) (sym (well-formed-seen (which a) (shared a) (own a) (other a)) ∙ a .pre .1)
+
 element-copy-out-wrong-clock : tie.Need-element-copy-out-wrong-clock
 element-copy-out-wrong-clock c = search needs
 
--- src/ticking.rt:32:9
 returns : tie.Need-returns
-returns c = ?
+unfolding stateOf
+returns c =
+    let a = c .before .before in
+    rw (tick-late (shared a) (own a) (other a) (a .args .clock) (which a) (a .pre .1) (c .if1 .taken)) (refl, refl)
 
--- src/ticking.rt:34:28
 element-copy-out-too-soon : tie.Need-element-copy-out-too-soon
 element-copy-out-too-soon c = search needs
 
--- src/ticking.rt:34:28
 add-too-soon : tie.Need-add-too-soon
-add-too-soon c = ?
+unfolding stateOf
+add-too-soon c = let k = known-of (c .before .before .before) in omega (arith, k .own .last-high, k .own .clock-high)
 
--- src/ticking.rt:36:9
 returns-2 : tie.Need-returns-2
-returns-2 c = ?
+unfolding stateOf
+returns-2 c =
+    let e1 = c .before .before in
+    let a = e1 .before .before in
+    rw (tick-early (shared a) (own a) (other a) (a .args .clock) (which a) (a .pre .1) (e1 .if1 .left) (c .if2 .taken)) (refl, refl)
 
--- src/ticking.rt:39:25
 element-copy-out-t18 : tie.Need-element-copy-out-t18
 element-copy-out-t18 c = search needs
 
--- src/ticking.rt:40:20
 element-copy-out-t13 : tie.Need-element-copy-out-t13
 element-copy-out-t13 c = search needs
 
--- src/ticking.rt:41:23
 element-copy-out-t26 : tie.Need-element-copy-out-t26
 element-copy-out-t26 c = search needs
 
--- src/ticking.rt:42:24
 element-copy-out-t30 : tie.Need-element-copy-out-t30
 element-copy-out-t30 c = search needs
 
--- src/ticking.rt:45:20
 element-copy-out-t18-2 : tie.Need-element-copy-out-t18-2
 element-copy-out-t18-2 c = search needs
 
--- src/ticking.rt:46:21
 element-copy-out-t13-2 : tie.Need-element-copy-out-t13-2
 element-copy-out-t13-2 c = search needs
 
--- src/ticking.rt:47:27
 element-copy-out-t30-2 : tie.Need-element-copy-out-t30-2
 element-copy-out-t30-2 c = search needs
 
--- src/ticking.rt:48:27
 element-copy-out-t26-2 : tie.Need-element-copy-out-t26-2
 element-copy-out-t26-2 c = search needs
 
--- src/ticking.rt:51:41
 element-copy-out-t18-3 : tie.Need-element-copy-out-t18-3
 element-copy-out-t18-3 c = search needs
 
--- src/ticking.rt:51:56
 element-copy-out-t13-3 : tie.Need-element-copy-out-t13-3
 element-copy-out-t13-3 c = search needs
 
--- src/ticking.rt:51:9
-update-requires : tie.Need-update-requires
-update-requires c κs = ?
+abbrev at-two : tie.After-t133 → tie.Else2
+at-two c = c .before .before .before .before .before .before .before .before .before .before
 
--- src/ticking.rt:52:5
+abbrev at-start : tie.After-t133 → tie.Start
+at-start c = at-two c .before .before .before .before
+
+update-requires : tie.Need-update-requires
+unfolding stateOf
+update-requires c κs =
+    let k = known-of (at-start c) in (
+      (k .own .prob-high, k .own .old-high, k .own .average-high),
+      (k .own .target-high, omega (arith, k .own .bytes-fit, k .own .buffer-high)),
+    )
+
 element-write-own : tie.Need-element-write-own
 element-write-own c = search needs
 
--- src/ticking.rt:53:5
 element-write-own-2 : tie.Need-element-write-own-2
 element-write-own-2 c = search needs
 
--- src/ticking.rt:54:5
 element-write-own-3 : tie.Need-element-write-own-3
 element-write-own-3 c = search needs
 
--- src/ticking.rt:55:5
 element-write-own-4 : tie.Need-element-write-own-4
 element-write-own-4 c = search needs
 
--- src/ticking.rt:56:5
 element-write-own-5 : tie.Need-element-write-own-5
 element-write-own-5 c = search needs
 
--- src/ticking.rt:17:1
 returns-3 : tie.Need-returns-3
-returns-3 c = ?
+unfolding stateOf
+returns-3 c =
+    let e2 = at-two (c .before) in
+    let e1 = e2 .before .before in
+    let a = at-start (c .before) in
+    let ow = now (a .args .own) in
+    let made = tick-made (shared a) (own a) (other a) (a .args .clock) (which a) (a .pre .1) (e1 .if1 .left) (e2 .if2 .left) in
+    ticked-gives (which a) (shared a) (own a) (other a) (a .args .clock) ow _ made
+    (rw (c .update .ensures) (ticked-words (a .args .clock) ow (a .pre .0)))
 
 pub tick-spec : {M : Type 1} → statement M
 tick-spec =

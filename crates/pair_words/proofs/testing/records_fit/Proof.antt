@@ -51,11 +51,10 @@ returns c =
     let d = x .before in
     let n = d .before .before in
     let a = n .before .args in
-    (
-      fails (a .second) (now (a .shared)) (now (a .own)) (now (a .other)) _ _ _ _ _ (n .named .ensures) (d .decode-shared .ensures .0) (x .facing .ensures) refl refl _ _ (λ h. h .shared)
-      (c .before .fits2 .ensures) (c .if1 .taken),
-      λ e. absurd (false≢true e),
-    )
+    let no =
+    fails (a .second) (now (a .shared)) (now (a .own)) (now (a .other)) _ _ _ _ _ (n .named .ensures) (d .decode-shared .ensures .0)
+    (x .facing .ensures) refl refl _ _ (λ h. h .shared) (c .before .fits2 .ensures) (c .if1 .taken) in
+    (no, λ e. absurd (false≢true e))
 
 decode-requires : tie.Need-decode-requires
 decode-requires c κs = search needs
@@ -74,17 +73,17 @@ returns-2 c =
     let d = x .before in
     let n = d .before .before in
     let a = n .before .args in
-    (
-      fails (a .second) (now (a .shared)) (now (a .own)) (now (a .other)) _ _ _ _ _ (n .named .ensures) (d .decode-shared .ensures .0) (x .facing .ensures) refl (t .decode .ensures .0) _ _
-      (λ h. h .passengers) (c .before .fits3 .ensures) (c .if2 .taken),
-      λ e. absurd (false≢true e),
-    )
+    let no =
+    fails (a .second) (now (a .shared)) (now (a .own)) (now (a .other)) _ _ _ _ _ (n .named .ensures) (d .decode-shared .ensures .0)
+    (x .facing .ensures) refl (t .decode .ensures .0) _ _ (λ h. h .passengers) (c .before .fits3 .ensures) (c .if2 .taken) in
+    (no, λ e. absurd (false≢true e))
 
 decode-requires-2 : tie.Need-decode-requires-2
 decode-requires-2 c κs = search needs
 
 fits-requires-3 : tie.Need-fits-requires-3
-fits-requires-3 c κs = let e1 = c .before .before .before .before .before .before in shared-fits (e1 .before .before .facing .result) (fine e1) .slots-high
+fits-requires-3 c κs =
+    let e1 = c .before .before .before .before .before .before in shared-fits (e1 .before .before .facing .result) (fine e1) .slots-high
 
 returns-3 : tie.Need-returns-3
 returns-3 c =
@@ -94,11 +93,11 @@ returns-3 c =
     let d = x .before in
     let n = d .before .before in
     let a = n .before .args in
-    (
-      fails (a .second) (now (a .shared)) (now (a .own)) (now (a .other)) _ _ _ _ _ (n .named .ensures) (d .decode-shared .ensures .0) (x .facing .ensures) (o .decode2 .ensures .0)
-      (t .decode .ensures .0) _ _ (λ h. h .intercom) (c .before .fits4 .ensures) (c .if3 .taken),
-      λ e. absurd (false≢true e),
-    )
+    let no =
+    fails (a .second) (now (a .shared)) (now (a .own)) (now (a .other)) _ _ _ _ _ (n .named .ensures) (d .decode-shared .ensures .0)
+    (x .facing .ensures) (o .decode2 .ensures .0) (t .decode .ensures .0) _ _ (λ h. h .intercom) (c .before .fits4 .ensures)
+    (c .if3 .taken) in
+    (no, λ e. absurd (false≢true e))
 
 holds-requires : tie.Need-holds-requires
 holds-requires c κs =
@@ -119,13 +118,12 @@ returns-4 c =
     let x = e1 .before .before in
     let d = x .before in
     let n = d .before .before in
-    let a = n .before .args in
-    (
+    let a = n .before .args in (
       decides (a .second) (now (a .shared)) (now (a .own)) (now (a .other)) _ _ _ _ _ (n .named .ensures) (d .decode-shared .ensures .0)
-      (x .facing .ensures) (o .decode2 .ensures .0) (t .decode .ensures .0) _ (fine e1)
-      (sym (e3 .before .fits4 .ensures) ∙ not-false _ (e3 .if3 .left))
-      (sym (e2 .before .fits3 .ensures) ∙ not-false _ (e2 .if2 .left))
-      (c .holds .ensures),
+          (x .facing .ensures) (o .decode2 .ensures .0) (t .decode .ensures .0) _ (fine e1)
+          (sym (e3 .before .fits4 .ensures) ∙ not-false _ (e3 .if3 .left))
+          (sym (e2 .before .fits3 .ensures) ∙ not-false _ (e2 .if2 .left))
+          (c .holds .ensures),
       λ e. (d .decode-shared .ensures .1, o .decode2 .ensures .1, t .decode .ensures .1),
     )
 
