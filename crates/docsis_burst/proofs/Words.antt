@@ -3,11 +3,14 @@ use mathlib.Core.Path.{_≡_, refl, subst⁻¹}
 use mathlib.Core.Bool.{Bool, true, false, cond}
 use mathlib.Core.List.{List}
 use Prim.Native.Nat.{ℕ, _+_, _-_, _%_, min}
+use native.Mathlib.Omega.{arith}
+use lib.Dec.{ltb}
 use lib.ListN.{getD, length, set}
+use borrow.Author.Tests.{ltb-false}
 use Rattle.units.specs.Kinds.{none}
 use Rattle.pie.specs.Backlog.{entered}
 use Rattle.pie.specs.Verdicts.{admitted}
-use Rattle.docsis_pie.specs.Constants.{active, fullAllowance, high, quiescent}
+use Rattle.docsis_pie.specs.Constants.{active, fullAllowance, high, period, quiescent}
 use Rattle.docsis_pie.specs.DropDecision.{summed, withAccumulated, withActivity, withAllowance}
 use Rattle.docsis_pie.specs.Update.{updated}
 use Rattle.docsis_pie.specs.declared.Decided.{Decided}
@@ -105,23 +108,35 @@ arrived-words clock size d =
     go f true = refl
     go f false = refl
 
--- all but settings, accumulated probability, first place and backlog
+-- what the rules of a tick are given: none reads the accumulated probability
+abbrev tickGiven : List ℕ → (credits : ℕ) → DocsisPie
+tickGiven w credits =
+    updated (withAccumulated (pieOf w) none) (getD w 0 0) (getD w 15 0) credits (getD w 3 0) (getD w 4 0)
+
+-- both clocks, probability, old delay, reset time and activity
 abbrev tickWritten : List ℕ → (clock : ℕ) → DocsisPie → List ℕ
 tickWritten w clock next =
     let early = set (set (set w 5 clock) 6 clock) 7 (next .prob .0) in
-    let late = set (set early 9 (next .old .0)) 10 (next .allowance .0) in
-    set (set late 11 (next .phase .reset .0)) 12 (next .phase .activity .0)
+    set (set (set early 9 (next .old .0)) 11 (next .phase .reset .0)) 12 (next .phase .activity .0)
 
 pub ticked-words : (clock credits : ℕ) (w : List ℕ) → length w ≡ 16 →
-    tickWritten w clock (updated (pieOf w) (getD w 0 0) (getD w 15 0) credits (getD w 3 0) (getD w 4 0))
-    ≡ stateWords (tickedState (stateOf w) clock credits)
+    set (tickWritten w clock (tickGiven w credits)) 10 (tickGiven w credits .allowance .0) ≡ stateWords (tickedState (stateOf w) clock credits)
 unfolding stateOf stateWords tickedState updated
 ticked-words clock credits =
     for-words
     (λ w.
-    tickWritten w clock (updated (pieOf w) (getD w 0 0) (getD w 15 0) credits (getD w 3 0) (getD w 4 0))
+    set (tickWritten w clock (tickGiven w credits)) 10 (tickGiven w credits .allowance .0)
     ≡ stateWords (tickedState (stateOf w) clock credits))
     (λ f. refl)
+
+-- an allowance of 0 stays
+pub idle-words : (clock credits : ℕ) (w : List ℕ) → length w ≡ 16 → ltb 0 (getD w 10 0) ≡ false →
+    tickWritten w clock (tickGiven w credits) ≡ stateWords (tickedState (stateOf w) clock credits)
+unfolding stateOf stateWords tickedState updated
+idle-words clock credits =
+    for-words
+    (λ w. ltb 0 (getD w 10 0) ≡ false → tickWritten w clock (tickGiven w credits) ≡ stateWords (tickedState (stateOf w) clock credits))
+    (λ f e. let n : f 10 - period ≡ f 10 = omega (arith, ltb-false 0 (f 10) e) in rw n)
 
 -- clock, first place, count and bytes
 pub departed-words : (clock size : ℕ) (w : List ℕ) → length w ≡ 16 →

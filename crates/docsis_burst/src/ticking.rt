@@ -20,7 +20,7 @@ ghost use Rattle.docsis_flow.specs.Tick.{tick};
 ghost use Rattle.docsis_capi.specs.Codes.{codeOf};
 ghost use Rattle.docsis_capi.specs.Words.{stateOf, stateWords};
 
-// The flow's row is only known to fit.
+// The flow's row is only known to fit. No rule of a tick reads the accumulated probability, and an allowance of 0 stays.
 pub(crate) fn tick(w: &mut [u64; 16], clock: u64, credits: u64) -> u64
     requires { ⌜ (length (now w) ≡ 16) × (formed (stateOf (now w)) ≡ true) ⌝ }
     ensures { λ r. ⌜ ((row : List ℕ) → total row ≤ mostVerdicts →
@@ -35,13 +35,14 @@ pub(crate) fn tick(w: &mut [u64; 16], clock: u64, credits: u64) -> u64
     if too_soon {
         return 105;
     }
+    let runs = 0 < w[10];
     let phase = Phase {
         activity: Activity(w[12]),
         reset: Micros(w[11]),
     };
     let pie = DocsisPie {
         prob: Prob(w[7]),
-        accumulated: Prob(w[8]),
+        accumulated: Prob::NONE,
         old: Micros(w[9]),
         allowance: Micros(w[10]),
         phase,
@@ -57,8 +58,10 @@ pub(crate) fn tick(w: &mut [u64; 16], clock: u64, credits: u64) -> u64
     w[6] = clock;
     w[7] = next.prob.0;
     w[9] = next.old.0;
-    w[10] = next.allowance.0;
     w[11] = next.phase.reset.0;
     w[12] = next.phase.activity.0;
+    if runs {
+        w[10] = next.allowance.0;
+    }
     0
 }

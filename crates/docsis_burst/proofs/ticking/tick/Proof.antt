@@ -9,7 +9,7 @@ use Rattle.docsis_flow.proofs.Facts.{facts}
 use Rattle.docsis_capi.specs.Words.{stateOf}
 use Rattle.docsis_capi.proofs.Changed.{kept}
 use Rattle.docsis_burst.proofs.Replies.{tick-early, tick-late, tick-made}
-use Rattle.docsis_burst.proofs.Words.{ticked-words}
+use Rattle.docsis_burst.proofs.Words.{idle-words, ticked-words}
 
 element-copy-out-wrong-clock : tie.Need-element-copy-out-wrong-clock
 element-copy-out-wrong-clock c = search needs
@@ -33,35 +33,35 @@ returns-2 c =
     let a = c .before .before .before .before in
     λ row fits. rw (tick-early _ row _ (a .pre .1) fits _ (c .before .before .if1 .left) (c .if2 .taken)) (refl, kept _ _ (refl, a .pre .0))
 
-element-copy-out-t16 : tie.Need-element-copy-out-t16
-element-copy-out-t16 c = search needs
+element-copy-out-runs : tie.Need-element-copy-out-runs
+element-copy-out-runs c = search needs
 
-element-copy-out-t11 : tie.Need-element-copy-out-t11
-element-copy-out-t11 c = search needs
+element-copy-out-t12 : tie.Need-element-copy-out-t12
+element-copy-out-t12 c = search needs
 
-element-copy-out-t16-2 : tie.Need-element-copy-out-t16-2
-element-copy-out-t16-2 c = search needs
+element-copy-out-t17 : tie.Need-element-copy-out-t17
+element-copy-out-t17 c = search needs
 
-element-copy-out-t11-2 : tie.Need-element-copy-out-t11-2
-element-copy-out-t11-2 c = search needs
+element-copy-out-t12-2 : tie.Need-element-copy-out-t12-2
+element-copy-out-t12-2 c = search needs
 
-element-copy-out-t31 : tie.Need-element-copy-out-t31
-element-copy-out-t31 c = search needs
+element-copy-out-t17-2 : tie.Need-element-copy-out-t17-2
+element-copy-out-t17-2 c = search needs
 
 element-copy-out-t34 : tie.Need-element-copy-out-t34
 element-copy-out-t34 c = search needs
 
-element-copy-out-t16-3 : tie.Need-element-copy-out-t16-3
-element-copy-out-t16-3 c = search needs
+element-copy-out-t12-3 : tie.Need-element-copy-out-t12-3
+element-copy-out-t12-3 c = search needs
 
 element-copy-out-t34-2 : tie.Need-element-copy-out-t34-2
 element-copy-out-t34-2 c = search needs
 
-element-copy-out-t11-3 : tie.Need-element-copy-out-t11-3
-element-copy-out-t11-3 c = search needs
+element-copy-out-t17-3 : tie.Need-element-copy-out-t17-3
+element-copy-out-t17-3 c = search needs
 
-element-copy-out-t31-2 : tie.Need-element-copy-out-t31-2
-element-copy-out-t31-2 c = search needs
+element-copy-out-t47 : tie.Need-element-copy-out-t47
+element-copy-out-t47 c = search needs
 
 update-requires : tie.Need-update-requires
 unfolding stateOf
@@ -93,10 +93,18 @@ element-write-w-7 c = search needs
 returns-3 : tie.Need-returns-3
 unfolding stateOf
 returns-3 c =
-    let a = c .before .before .before .before .before .before .before .before .before .before .before .before .before .before .before in
+    let a = c .before .before .before .before .before .before .before .before .before .before .before .before .before .before .before .before in
     λ row fits.
-    rw (tick-made _ row _ (a .pre .1) fits _ (c .before .before .before .before .before .before .before .before .before .before .before .before .before .if1 .left) (c .before .before .before .before .before .before .before .before .before .before .before .if2 .left))
-    (refl, rw (c .update .ensures) (ticked-words (a .args .clock) (a .args .credits) (now (a .args .w)) (a .pre .0)))
+    rw (tick-made _ row _ (a .pre .1) fits _ (c .before .before .before .before .before .before .before .before .before .before .before .before .before .before .if1 .left) (c .before .before .before .before .before .before .before .before .before .before .before .before .if2 .left))
+    (refl, rw (c .before .update .ensures) (ticked-words (a .args .clock) (a .args .credits) (now (a .args .w)) (a .pre .0)))
+
+returns-4 : tie.Need-returns-4
+unfolding stateOf
+returns-4 c =
+    let a = c .before .before .before .before .before .before .before .before .before .before .before .before .before .before .before .before in
+    λ row fits.
+    rw (tick-made _ row _ (a .pre .1) fits _ (c .before .before .before .before .before .before .before .before .before .before .before .before .before .before .if1 .left) (c .before .before .before .before .before .before .before .before .before .before .before .before .if2 .left))
+    (refl, rw (c .before .update .ensures) (idle-words (a .args .clock) (a .args .credits) (now (a .args .w)) (a .pre .0) (c .if3 .left)))
 
 pub tick-spec : {M : Type 1} → statement M
 tick-spec =
@@ -107,16 +115,16 @@ tick-spec =
     element-copy-out-too-soon
     add-too-soon
     returns-2
-    element-copy-out-t16
-    element-copy-out-t11
-    element-copy-out-t16-2
-    element-copy-out-t11-2
-    element-copy-out-t31
+    element-copy-out-runs
+    element-copy-out-t12
+    element-copy-out-t17
+    element-copy-out-t12-2
+    element-copy-out-t17-2
     element-copy-out-t34
-    element-copy-out-t16-3
+    element-copy-out-t12-3
     element-copy-out-t34-2
-    element-copy-out-t11-3
-    element-copy-out-t31-2
+    element-copy-out-t17-3
+    element-copy-out-t47
     update-requires
     element-write-w
     element-write-w-2
@@ -125,4 +133,5 @@ tick-spec =
     element-write-w-5
     element-write-w-6
     element-write-w-7
-    returns-3)
+    returns-3
+    returns-4)
