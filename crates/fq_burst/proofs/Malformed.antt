@@ -48,7 +48,8 @@ refused-step q unknown e = (refl, refl)
 word-by : (k : ℕ) (calls : List ℕ) (at : ℕ) → cond (ltb k 4) 102 120 ≡ wordFor (askedBy k calls at)
 word-by k calls at = go (ltb k 2) refl (eqb k 2) refl (eqb k 3) refl
   where
-    go : (a : Bool) → ltb k 2 ≡ a → (b : Bool) → eqb k 2 ≡ b → (d : Bool) → eqb k 3 ≡ d → cond (ltb k 4) 102 120 ≡ wordFor (askedBy k calls at)
+    go : (a : Bool) → ltb k 2 ≡ a → (b : Bool) → eqb k 2 ≡ b → (d : Bool) → eqb k 3 ≡ d →
+        cond (ltb k 4) 102 120 ≡ wordFor (askedBy k calls at)
     go true e b f d g = let h = ltb-true k 2 e in rw (e, lt-ltb k 4 (omega arith)) refl
     go false e true f d g = rw (e, f, lt-ltb k 4 (omega (arith, eqb-true k 2 f))) refl
     go false e false f true g = rw (e, f, g, lt-ltb k 4 (omega (arith, eqb-true k 3 g))) refl

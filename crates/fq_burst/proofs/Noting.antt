@@ -30,7 +30,8 @@ count-low s c h i low =
     let k = kept s c h in
     let next = reply s c .state in
     let p = passes next (k .formed) in
-    bounds (next .common) (flowAt (next .flows) i) (p .common) (each-passes (next .common) (next .flows) (p .flows) i (rw (k .flows-long) low)) .0
+    bounds (next .common) (flowAt (next .flows) i) (p .common)
+    (each-passes (next .common) (next .flows) (p .flows) i (rw (k .flows-long) low)) .0
 
 -- ── a call changes one flow at most ──
 
@@ -51,11 +52,13 @@ module _ (s : State) (h : Sound s) (counts counts' : List ℕ) (gs : List Flow) 
   noted : OneChanged flow (s .flows) gs → counts' ≡ countsOf gs
   noted one = e' ∙ ap (λ l. set l flow (flowAt gs flow .count)) e ∙ counts-noted (s .flows) gs flow one
 
-  pub arrival-noted : (handles sizes : List ℕ) (clock : ℕ) (key : List ℕ) (handle size : ℕ) (ecn : Bool) (u : ℕ) → flow ≡ flowNumber s key →
+  pub arrival-noted : (handles sizes : List ℕ) (clock : ℕ) (key : List ℕ) (handle size : ℕ) (ecn : Bool) (u : ℕ) →
+      flow ≡ flowNumber s key →
       gs ≡ arrival s handles sizes clock key size ecn u .state .flows → counts' ≡ countsOf gs
   arrival-noted handles sizes clock key handle size ecn u n g =
       let changed : OneChanged (flowNumber s key) (s .flows) (arrival s handles sizes clock key size ecn u .state .flows) =
-      by-number (λ (r : Reply). OneChanged (flowNumber s key) (s .flows) (r .state .flows)) s (arrive handles sizes clock key handle size ecn u)
+      by-number (λ (r : Reply). OneChanged (flowNumber s key) (s .flows) (r .state .flows)) s
+      (arrive handles sizes clock key handle size ecn u)
       (λ k some given. none-changed (s .flows) (flowNumber s key))
       (λ none. set-back (s .flows) (flowNumber s key) _ (rw (h .flows-long) (flow-low s key))) in
       noted (rw (n, g) changed)
@@ -63,12 +66,14 @@ module _ (s : State) (h : Sound s) (counts counts' : List ℕ) (gs : List Flow) 
   pub departure-noted : (handles sizes : List ℕ) (clock : ℕ) → flow ≡ flowIn (departure s handles sizes clock .answer) →
       gs ≡ departure s handles sizes clock .state .flows → counts' ≡ countsOf gs
   departure-noted handles sizes clock n g =
-      let changed : OneChanged (flowIn (departure s handles sizes clock .answer)) (s .flows) (departure s handles sizes clock .state .flows) =
+      let changed : OneChanged (flowIn (departure s handles sizes clock .answer)) (s .flows)
+      (departure s handles sizes clock .state .flows) =
       by-number (λ (r : Reply). OneChanged (flowIn (r .answer)) (s .flows) (r .state .flows)) s (depart handles sizes clock)
       (λ k some given. none-changed (s .flows) 0)
       (λ none.
       set-back (s .flows) _ _
-      (rw (h .flows-long) (served-low s (length handles) sizes clock (h .flows-long) (departure-accepted s (length handles) sizes clock none)))) in
+      (rw (h .flows-long) (served-low s (length handles) sizes clock (h .flows-long)
+      (departure-accepted s (length handles) sizes clock none)))) in
       noted (rw (n, g) changed)
 
 pub departed-low : (s : State) → Sound s → (handles sizes : List ℕ) (clock : ℕ) → flowIn (departure s handles sizes clock .answer) < 64

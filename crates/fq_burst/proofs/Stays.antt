@@ -40,12 +40,14 @@ unfolding arrivedSchedule entered
 list-begins s flow v = either (Begins s) (admitted v && not (isListed s flow)) (entered s flow) s (refl, refl) (refl, refl)
 
 counts-raised : (c : Common) (sizes : List ℕ) (clock size : ℕ) (said v : Verdict) → verdict v ≡ verdict said →
-    let t = arrivedCommon c sizes clock size said in (t .settings ≡ c .settings) × (t .last ≡ c .last) × (t .verdicts ≡ raised (c .verdicts) v)
+    let t = arrivedCommon c sizes clock size said in
+    (t .settings ≡ c .settings) × (t .last ≡ c .last) × (t .verdicts ≡ raised (c .verdicts) v)
 unfolding arrivedCommon
 counts-raised c sizes clock size said v e = let same : v ≡ said = cc in rw same (refl, refl, refl)
 
 pub arrival-stays : (s : State) (handles sizes : List ℕ) (clock : ℕ) (key : List ℕ) (handle size : ℕ) (ecn : Bool) (u : ℕ) (v : Verdict)
-    (t : State) → t ≡ arrival s handles sizes clock key size ecn u .state → verdict v ≡ arrival s handles sizes clock key size ecn u .answer →
+    (t : State) → t ≡ arrival s handles sizes clock key size ecn u .state →
+    verdict v ≡ arrival s handles sizes clock key size ecn u .answer →
     ArrivalStays s v t
 arrival-stays s handles sizes clock key handle size ecn u v t e a =
     rw e
@@ -116,7 +118,8 @@ DepartureStays s t =
     × (t .common .store .used ≡ s .common .store .used)
     × (t .common .verdicts ≡ s .common .verdicts)
 
-pub departure-stays : (s : State) (handles sizes : List ℕ) (clock : ℕ) (t : State) → t ≡ departure s handles sizes clock .state → DepartureStays s t
+pub departure-stays : (s : State) (handles sizes : List ℕ) (clock : ℕ) (t : State) → t ≡ departure s handles sizes clock .state →
+    DepartureStays s t
 unfolding departedCommon
 departure-stays s handles sizes clock t e =
     rw e

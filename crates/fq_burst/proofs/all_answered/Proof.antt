@@ -36,7 +36,10 @@ loop-holds c =
     let p = c .before .before .before .before .pre in (omega arith, refl, refl, refl, refl, p .0, p .1 .0)
 
 mul-answered : tie.Need-mul-answered Inv-loop μ-loop
-mul-answered c = omega (arith, c .before .before .before .before .before .before .before .before .before .before .before .before .before .pre .1 .1)
+mul-answered c = omega (
+  arith,
+  c .before .before .before .before .before .before .before .before .before .before .before .before .before .pre .1 .1,
+)
 
 answered-requires : tie.Need-answered-requires Inv-loop μ-loop
 answered-requires c κs =
@@ -88,7 +91,13 @@ same-length-3 c = c .before .loop .inv .1
 returns : tie.Need-returns Inv-loop μ-loop
 returns c =
     let l = c .before .loop in
-    let e : l .i ≡ length (now (c .before .before .before .before .before .before .args .answers)) = omega (arith, l .inv .0, l .inv .1, c .loop-test .left) in rw e at (l .inv .4)
+    let e : l .i ≡ length
+    (now (c .before .before .before .before .before .before .args .answers)) = omega (
+      arith,
+      l .inv .0,
+      l .inv .1,
+      c .loop-test .left,
+    ) in rw e at (l .inv .4)
 
 pub all-answered-spec : {M : Type 1} → statement M
 all-answered-spec =

@@ -73,7 +73,8 @@ same-length c = c .before .loop .inv .1
 returns : tie.Need-returns Inv-loop μ-loop
 returns c q e =
     let l = c .before .loop in
-    let end : l .i ≡ length (now (c .before .before .before .before .args .answers)) = omega (arith, l .inv .0, l .inv .1, c .loop-test .left) in
+    let end : l .i ≡ length
+    (now (c .before .before .before .before .args .answers)) = omega (arith, l .inv .0, l .inv .1, c .loop-test .left) in
     rw end at (l .inv .2 q e)
 
 pub all-refused-spec : {M : Type 1} → statement M

@@ -119,8 +119,10 @@ returns c =
     let a = t .before .before .before .before .before .before in
     let r = c .before .before .before .before .before .arrive .ensures in
     let e = r .0 in (
-      arrival-step (now (a .args .common)) (now (a .args .order)) (now (a .args .flows)) (now (a .args .deficits)) (now (a .args .handles)) (now (a .args .sizes))
-          (now (a .args .calls)) (a .args .at) (t .clock-of .result) (k .key-of .result) (t .clock-of .ensures) (k .key-of .ensures) (f .if1 .taken) _ _ _ _ _ _ _
+      arrival-step (now (a .args .common)) (now (a .args .order)) (now (a .args .flows)) (now (a .args .deficits))
+          (now (a .args .handles)) (now (a .args .sizes))
+          (now (a .args .calls)) (a .args .at) (t .clock-of .result) (k .key-of .result) (t .clock-of .ensures) (k .key-of .ensures)
+          (f .if1 .taken) _ _ _ _ _ _ _
           (c .wide .ensures ∙ e .0) (e .1) (e .2) (e .3) (e .4) (e .5) (e .6),
       r .1,
     )
@@ -142,7 +144,8 @@ word-requires c κs =
     let t = c .before .before .before .before .before .before .before .before .before .before .before .before .before .before in
     let a = t .before .before .before .before .before .before in
     let small =
-    departure-small (now (a .args .common)) (now (a .args .order)) (now (a .args .flows)) (now (a .args .deficits)) (now (a .args .handles)) (now (a .args .sizes)) (t .clock-of .result) in
+    departure-small (now (a .args .common)) (now (a .args .order)) (now (a .args .flows)) (now (a .args .deficits))
+    (now (a .args .handles)) (now (a .args .sizes)) (t .clock-of .result) in
     let e = c .before .before .depart .ensures .0 in (rw (e .0) (small .0), rw (e .6) (small .1), rw (e .6) (small .2))
 
 same-length-3 : tie.Need-same-length-3
@@ -158,8 +161,10 @@ returns-2 c =
     let a = t .before .before .before .before .before .before in
     let r = c .before .before .before .depart .ensures in
     let e = r .0 in (
-      departure-step (now (a .args .common)) (now (a .args .order)) (now (a .args .flows)) (now (a .args .deficits)) (now (a .args .handles)) (now (a .args .sizes))
-          (now (a .args .calls)) (a .args .at) (t .clock-of .result) (t .clock-of .ensures) (f .before .if1 .left) (f .if2 .taken) _ _ _ _ _ _
+      departure-step (now (a .args .common)) (now (a .args .order)) (now (a .args .flows)) (now (a .args .deficits))
+          (now (a .args .handles)) (now (a .args .sizes))
+          (now (a .args .calls)) (a .args .at) (t .clock-of .result) (t .clock-of .ensures) (f .before .if1 .left)
+          (f .if2 .taken) _ _ _ _ _ _
           (rw (e .0, e .6) at (c .word .ensures)) (e .1) (e .2) (e .3) (e .4) (e .5),
       r .1,
     )
@@ -177,8 +182,10 @@ returns-3 c =
     let a = t .before .before .before .before .before .before in
     let r = c .before .update .ensures in
     let e = r .0 in (
-      tick-step (now (a .args .common)) (now (a .args .order)) (now (a .args .flows)) (now (a .args .deficits)) (now (a .args .handles)) (now (a .args .sizes))
-          (now (a .args .calls)) (a .args .at) (t .clock-of .result) (t .clock-of .ensures) (f .before .before .if1 .left) (f .before .if2 .left) (f .if3 .taken) _ _ _
+      tick-step (now (a .args .common)) (now (a .args .order)) (now (a .args .flows)) (now (a .args .deficits)) (now (a .args .handles))
+          (now (a .args .sizes))
+          (now (a .args .calls)) (a .args .at) (t .clock-of .result) (t .clock-of .ensures) (f .before .before .if1 .left)
+          (f .before .if2 .left) (f .if3 .taken) _ _ _
           (c .wide2 .ensures ∙ e .0) (e .1) (e .2),
       a .pre .1 .0 ∙ sym (r .1),
     )
@@ -186,7 +193,8 @@ returns-3 c =
 returns-4 : tie.Need-returns-4
 returns-4 c =
     let a = c .before .before .before .before .before .before .before .before .before .before in (
-      unknown-step (now (a .args .common)) (now (a .args .order)) (now (a .args .flows)) (now (a .args .deficits)) (now (a .args .handles)) (now (a .args .sizes))
+      unknown-step (now (a .args .common)) (now (a .args .order)) (now (a .args .flows)) (now (a .args .deficits))
+          (now (a .args .handles)) (now (a .args .sizes))
           (now (a .args .calls)) (a .args .at) (c .before .before .if1 .left) (c .before .if2 .left) (c .if3 .left),
       a .pre .1 .0,
     )

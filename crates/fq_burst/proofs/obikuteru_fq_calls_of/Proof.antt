@@ -17,14 +17,19 @@ use Rattle.fq_burst.specs.Burst.{fitting}
 use Rattle.fq_burst.proofs.obikuteru_fq_calls_of.Statement.{statement}
 use Rattle.fq_burst.proofs.obikuteru_fq_calls_of.Tie as tie
 
-fit : (c : tie.Else1) → fitting (now (c .before .before .before .before .before .args .calls)) (now (c .before .before .before .before .before .args .answers)) ≡ true
+fit : (c : tie.Else1) →
+    fitting (now (c .before .before .before .before .before .args .calls))
+    (now (c .before .before .before .before .before .args .answers)) ≡ true
 fit c = not-false _ (c .if1 .left)
 
-ten : (c : tie.Else1) → length (now (c .before .before .before .before .before .args .calls)) ≡ 10 * length (now (c .before .before .before .before .before .args .answers))
+ten : (c : tie.Else1) →
+    length (now (c .before .before .before .before .before .args .calls)) ≡ 10 * length
+    (now (c .before .before .before .before .before .args .answers))
 ten c =
     let n = length (now (c .before .before .before .before .before .args .calls)) in
     let whole : n % 10 ≡ 0 = eqb-true _ _ (and-left (eqb (n % 10) 0) _ (fit c)) in
-    let each : n / 10 ≡ length (now (c .before .before .before .before .before .args .answers)) = eqb-true _ _ (and-right (eqb (n % 10) 0) _ (fit c)) in
+    let each : n / 10 ≡ length (now (c .before .before .before .before .before .args .answers)) = eqb-true _ _
+    (and-right (eqb (n % 10) 0) _ (fit c)) in
     omega (arith, mod-add-div n 10)
 
 returns : tie.Need-returns
@@ -51,10 +56,12 @@ begun c = c .before .before .before .before .before .before .before .before .bef
 tested : (c : tie.After-fits2) →
     let a = begun c .args in c .fits2 .result ≡ wellFormed (lent (a .common .now) (a .order .now) (a .deficits .now) (a .flows .now))
 tested c =
-    let l = c .before .before .before .before .before in rw (← (l .before .before .decode .ensures), ← (l .decode-lists .ensures)) (c .fits2 .ensures .0)
+    let l = c .before .before .before .before .before in
+    rw (← (l .before .before .decode .ensures), ← (l .decode-lists .ensures)) (c .fits2 .ensures .0)
 
 all-refused-requires : tie.Need-all-refused-requires
-all-refused-requires c κs = ten (c .before .before .before .before .before .before .before .before .before .before .before .before .before .before)
+all-refused-requires c κs = ten
+    (c .before .before .before .before .before .before .before .before .before .before .before .before .before .before)
 
 same-length : tie.Need-same-length
 same-length c = search needs
@@ -63,7 +70,8 @@ returns-2 : tie.Need-returns-2
 returns-2 c =
     let e = c .before .before .before .before in
     let t = e .before in
-    rw (fit (t .before .before .before .before .before .before .before .before .before .before .before .before)) (refl, c .before .before .all-refused .ensures _ (sym (tested t) ∙ not-true _ (e .if2 .taken)))
+    rw (fit (t .before .before .before .before .before .before .before .before .before .before .before .before))
+    (refl, c .before .before .all-refused .ensures _ (sym (tested t) ∙ not-true _ (e .if2 .taken)))
 
 all-answered-requires : tie.Need-all-answered-requires
 all-answered-requires c κs =
@@ -77,7 +85,10 @@ all-answered-requires c κs =
         deficits-long = w .1;
         formed = sym (tested t) ∙ formed;
       },
-      (t .fits2 .ensures .1 formed, ten (t .before .before .before .before .before .before .before .before .before .before .before .before)),
+      (
+        t .fits2 .ensures .1 formed,
+        ten (t .before .before .before .before .before .before .before .before .before .before .before .before),
+      ),
     )
 
 same-length-2 : tie.Need-same-length-2

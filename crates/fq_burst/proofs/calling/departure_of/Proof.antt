@@ -36,7 +36,8 @@ returns c =
     let n = c .before .before in
     let k = n .before .before in
     let s = k .before .before .before in
-    rw (c .refuse .ensures) (departure-refused (lent s) _ _ _ _ _ (k .check-departure .ensures (lent s) refl (s .pre .0)) (n .checked .given .1))
+    rw (c .refuse .ensures)
+    (departure-refused (lent s) _ _ _ _ _ (k .check-departure .ensures (lent s) refl (s .pre .0)) (n .checked .given .1))
 
 same-length : tie.Need-same-length
 same-length c = search needs

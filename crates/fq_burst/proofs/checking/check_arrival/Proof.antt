@@ -18,7 +18,8 @@ returns-3 c s e formed =
 
 counts-full-requires : tie.Need-counts-full-requires
 counts-full-requires c κs =
-    let s = c .before .before .before .before .before .before .before .before .before in common-fits (s .args .common) (s .pre) .total-high
+    let s = c .before .before .before .before .before .before .before .before .before in
+    common-fits (s .args .common) (s .pre) .total-high
 
 returns-4 : tie.Need-returns-4
 returns-4 c s e formed =

@@ -32,12 +32,14 @@ given c =
     stateOf (c .before .before .decode .result) (c .decode-lists .result) (a .order .now) (a .deficits .now) (a .flows .now)
 
 sound : (c : tie.After-decode-lists) → Sound (given c)
-sound c = rw (c .before .before .decode .ensures, c .decode-lists .ensures) (c .before .before .before .before .before .before .before .before .pre .0)
+sound c = rw (c .before .before .decode .ensures, c .decode-lists .ensures)
+    (c .before .before .before .before .before .before .before .before .pre .0)
 
 cast-flow-of : tie.Need-cast-flow-of
 cast-flow-of c =
     let l = c .before in
-    let k = common-fits (l .before .before .decode .result) (passes (given l) (sound l .formed) .common) in omega (arith, k .settings .salt-high)
+    let k = common-fits (l .before .before .decode .result) (passes (given l) (sound l .formed) .common) in
+    omega (arith, k .settings .salt-high)
 
 flow-of-requires : tie.Need-flow-of-requires
 flow-of-requires c κs = search needs
@@ -59,7 +61,8 @@ note-requires c κs =
     let a = l .before .before .before .before .before .before .before .before .args in
     let call = calls.arrive (a .handles .now) (a .sizes .now) (a .clock) (now (a .key)) (a .handle) (a .size) (a .ecn) (a .u) in (
       f .flow-of .ensures .1,
-      rw (ap (λ (s : State). s .flows) (k .arrival-of .ensures .1)) (count-low (given l) call (sound l) (f .flow-of .result) (f .flow-of .ensures .1)),
+      rw (ap (λ (s : State). s .flows) (k .arrival-of .ensures .1))
+          (count-low (given l) call (sound l) (f .flow-of .result) (f .flow-of .ensures .1)),
     )
 
 enum-known-answer : tie.Need-enum-known-answer
@@ -79,7 +82,8 @@ write-arrived-requires c κs =
     let a = d .before .before .before .before .before .before .args in
     let e = k .arrival-of .ensures in
     let told = sym (ap arrivalAnswer (c .before .before .answer2 .given .1)) ∙ e .0 in
-    let t = arrival-stays (given l) (a .handles .now) (a .sizes .now) (a .clock) (now (a .key)) (a .handle) (a .size) (a .ecn) (a .u) _ _ (e .1) told in
+    let t = arrival-stays (given l) (a .handles .now) (a .sizes .now) (a .clock) (now (a .key)) (a .handle) (a .size) (a .ecn)
+    (a .u) _ _ (e .1) told in
     let high = common-fits (d .decode .result) (passes (given l) (sound l .formed) .common) .total-high in
     rw (← (d .decode .ensures), ← (l .decode-lists .ensures)) ((t .0, t .1, t .2, high), (t .3, t .4))
 

@@ -31,11 +31,13 @@ given c =
     stateOf (c .before .before .decode .result) (c .decode-lists .result) (a .order .now) (a .deficits .now) (a .flows .now)
 
 sound : (c : tie.After-decode-lists) → Sound (given c)
-sound c = rw (c .before .before .decode .ensures, c .decode-lists .ensures) (c .before .before .before .before .before .before .before .before .pre .0)
+sound c = rw (c .before .before .decode .ensures, c .decode-lists .ensures)
+    (c .before .before .before .before .before .before .before .before .pre .0)
 
 departure-of-requires : tie.Need-departure-of-requires
 departure-of-requires c κs =
-    let l = c .before .before .before .before .before in (sound l .formed, l .before .before .before .before .before .before .before .before .pre .1)
+    let l = c .before .before .before .before .before in
+    (sound l .formed, l .before .before .before .before .before .before .before .before .pre .1)
 
 sized-requires-2 : tie.Need-sized-requires-2
 sized-requires-2 c κs = search needs
@@ -49,8 +51,12 @@ note-requires c κs =
     let l = k .before .before .before .before .before .before in
     let a = l .before .before .before .before .before .before .before .before .args in
     let e = k .departure-of .ensures in
-    let low : k .departure-of .result .flow < 64 = rw (e .1) (departed-low (given l) (sound l) (now (a .handles)) (a .sizes .now) (a .clock)) in
-    (low, rw (ap (λ (s : State). s .flows) (e .4)) (count-low (given l) (calls.depart (now (a .handles)) (a .sizes .now) (a .clock)) (sound l) _ low))
+    let low : k .departure-of .result .flow < 64 = rw (e .1)
+    (departed-low (given l) (sound l) (now (a .handles)) (a .sizes .now) (a .clock)) in (
+      low,
+      rw (ap (λ (s : State). s .flows) (e .4))
+          (count-low (given l) (calls.depart (now (a .handles)) (a .sizes .now) (a .clock)) (sound l) _ low),
+    )
 
 enum-known-accepted : tie.Need-enum-known-accepted
 enum-known-accepted c = search needs
@@ -83,7 +89,8 @@ returns c =
     let a = start .args in
     let r = k .departure-of .result in
     let e = k .departure-of .ensures in
-    let given' = sym (e .0) ∙ told-no (r .accepted) _ (departed (r .flow) (r .handle) (r .size)) (c .before .before .accepted .given .1) in
+    let given' = sym (e .0) ∙ told-no (r .accepted) _ (departed (r .flow) (r .handle) (r .size))
+    (c .before .before .accepted .given .1) in
     let same = departure-kept _ _ _ _ _ given' in
     let g =
     not-accepted _ _ _ _ (a .common .now) (a .order .now) (a .deficits .now) (a .flows .now) _ _ _

@@ -58,7 +58,8 @@ add-w c =
     let p = c .before in
     let s = c .before .before .before .before in
     let a = s .args in
-    let high = arrived-count (a .w .now) (a .c) (a .l) (a .v) (p .place .result) (p .place .ensures .0) in omega (arith, high, s .pre .0 .3)
+    let high = arrived-count (a .w .now) (a .c) (a .l) (a .v) (p .place .result) (p .place .ensures .0) in
+    omega (arith, high, s .pre .0 .3)
 
 mul-w-2 : tie.Need-mul-w-2
 mul-w-2 c = search needs
