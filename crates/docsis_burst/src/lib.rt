@@ -1,4 +1,4 @@
-// One entry for a list of calls on one flow of a modem: record and row are tested once, and each call is answered as the single entries would.
+// One entry for a list of calls on one flow: record and row are tested once, and each call is answered as the single entries would.
 use crate::arriving::arrive;
 use crate::departing::depart;
 use crate::numbers::clock_of;
