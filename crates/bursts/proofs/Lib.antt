@@ -1,0 +1,6 @@
+-- A burst of any kind.
+--
+--   InTurn  it is the list of its calls
+--   Steps   one call more, and the numbers of a list that fits
+pub mod InTurn
+pub mod Steps
