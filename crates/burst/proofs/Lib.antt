@@ -1,4 +1,3 @@
 -- What the functions' proofs share.
 pub mod Kept
 pub mod Steps
-pub mod InTurn

@@ -1,9 +1,5 @@
--- What the single entries do with a list of calls, one after the other, each given what the last one left.
-use mathlib.Core.Bool.{Bool, cond, _&&_}
-use mathlib.Core.List.{List}
-use Prim.Native.Nat.{ℕ, zero, suc, _*_, _/_, _%_}
-use lib.Dec.{eqb}
-use lib.ListN.{length, set}
+-- What the single entries do with a call on a ring, and its bursts.
+use Rattle.bursts.specs.Kind.{BurstKind}
 use Rattle.queue.specs.Answer.{Answer, refused}
 use Rattle.steps.specs.Lent.{Lent, answerWord, leaves, replyTo}
 use Rattle.burst.specs.Calls.{Call, asked, callAt, unknown}
@@ -18,29 +14,12 @@ abbrev pub after : Lent → Call → Lent
 after q (asked r) = leaves q r
 after q unknown = q
 
--- what the caller lends, and the answers
-pub record Done : Type 0 where
-  pub lent : Lent
-  pub answers : List ℕ
-
-abbrev pub done : Lent → (answers : List ℕ) → Done
-done q answers = record { lent = q; answers = answers }
-
--- the first n calls, in turn: the answer to each is written at its place
-unfoldable pub burst : Lent → (calls answers : List ℕ) (n : ℕ) → Done
-burst q calls answers zero = record { lent = q; answers = answers }
-burst q calls answers (suc n) =
-    let before = burst q calls answers n in
-    let c = callAt calls (6 * n) in
+-- six numbers for each call
+abbrev pub ringBursts : BurstKind
+ringBursts =
     record {
-      lent = after (before .lent) c;
-      answers = set (before .answers) n (answerWord (answerTo (before .lent) c));
+      kind = record { State = Lent; Call = Call; Answer = Answer; answer = answerTo; next = after };
+      word = answerWord;
+      numbers = 6;
+      callAt = callAt;
     }
-
--- six numbers for each answer
-abbrev pub fits : (calls answers : List ℕ) → Bool
-fits calls answers = eqb (length calls % 6) 0 && eqb (length calls / 6) (length answers)
-
--- all calls, or none where the lengths do not fit
-abbrev pub outcome : Lent → (calls answers : List ℕ) → Done
-outcome q calls answers = cond (fits calls answers) (burst q calls answers (length answers)) (record { lent = q; answers = answers })

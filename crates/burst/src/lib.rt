@@ -1,5 +1,7 @@
 // One entry for a list of calls: the state record is tested once, and each call is answered as the single entries would.
-use crate::numbers::clock_of;
+use bursts::clock_of;
+use bursts::wide;
+use bursts::word;
 use capi::obikuteru_arrival;
 use capi::obikuteru_departure;
 use capi::obikuteru_tick;
@@ -8,21 +10,18 @@ use pie::MOST_VERDICTS;
 use steps::arrive;
 use steps::depart;
 use steps::tick;
-use steps::wide;
-use steps::word;
 ghost use mathlib.Core.Path.{_≡_};
 ghost use mathlib.Core.Bool.{cond, true};
 ghost use Prim.Native.Nat.{_+_, _*_, _≤_, _<_};
 ghost use lib.ListN.{length};
 ghost use Rattle.pie.specs.Constants.{mostVerdicts};
 ghost use Rattle.pie.specs.Verdicts.{total};
+ghost use Rattle.bursts.specs.Burst.{burst, done, fits, outcome};
 ghost use Rattle.queue.specs.State.{wellFormed};
 ghost use Rattle.capi.specs.Words.{stateOf};
 ghost use Rattle.burst.specs.Calls.{callAt};
 ghost use Rattle.steps.specs.Lent.{Ready, answerWord, lent};
-ghost use Rattle.burst.specs.Burst.{after, answerTo, burst, done, fits, outcome};
-
-mod numbers;
+ghost use Rattle.burst.specs.Burst.{after, answerTo, ringBursts};
 
 // What the words of a state are known to be.
 fn held(w: [u64; 23]) -> bool
@@ -142,8 +141,8 @@ fn all_known(
 )
     requires { ⌜ Ready (lent (now words) (now handles) (now sizes)) (length (now answers)) ⌝ }
     requires { ⌜ length (now calls) ≡ 6 * length (now answers) ⌝ }
-    ensures { λ _. ⌜ done (lent (now (words .exit)) (now (handles .exit)) (now (sizes .exit))) (now (answers .exit))
-        ≡ burst (lent (now (words .entry)) (now (handles .entry)) (now (sizes .entry)))
+    ensures { λ _. ⌜ done ringBursts (lent (now (words .exit)) (now (handles .exit)) (now (sizes .exit))) (now (answers .exit))
+        ≡ burst ringBursts (lent (now (words .entry)) (now (handles .entry)) (now (sizes .entry)))
         (now (calls .entry)) (now (answers .entry)) (length (now (answers .entry))) ⌝ }
 {
     let mut i: usize = 0;
@@ -163,8 +162,8 @@ fn all_single(
     answers: &mut [u64],
 )
     requires { ⌜ length (now calls) ≡ 6 * length (now answers) ⌝ }
-    ensures { λ _. ⌜ done (lent (now (words .exit)) (now (handles .exit)) (now (sizes .exit))) (now (answers .exit))
-        ≡ burst (lent (now (words .entry)) (now (handles .entry)) (now (sizes .entry)))
+    ensures { λ _. ⌜ done ringBursts (lent (now (words .exit)) (now (handles .exit)) (now (sizes .exit))) (now (answers .exit))
+        ≡ burst ringBursts (lent (now (words .entry)) (now (handles .entry)) (now (sizes .entry)))
         (now (calls .entry)) (now (answers .entry)) (length (now (answers .entry))) ⌝ }
 {
     let mut i: usize = 0;
@@ -184,9 +183,9 @@ pub extern "C" fn obikuteru_calls(
     calls: &[u32],
     answers: &mut [u64],
 ) -> u32
-    ensures { λ r. ⌜ r ≡ cond (fits (now (calls .entry)) (now (answers .entry))) 0 120 ⌝ }
-    ensures { λ _. ⌜ done (lent (now (words .exit)) (now (handles .exit)) (now (sizes .exit))) (now (answers .exit))
-        ≡ outcome (lent (now (words .entry)) (now (handles .entry)) (now (sizes .entry)))
+    ensures { λ r. ⌜ r ≡ cond (fits ringBursts (now (calls .entry)) (now (answers .entry))) 0 120 ⌝ }
+    ensures { λ _. ⌜ done ringBursts (lent (now (words .exit)) (now (handles .exit)) (now (sizes .exit))) (now (answers .exit))
+        ≡ outcome ringBursts (lent (now (words .entry)) (now (handles .entry)) (now (sizes .entry)))
         (now (calls .entry)) (now (answers .entry)) ⌝ }
 {
     let n = answers.len();

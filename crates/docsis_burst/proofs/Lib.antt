@@ -6,4 +6,3 @@ pub mod Replies
 pub mod Kept
 pub mod Steps
 pub mod Within
-pub mod InTurn

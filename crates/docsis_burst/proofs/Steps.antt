@@ -1,4 +1,4 @@
--- One call of a burst, from what its entry gives, and one more call after some.
+-- One call of a burst, from what its entry gives.
 use mathlib.Core.Path.{_≡_, refl, ap, _∙_}
 use mathlib.Core.Bool.{Bool, true, false, cond, _&&_}
 use mathlib.Core.List.{List, [], _∷_}
@@ -10,6 +10,8 @@ use borrow.Author.Tests.{leb-true}
 use Rattle.laws.proofs.Choice.{either}
 use Rattle.laws.proofs.Tests.{and-left, and-right}
 use Rattle.refusals.specs.Rows.{firstRefusal}
+use Rattle.bursts.specs.Numbers.{clockAt}
+use Rattle.bursts.proofs.Steps.{Step}
 use Rattle.queue.specs.Answer.{Answer, refused, sizeIn}
 use Rattle.docsis_flow.specs.Answer.{Reply, unlessRefused}
 use Rattle.docsis_flow.specs.Arrival as flow-arrival
@@ -25,9 +27,8 @@ use Rattle.docsis.specs.Counts.{countsAfter, rowOf}
 use Rattle.docsis_guarantees.proofs.Replies.{arrivalOf, departureOf, tickOf}
 use Rattle.docsis_capi.specs.Codes.{codeOf}
 use Rattle.docsis_capi.specs.Words.{stateOf, stateWords}
-use Rattle.docsis_burst.specs.Calls.{Call, callAt, clockAt}
-use Rattle.docsis_burst.specs.Burst.{Lent, Ready, after, answerTo, answerWord, burst, done, lent}
-use Rattle.docsis_burst.proofs.Kept.{ready-kept, within}
+use Rattle.docsis_burst.specs.Calls.{callAt}
+use Rattle.docsis_burst.specs.Burst.{Lent, answerWord, flowBursts, lent}
 
 -- ── a reply with refusal 10 ahead of it ──
 
@@ -96,9 +97,6 @@ departure-small s counts flow handles sizes clock = at-flow Small flow s counts 
 
 -- ── each kind of call ──
 
-abbrev pub Step : (flow : ℕ) → Lent → (calls : List ℕ) (at word : ℕ) → Lent → Type 0
-Step flow q calls at word next = (word ≡ answerWord (answerTo flow q (callAt calls at))) × (next ≡ after flow q (callAt calls at))
-
 module _ (flow : ℕ) (w : List ℕ) (counts : List (List ℕ)) (handles sizes calls : List ℕ) (at : ℕ) where
   abbrev kind : ℕ
   kind = getD calls (at + 5) 0
@@ -114,7 +112,7 @@ module _ (flow : ℕ) (w : List ℕ) (counts : List (List ℕ)) (handles sizes c
       word ≡ codeOf (arrives clock .answer) → w′ ≡ stateWords (arrives clock .state) → counts′ ≡ arrives clock .counts →
       handles′ ≡ stored (stateOf w) (arrives clock .answer) handles (getD calls (at + 2) 0) →
       sizes′ ≡ stored (stateOf w) (arrives clock .answer) sizes (getD calls (at + 3) 0) →
-      Step flow given calls at word (lent w′ counts′ handles′ sizes′)
+      Step (flowBursts flow) given calls at word (lent w′ counts′ handles′ sizes′)
   unfolding callAt
   arrival-step clock c k word w′ counts′ handles′ sizes′ e f g h i =
       rw (k, ← c)
@@ -124,7 +122,7 @@ module _ (flow : ℕ) (w : List ℕ) (counts : List (List ℕ)) (handles sizes c
       (word : ℕ) (w′ : List ℕ) →
       let a = departure (stateOf w) counts flow handles sizes clock in
       word ≡ answerWord (a .answer) → w′ ≡ stateWords (a .state) → counts ≡ a .counts →
-      Step flow given calls at word (lent w′ counts handles sizes)
+      Step (flowBursts flow) given calls at word (lent w′ counts handles sizes)
   unfolding callAt
   departure-step clock c k l word w′ e f g = rw (k, l, ← c) (e, rw (f, ← g))
 
@@ -132,24 +130,11 @@ module _ (flow : ℕ) (w : List ℕ) (counts : List (List ℕ)) (handles sizes c
       (word : ℕ) (w′ : List ℕ) →
       let a = tick (stateOf w) counts flow clock (getD calls (at + 3) 0) in
       word ≡ codeOf (a .answer) → w′ ≡ stateWords (a .state) → counts ≡ a .counts →
-      Step flow given calls at word (lent w′ counts handles sizes)
+      Step (flowBursts flow) given calls at word (lent w′ counts handles sizes)
   unfolding callAt
   tick-step clock c k l m word w′ e f g =
       rw (k, l, m, ← c) (e ∙ plain-tick (stateOf w) counts flow clock (getD calls (at + 3) 0), rw (f, ← g))
 
-  pub unknown-step : eqb kind 0 ≡ false → eqb kind 2 ≡ false → eqb kind 3 ≡ false → Step flow given calls at 120 given
+  pub unknown-step : eqb kind 0 ≡ false → eqb kind 2 ≡ false → eqb kind 3 ≡ false → Step (flowBursts flow) given calls at 120 given
   unfolding callAt
   unknown-step k l m = rw (k, l, m) (refl, refl)
-
--- ── one call more ──
-
-module _ (flow : ℕ) (q : Lent) (calls answers : List ℕ) (n : ℕ) (given : Lent) (said : List ℕ) (word : ℕ) (next : Lent) where
-  pub one-more : done given said ≡ burst flow q calls answers n → Step flow given calls (6 * n) word next →
-      done next (set said n word) ≡ burst flow q calls answers (n + 1)
-  unfolding burst
-  one-more e (f, g) = let s : n + 1 ≡ suc n = omega arith in rw (s, ← e, f, g)
-
-pub ready-next : (flow : ℕ) (given next : Lent) (c : Call) (n i : ℕ) → i < n → next ≡ after flow given c →
-    Ready flow given (n - i) → Ready flow next (n - (i + 1))
-ready-next flow given next c n i h g r =
-    let e : n - i ≡ suc (n - (i + 1)) = omega arith in rw g (ready-kept flow given c (n - (i + 1)) (rw e at r))

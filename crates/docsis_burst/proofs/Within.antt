@@ -8,6 +8,8 @@ use native.Mathlib.Omega.{arith}
 use lib.Dec.{eqb, ltb}
 use lib.ListN.{getD, length}
 use borrow.Author.Tests.{eq-eqb, eqb-false, eqb-true, ltb-false, ltb-true, ne-eqb}
+use Rattle.bursts.specs.Numbers.{clockAt}
+use Rattle.bursts.proofs.Steps.{Step}
 use Rattle.docsis_flow.specs.Answer.{Reply, unlessRefused}
 use Rattle.docsis_flow.specs.Arrival as flow-arrival
 use Rattle.docsis_flow.specs.Arrival.{stored}
@@ -20,10 +22,9 @@ use Rattle.docsis.specs.Counts.{countsAfter, rowOf}
 use Rattle.docsis_guarantees.proofs.Replies.{departureOf, tickOf}
 use Rattle.docsis_capi.specs.Codes.{codeOf}
 use Rattle.docsis_capi.specs.Words.{stateOf, stateWords}
-use Rattle.docsis_burst.specs.Calls.{clockAt}
-use Rattle.docsis_burst.specs.Burst.{answerWord, lent}
+use Rattle.docsis_burst.specs.Burst.{answerWord, flowBursts, lent}
 use Rattle.docsis_burst.proofs.Kept.{within}
-use Rattle.docsis_burst.proofs.Steps.{Step, arrival-step, departure-step, tick-step}
+use Rattle.docsis_burst.proofs.Steps.{arrival-step, departure-step, tick-step}
 
 -- ── the kinds, by their order ──
 
@@ -94,7 +95,7 @@ module _ (flow : ℕ) (w : List ℕ) (counts : List (List ℕ)) (handles sizes c
       × (counts′ ≡ countsAfter counts flow (arrives .answer))
       × (handles′ ≡ stored (stateOf w) (arrives .answer) handles (getD calls (at + 2) 0))
       × (sizes′ ≡ stored (stateOf w) (arrives .answer) sizes size) →
-      Step flow (lent w counts handles sizes) calls at word (lent w′ counts′ handles′ sizes′)
+      Step (flowBursts flow) (lent w counts handles sizes) calls at word (lent w′ counts′ handles′ sizes′)
   unfolding arrival
   arrival-within k word w′ counts′ handles′ sizes′ (e, f, g, h, i) =
       let m = within flow (stateOf w) counts arrives known in
@@ -105,7 +106,7 @@ module _ (flow : ℕ) (w : List ℕ) (counts : List (List ℕ)) (handles sizes c
 
   pub departure-within : eqb kind 0 ≡ false → eqb kind 2 ≡ true → (word : ℕ) (w′ : List ℕ) →
       (word ≡ answerWord (departs .answer)) × (w′ ≡ stateWords (departs .state)) →
-      Step flow (lent w counts handles sizes) calls at word (lent w′ counts handles sizes)
+      Step (flowBursts flow) (lent w counts handles sizes) calls at word (lent w′ counts handles sizes)
   unfolding departure
   departure-within k l word w′ (e, f) =
       let m = within flow (stateOf w) counts departs known in
@@ -117,7 +118,7 @@ module _ (flow : ℕ) (w : List ℕ) (counts : List (List ℕ)) (handles sizes c
 
   pub tick-within : eqb kind 0 ≡ false → eqb kind 2 ≡ false → eqb kind 3 ≡ true → (word : ℕ) (w′ : List ℕ) →
       (word ≡ codeOf (ticks .answer)) × (w′ ≡ stateWords (ticks .state)) →
-      Step flow (lent w counts handles sizes) calls at word (lent w′ counts handles sizes)
+      Step (flowBursts flow) (lent w counts handles sizes) calls at word (lent w′ counts handles sizes)
   unfolding tick
   tick-within k l m word w′ (e, f) =
       let i = within flow (stateOf w) counts ticks known in

@@ -2,18 +2,16 @@
 -- a tick stand in the place of the size.
 use mathlib.Core.Bool.{cond}
 use mathlib.Core.List.{List}
-use Prim.Native.Nat.{ℕ, _+_, _*_}
+use Prim.Native.Nat.{ℕ, _+_}
 use lib.Dec.{eqb}
 use lib.ListN.{getD}
+use Rattle.bursts.specs.Numbers.{clockAt}
 use Rattle.docsis_guarantees.specs.Handed.{Request, askArrival, askDeparture, askTick}
 
 pub data Call : Type 0 where
   asked : Request → Call
   -- a kind that is none of those below
   unknown : Call
-
-abbrev pub clockAt : (calls : List ℕ) (at : ℕ) → ℕ
-clockAt calls at = getD calls at 0 + 4294967296 * getD calls (at + 1) 0
 
 abbrev pub arrivalAt : (calls : List ℕ) (at : ℕ) → Request
 arrivalAt calls at = askArrival (clockAt calls at) (getD calls (at + 2) 0) (getD calls (at + 3) 0) (getD calls (at + 4) 0)

@@ -1,5 +1,5 @@
 // An arrival at a flow that is ready for it.
-use crate::numbers::wide;
+use bursts::wide;
 use docsis_capi::raise;
 use docsis_pie::Activity;
 use docsis_pie::FULL_ALLOWANCE;

@@ -1,10 +1,10 @@
 // One entry for a list of calls on one flow: record and row are tested once, and each call is answered as the single entries would.
 use crate::arriving::arrive;
 use crate::departing::depart;
-use crate::numbers::clock_of;
-use crate::numbers::wide;
-use crate::numbers::word;
 use crate::ticking::tick;
+use bursts::clock_of;
+use bursts::wide;
+use bursts::word;
 use docsis_capi::obikuteru_modem_arrival;
 use docsis_capi::obikuteru_modem_departure;
 use docsis_capi::obikuteru_modem_tick;
@@ -16,15 +16,15 @@ ghost use Prim.Native.Nat.{_+_, _-_, _*_, _≤_, _<_};
 ghost use lib.ListN.{length};
 ghost use Rattle.pie.specs.Constants.{mostVerdicts};
 ghost use Rattle.pie.specs.Verdicts.{total};
+ghost use Rattle.bursts.specs.Burst.{burst, done, fits, outcome};
 ghost use Rattle.docsis_flow.specs.State.{formed};
 ghost use Rattle.docsis.specs.Counts.{rowOf};
 ghost use Rattle.docsis_capi.specs.Words.{stateOf};
 ghost use Rattle.docsis_burst.specs.Calls.{callAt};
-ghost use Rattle.docsis_burst.specs.Burst.{Ready, after, answerTo, answerWord, burst, done, fits, lent, outcome};
+ghost use Rattle.docsis_burst.specs.Burst.{Ready, after, answerTo, answerWord, flowBursts, lent};
 
 mod arriving;
 mod departing;
-mod numbers;
 mod ticking;
 
 // What the words of a state are known to be.
@@ -169,8 +169,8 @@ fn all_known(
 )
     requires { ⌜ Ready flow (lent (now words) (now counts) (now handles) (now sizes)) (length (now answers)) ⌝ }
     requires { ⌜ length (now calls) ≡ 6 * length (now answers) ⌝ }
-    ensures { λ _. ⌜ done (lent (now (words .exit)) (now (counts .exit)) (now (handles .exit)) (now (sizes .exit))) (now (answers .exit))
-        ≡ burst flow (lent (now (words .entry)) (now (counts .entry)) (now (handles .entry)) (now (sizes .entry)))
+    ensures { λ _. ⌜ done (flowBursts flow) (lent (now (words .exit)) (now (counts .exit)) (now (handles .exit)) (now (sizes .exit))) (now (answers .exit))
+        ≡ burst (flowBursts flow) (lent (now (words .entry)) (now (counts .entry)) (now (handles .entry)) (now (sizes .entry)))
         (now (calls .entry)) (now (answers .entry)) (length (now (answers .entry))) ⌝ }
 {
     let mut i: usize = 0;
@@ -192,8 +192,8 @@ fn all_single(
     answers: &mut [u64],
 )
     requires { ⌜ length (now calls) ≡ 6 * length (now answers) ⌝ }
-    ensures { λ _. ⌜ done (lent (now (words .exit)) (now (counts .exit)) (now (handles .exit)) (now (sizes .exit))) (now (answers .exit))
-        ≡ burst flow (lent (now (words .entry)) (now (counts .entry)) (now (handles .entry)) (now (sizes .entry)))
+    ensures { λ _. ⌜ done (flowBursts flow) (lent (now (words .exit)) (now (counts .exit)) (now (handles .exit)) (now (sizes .exit))) (now (answers .exit))
+        ≡ burst (flowBursts flow) (lent (now (words .entry)) (now (counts .entry)) (now (handles .entry)) (now (sizes .entry)))
         (now (calls .entry)) (now (answers .entry)) (length (now (answers .entry))) ⌝ }
 {
     let mut i: usize = 0;
@@ -215,9 +215,9 @@ pub extern "C" fn obikuteru_modem_calls(
     calls: &[u32],
     answers: &mut [u64],
 ) -> u32
-    ensures { λ r. ⌜ r ≡ cond (fits (now (calls .entry)) (now (answers .entry))) 0 120 ⌝ }
-    ensures { λ _. ⌜ done (lent (now (words .exit)) (now (counts .exit)) (now (handles .exit)) (now (sizes .exit))) (now (answers .exit))
-        ≡ outcome flow (lent (now (words .entry)) (now (counts .entry)) (now (handles .entry)) (now (sizes .entry)))
+    ensures { λ r. ⌜ r ≡ cond (fits (flowBursts flow) (now (calls .entry)) (now (answers .entry))) 0 120 ⌝ }
+    ensures { λ _. ⌜ done (flowBursts flow) (lent (now (words .exit)) (now (counts .exit)) (now (handles .exit)) (now (sizes .exit))) (now (answers .exit))
+        ≡ outcome (flowBursts flow) (lent (now (words .entry)) (now (counts .entry)) (now (handles .entry)) (now (sizes .entry)))
         (now (calls .entry)) (now (answers .entry)) ⌝ }
 {
     let n = answers.len();

@@ -2,10 +2,11 @@
 use mathlib.Core.Path.{_≡_}
 use mathlib.Core.Bool.{true}
 use mathlib.Core.List.{List}
-use Prim.Native.Nat.{ℕ, _+_, _*_, _≤_}
+use Prim.Native.Nat.{ℕ, _+_, _≤_}
 use lib.ListN.{length}
 use Rattle.pie.specs.Constants.{mostVerdicts}
 use Rattle.pie.specs.Verdicts.{total}
+use Rattle.bursts.specs.Numbers.{wordOf}
 use Rattle.queue.specs.Answer.{Answer, Reply, handleIn, sizeIn}
 use Rattle.queue.specs.State.{wellFormed}
 use Rattle.capi.specs.Codes.{codeOf, wordsAfter}
@@ -35,9 +36,9 @@ leaves q r =
     let next = returned (queueOf q) r (replyTo q r) in
     record { words = wordsAfter (replyTo q r) (q .words); handles = next .handles; sizes = next .sizes }
 
--- an answer as a word: its code, then the size and the handle that a departure hands out
+-- an answer as a word
 abbrev pub answerWord : Answer → ℕ
-answerWord a = codeOf a + 65536 * sizeIn a + 4294967296 * handleIn a
+answerWord a = wordOf (codeOf a) (sizeIn a) (handleIn a)
 
 -- twenty-three words of a well-formed state, tables that fit it, and room in its counts for so many arrivals
 abbrev pub Ready : Lent → (arrivals : ℕ) → Type 0

@@ -1,5 +1,5 @@
 // An arrival at a queue that is ready for it.
-use crate::numbers::wide;
+use bursts::wide;
 use pie::FULL_ALLOWANCE;
 use pie::LARGEST;
 use pie::LATEST;

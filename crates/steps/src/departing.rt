@@ -1,6 +1,6 @@
 // A departure of a queue that is ready for it.
-use crate::numbers::wide;
-use crate::numbers::word;
+use bursts::wide;
+use bursts::word;
 use pie::Backlog;
 use pie::LATEST;
 use pie::Rate;

@@ -1,11 +1,8 @@
 // The calls on a ring whose record was tested before: each is made over its words in place and writes those that it changes.
 mod arriving;
 mod departing;
-mod numbers;
 mod ticking;
 
 pub use arriving::arrive;
 pub use departing::depart;
-pub use numbers::wide;
-pub use numbers::word;
 pub use ticking::tick;

@@ -6,10 +6,11 @@ use Prim.Native.Nat.{_-_, _*_, _≤_}
 use native.Mathlib.Omega.{arith}
 use lib.ListN.{length, length-set}
 use denote.Ref.{now}
+use Rattle.bursts.specs.Burst.{burst, done}
+use Rattle.bursts.proofs.Steps.{one-more, ready-next}
 use Rattle.docsis_burst.specs.Calls.{callAt}
-use Rattle.docsis_burst.specs.Burst.{Lent, Ready, burst, done, lent}
-use Rattle.docsis_burst.proofs.Kept.{after-long, ready-one}
-use Rattle.docsis_burst.proofs.Steps.{one-more, ready-next}
+use Rattle.docsis_burst.specs.Burst.{Lent, Ready, flowBursts, lent}
+use Rattle.docsis_burst.proofs.Kept.{after-long, ready-kept, ready-one}
 
 abbrev Inv-loop : tie.InvT-loop
 Inv-loop words₀ counts₀ flow handles₀ sizes₀ calls answers₀ i₀ words counts handles sizes answers i =
@@ -17,7 +18,7 @@ Inv-loop words₀ counts₀ flow handles₀ sizes₀ calls answers₀ i₀ words
     × (length answers ≡ length answers₀)
     × (length handles ≡ length handles₀)
     × (length sizes ≡ length sizes₀)
-    × (done (lent words counts handles sizes) answers ≡ burst flow (lent words₀ counts₀ handles₀ sizes₀) calls answers₀ i)
+    × (done (flowBursts flow) (lent words counts handles sizes) answers ≡ burst (flowBursts flow) (lent words₀ counts₀ handles₀ sizes₀) calls answers₀ i)
     × Ready flow (lent words counts handles sizes) (length answers₀ - i)
 
 abbrev μ-loop : tie.MeasureT-loop
@@ -64,8 +65,8 @@ loop-again c =
       length-set (l .answers) (l .i) (k .result) ∙ l .inv .1,
       ap (λ (q : Lent). length (q .handles)) (k .ensures .1) ∙ long .0 ∙ l .inv .2,
       ap (λ (q : Lent). length (q .sizes)) (k .ensures .1) ∙ long .1 ∙ l .inv .3,
-      one-more flow _ calls (now (a .args .answers)) (l .i) given (l .answers) (k .result) _ (l .inv .4) (k .ensures .0, k .ensures .1),
-      ready-next flow given _ (callAt calls (6 * l .i)) n (l .i) (omega (arith, l .inv .1, c .before .before .before .before .before .before .before .before .before .loop-test .taken)) (k .ensures .1) (l .inv .5),
+      one-more (flowBursts flow) _ calls (now (a .args .answers)) (l .i) given (l .answers) (k .result) _ (l .inv .4) (k .ensures .0, k .ensures .1),
+      ready-next (flowBursts flow) (Ready flow) (ready-kept flow) given _ (callAt calls (6 * l .i)) n (l .i) (omega (arith, l .inv .1, c .before .before .before .before .before .before .before .before .before .loop-test .taken)) (k .ensures .1) (l .inv .5),
     )
 
 same-length : tie.Need-same-length Inv-loop μ-loop

@@ -4,30 +4,26 @@ use Rattle.docsis_burst.proofs.obikuteru_modem_calls.Statement.{stateme
 use Rattle.docsis_burst.proofs.obikuteru_modem_calls.Tie as tie
 use mathlib.Core.Path.{_≡_, refl}
 use mathlib.Core.Bool.{true}
-use Prim.Native.Nat.{_*_, _/_, _%_}
-use native.Mathlib.Nat.{mod-add-div}
-use native.Mathlib.Omega.{arith}
-use lib.Dec.{eqb}
+use Prim.Native.Nat.{_*_}
 use lib.ListN.{length}
 use denote.Ref.{now}
-use borrow.Author.Tests.{eqb-true, not-false, not-true}
-use Rattle.laws.proofs.Tests.{and-left, and-right}
-use Rattle.docsis_burst.specs.Burst.{fits}
+use borrow.Author.Tests.{not-false, not-true}
+use Rattle.bursts.specs.Burst.{fits}
+use Rattle.bursts.proofs.Steps.{fitting}
+use Rattle.docsis_burst.specs.Burst.{flowBursts}
 
-fit : (c : tie.Else1) → fits (now (c .before .before .before .before .before .args .calls)) (now (c .before .before .before .before .before .args .answers)) ≡ true
+fit : (c : tie.Else1) → fits (flowBursts (c .before .before .before .before .before .args .flow)) (now (c .before .before .before .before .before .args .calls)) (now (c .before .before .before .before .before .args .answers)) ≡ true
 fit c = not-false _ (c .if1 .left)
 
 six : (c : tie.Else1) → length (now (c .before .before .before .before .before .args .calls)) ≡ 6 * length (now (c .before .before .before .before .before .args .answers))
 six c =
-    let n = length (now (c .before .before .before .before .before .args .calls)) in
-    let whole : n % 6 ≡ 0 = eqb-true _ _ (and-left (eqb (n % 6) 0) _ (fit c)) in
-    let each : n / 6 ≡ length (now (c .before .before .before .before .before .args .answers)) = eqb-true _ _ (and-right (eqb (n % 6) 0) _ (fit c)) in
-    omega (arith, mod-add-div n 6)
+    let a = c .before .before .before .before .before in
+    fitting (flowBursts (a .args .flow)) (now (a .args .calls)) (now (a .args .answers)) (fit c)
 
 returns : tie.Need-returns
 returns c =
     let a = c .before .before .before .before .before in
-    let e = not-true (fits (now (a .args .calls)) (now (a .args .answers))) (c .if1 .taken) in rw e (refl, refl)
+    let e = not-true (fits (flowBursts (a .args .flow)) (now (a .args .calls)) (now (a .args .answers))) (c .if1 .taken) in rw e (refl, refl)
 
 ready-requires : tie.Need-ready-requires
 ready-requires c κs = search needs
