@@ -6,9 +6,11 @@ use mathlib.Core.List.{List, [], _∷_}
 use Prim.Native.Nat.{ℕ, zero, suc, _+_, _*_, _≤_, _<_}
 use native.Mathlib.Omega.{arith}
 use lib.Dec.{eqb, leb, ltb}
-use lib.ListN.{getD, length, set}
+use lib.ListN.{getD, length}
 use borrow.Author.Tests.{leb-true}
 use Rattle.laws.proofs.Tests.{and-left, and-right}
+use Rattle.bursts.specs.Numbers.{clockAt}
+use Rattle.bursts.proofs.Steps.{Step}
 use Rattle.refusals.specs.Rows.{firstRefusal}
 use Rattle.fq_state.specs.State.{State}
 use Rattle.fq_state.proofs.Words.{length-flows}
@@ -22,8 +24,8 @@ use Rattle.fq_guarantees.specs.Calls.{arrive, depart, update}
 use Rattle.fq_guarantees.proofs.OneFlow.{served-low}
 use Rattle.fq_guarantees.proofs.Replies.{by-number}
 use Rattle.fq_guarantees.proofs.WhenAccepted.{departure-accepted}
-use Rattle.fq_burst.specs.Calls.{Asked, arrives, askedAt, clockAt, departs, keyAt, ticks, unknown}
-use Rattle.fq_burst.specs.Burst.{Lent, after, answerTo, answerWord, burst, done, held}
+use Rattle.fq_burst.specs.Calls.{Asked, arrives, askedAt, departs, keyAt, ticks, unknown}
+use Rattle.fq_burst.specs.Burst.{Lent, answerWord, fqBursts, held}
 
 -- ── the word of an answer that hands out nothing is its code ──
 
@@ -96,9 +98,6 @@ module _ (calls : List ℕ) (at : ℕ) where
 
 -- ── each kind of call ──
 
-abbrev Step : Lent → (calls : List ℕ) (at word : ℕ) → Lent → Type 0
-Step q calls at word next = (word ≡ answerWord (answerTo q (askedAt calls at))) × (next ≡ after q (askedAt calls at))
-
 module _ (common order flows deficits handles sizes calls : List ℕ) (at : ℕ) where
   abbrev q : Lent
   q = held common order flows deficits handles sizes
@@ -118,7 +117,7 @@ module _ (common order flows deficits handles sizes calls : List ℕ) (at : ℕ)
       deficits' ≡ deficitsAfter (arrived clock key) deficits →
       handles' ≡ arrivedHandles s (arrived clock key .answer) handles (getD calls (at + 2) 0) →
       sizes' ≡ arrivedSizes s (arrived clock key .answer) sizes key (getD calls (at + 3) 0) →
-      Step q calls at word (held common' order' flows' deficits' handles' sizes')
+      Step fqBursts q calls at word (held common' order' flows' deficits' handles' sizes')
   arrival-step clock key c k e word common' order' flows' deficits' handles' sizes' w f1 f2 f3 f4 f5 f6 =
       rw (asked-arrival calls at clock key c k e) (
         w ∙ plain-arrival s handles sizes clock key (getD calls (at + 2) 0) (getD calls (at + 3) 0) (eqb (kind calls at) 1) (getD calls (at + 4) 0),
@@ -136,7 +135,7 @@ module _ (common order flows deficits handles sizes calls : List ℕ) (at : ℕ)
       flows' ≡ flowsAfter (left clock) flows →
       deficits' ≡ deficitsAfter (left clock) deficits →
       sizes' ≡ departedSizes s (left clock .answer) sizes →
-      Step q calls at word (held common' order' flows' deficits' handles sizes')
+      Step fqBursts q calls at word (held common' order' flows' deficits' handles sizes')
   departure-step clock c e f word common' order' flows' deficits' sizes' w f1 f2 f3 f4 f5 =
       rw (asked-departure calls at clock c e f) (w, rw (f1, f2, f3, f4, f5) refl)
 
@@ -145,17 +144,10 @@ module _ (common order flows deficits handles sizes calls : List ℕ) (at : ℕ)
       word ≡ codeOf (tick s clock .answer) →
       common' ≡ commonAfter (tick s clock) common →
       flows' ≡ flowsAfter (tick s clock) flows →
-      Step q calls at word (held common' order flows' deficits handles sizes)
+      Step fqBursts q calls at word (held common' order flows' deficits handles sizes)
   tick-step clock c e f g word common' flows' w f1 f2 =
       let same = tick-stays common order flows deficits clock in
       rw (asked-tick calls at clock c e f g) (w ∙ plain-tick s clock, rw (f1, f2, same .0, same .1) refl)
 
-  pub unknown-step : ltb (kind calls at) 2 ≡ false → eqb (kind calls at) 2 ≡ false → eqb (kind calls at) 3 ≡ false → Step q calls at 120 q
+  pub unknown-step : ltb (kind calls at) 2 ≡ false → eqb (kind calls at) 2 ≡ false → eqb (kind calls at) 3 ≡ false → Step fqBursts q calls at 120 q
   unknown-step e f g = rw (asked-unknown calls at e f g) (refl, refl)
-
--- ── one call more ──
-
-module _ (q : Lent) (calls answers : List ℕ) (n : ℕ) (given : Lent) (said : List ℕ) (word : ℕ) (next : Lent) where
-  pub one-more : done given said ≡ burst q calls answers n → Step given calls (10 * n) word next → done next (set said n word) ≡ burst q calls answers (n + 1)
-  unfolding burst
-  one-more e (f, g) = let s : n + 1 ≡ suc n = omega arith in rw (s, ← e, f, g)

@@ -1,9 +1,7 @@
--- What the single entries do with a list of calls, one after the other, each given what the last one left.
-use mathlib.Core.Bool.{Bool, cond, _&&_}
+-- What the single entries do with a call on 64 flows, and its bursts.
 use mathlib.Core.List.{List}
-use Prim.Native.Nat.{ℕ, zero, suc, _+_, _*_, _/_, _%_}
-use lib.Dec.{eqb}
-use lib.ListN.{length, set}
+use Prim.Native.Nat.{ℕ, _+_, _*_}
+use Rattle.bursts.specs.Kind.{BurstKind}
 use Rattle.fq_state.specs.State.{State}
 use Rattle.fq.specs.Answer.{Answer, Reply, flowIn, handleIn, refused, sizeIn}
 use Rattle.fq.specs.Arrival.{arrival, arrivedHandles, arrivedSizes}
@@ -68,29 +66,12 @@ after q c =
 abbrev pub answerWord : Answer → ℕ
 answerWord a = codeOf a + 256 * flowIn a + 65536 * sizeIn a + 4294967296 * handleIn a
 
--- what the caller lends, and the answers
-pub record Done : Type 0 where
-  pub lent : Lent
-  pub answers : List ℕ
-
-abbrev pub done : Lent → (answers : List ℕ) → Done
-done q answers = record { lent = q; answers = answers }
-
--- the first n calls, in turn: the answer to each is written at its place
-unfoldable pub burst : Lent → (calls answers : List ℕ) (n : ℕ) → Done
-burst q calls answers zero = record { lent = q; answers = answers }
-burst q calls answers (suc n) =
-    let before = burst q calls answers n in
-    let c = askedAt calls (10 * n) in
+-- ten numbers for each call
+abbrev pub fqBursts : BurstKind
+fqBursts =
     record {
-      lent = after (before .lent) c;
-      answers = set (before .answers) n (answerWord (answerTo (before .lent) c));
+      kind = record { State = Lent; Call = Asked; Answer = Answer; answer = answerTo; next = after };
+      word = answerWord;
+      numbers = 10;
+      callAt = askedAt;
     }
-
--- ten numbers for each answer
-abbrev pub fitting : (calls answers : List ℕ) → Bool
-fitting calls answers = eqb (length calls % 10) 0 && eqb (length calls / 10) (length answers)
-
--- all calls, or none where the lengths do not fit
-abbrev pub outcome : Lent → (calls answers : List ℕ) → Done
-outcome q calls answers = cond (fitting calls answers) (burst q calls answers (length answers)) (record { lent = q; answers = answers })

@@ -2,9 +2,10 @@
 -- thirteen bytes of the key in four numbers, low byte first.
 use mathlib.Core.Bool.{Bool, cond}
 use mathlib.Core.List.{List, [], _∷_}
-use Prim.Native.Nat.{ℕ, _+_, _*_, _/_, _%_}
+use Prim.Native.Nat.{ℕ, _+_, _/_, _%_}
 use lib.Dec.{eqb, ltb}
 use lib.ListN.{getD}
+use Rattle.bursts.specs.Numbers.{clockAt}
 
 pub data Asked : Type 0 where
   arrives : (clock : ℕ) (key : List ℕ) (handle size : ℕ) (ecn : Bool) (u : ℕ) → Asked
@@ -12,9 +13,6 @@ pub data Asked : Type 0 where
   ticks : (clock : ℕ) → Asked
   -- a kind that is none of those below
   unknown : Asked
-
-abbrev pub clockAt : (calls : List ℕ) (at : ℕ) → ℕ
-clockAt calls at = getD calls at 0 + 4294967296 * getD calls (at + 1) 0
 
 -- four bytes of the key in each of a, b and c, the last in the low byte of d
 abbrev pub keyOf : (a b c d : ℕ) → List ℕ

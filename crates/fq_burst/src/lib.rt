@@ -2,11 +2,11 @@
 use crate::entering::arrive;
 use crate::entering::depart;
 use crate::entering::update;
-use crate::numbers::clock_of;
 use crate::numbers::key_of;
 use crate::numbers::malformed;
-use crate::numbers::wide;
 use crate::numbers::word;
+use bursts::clock_of;
+use bursts::wide;
 use fq_capi::decode;
 use fq_capi::decode_lists;
 use fq_state::fits;
@@ -14,13 +14,14 @@ ghost use mathlib.Core.Path.{_≡_};
 ghost use mathlib.Core.Bool.{cond, false};
 ghost use Prim.Native.Nat.{_+_, _*_, _<_};
 ghost use lib.ListN.{length};
+ghost use Rattle.bursts.specs.Burst.{burst, done, fits, outcome};
 ghost use Rattle.fq_state.specs.State.{countsOf};
 ghost use Rattle.fq_state.specs.WellFormed.{wellFormed};
 ghost use Rattle.fq_state.specs.Words.{flowsOf};
 ghost use Rattle.fq_capi.specs.Words.{lent};
 ghost use Rattle.fq_guarantees.specs.Kept.{Sound};
 ghost use Rattle.fq_burst.specs.Calls.{askedAt};
-ghost use Rattle.fq_burst.specs.Burst.{Lent, after, answerTo, answerWord, burst, done, fitting, held, outcome, stateIn};
+ghost use Rattle.fq_burst.specs.Burst.{Lent, after, answerTo, answerWord, fqBursts, held, stateIn};
 
 mod calling;
 mod checking;
@@ -117,9 +118,9 @@ fn all_answered(
     requires { ⌜ Sound (lent (now common) (now order) (now deficits) (now flows)) ⌝ }
     requires { ⌜ now counts ≡ countsOf (flowsOf (now flows)) ⌝ }
     requires { ⌜ length (now calls) ≡ 10 * length (now answers) ⌝ }
-    ensures { λ _. ⌜ done (held (now (common .exit)) (now (order .exit)) (now (flows .exit)) (now (deficits .exit))
+    ensures { λ _. ⌜ done fqBursts (held (now (common .exit)) (now (order .exit)) (now (flows .exit)) (now (deficits .exit))
         (now (handles .exit)) (now (sizes .exit))) (now (answers .exit))
-        ≡ burst (held (now (common .entry)) (now (order .entry)) (now (flows .entry)) (now (deficits .entry))
+        ≡ burst fqBursts (held (now (common .entry)) (now (order .entry)) (now (flows .entry)) (now (deficits .entry))
         (now (handles .entry)) (now (sizes .entry))) (now (calls .entry)) (now (answers .entry)) (length (now (answers .entry))) ⌝ }
 {
     let mut i: usize = 0;
@@ -144,7 +145,7 @@ fn all_answered(
 fn all_refused(calls: &[u32], answers: &mut [u64])
     requires { ⌜ length (now calls) ≡ 10 * length (now answers) ⌝ }
     ensures { λ _. ⌜ ((q : Lent) → wellFormed (stateIn q) ≡ false →
-        done q (now (answers .exit)) ≡ burst q (now (calls .entry)) (now (answers .entry)) (length (now (answers .entry)))) ⌝ }
+        done fqBursts q (now (answers .exit)) ≡ burst fqBursts q (now (calls .entry)) (now (answers .entry)) (length (now (answers .entry)))) ⌝ }
 {
     let mut i: usize = 0;
     while i < answers.len() {
@@ -165,10 +166,10 @@ pub extern "C" fn obikuteru_fq_calls_of(
     calls: &[u32],
     answers: &mut [u64],
 ) -> u32
-    ensures { λ r. ⌜ r ≡ cond (fitting (now (calls .entry)) (now (answers .entry))) 0 120 ⌝ }
-    ensures { λ _. ⌜ done (held (now (common .exit)) (now (order .exit)) (now (flows .exit)) (now (deficits .exit))
+    ensures { λ r. ⌜ r ≡ cond (fits fqBursts (now (calls .entry)) (now (answers .entry))) 0 120 ⌝ }
+    ensures { λ _. ⌜ done fqBursts (held (now (common .exit)) (now (order .exit)) (now (flows .exit)) (now (deficits .exit))
         (now (handles .exit)) (now (sizes .exit))) (now (answers .exit))
-        ≡ outcome (held (now (common .entry)) (now (order .entry)) (now (flows .entry)) (now (deficits .entry))
+        ≡ outcome fqBursts (held (now (common .entry)) (now (order .entry)) (now (flows .entry)) (now (deficits .entry))
         (now (handles .entry)) (now (sizes .entry))) (now (calls .entry)) (now (answers .entry)) ⌝ }
 {
     let n = answers.len();

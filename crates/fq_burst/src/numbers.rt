@@ -5,19 +5,6 @@ ghost use lib.Dec.{ltb};
 ghost use Prim.Native.Nat.{_+_, _*_, _≤_};
 ghost use Rattle.fq_burst.specs.Calls.{keyOf};
 
-pub fn wide(x: u32) -> u64
-    ensures { λ r. ⌜ r ≡ x ⌝ }
-{
-    x as u64
-}
-
-// A clock from its halves.
-pub fn clock_of(low: u32, high: u32) -> u64
-    ensures { λ r. ⌜ r ≡ low + 4294967296 * high ⌝ }
-{
-    low as u64 + 4_294_967_296 * (high as u64)
-}
-
 // The word of a departure's answer.
 pub fn word(code: u32, flow: u32, size: u32, handle: u32) -> u64
     requires { ⌜ (code ≤ 255) × (flow ≤ 255) × (size ≤ 65535) ⌝ }

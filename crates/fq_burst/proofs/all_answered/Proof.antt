@@ -4,14 +4,15 @@ use Prim.Native.Nat.{_-_, _*_, _≤_}
 use native.Mathlib.Omega.{arith}
 use lib.ListN.{length, length-set}
 use denote.Ref.{now}
+use Rattle.bursts.specs.Burst.{burst, done}
+use Rattle.bursts.proofs.Steps.{one-more}
 use Rattle.fq_state.specs.State.{countsOf}
 use Rattle.fq_state.specs.Words.{flowsOf}
 use Rattle.fq_capi.specs.Words as words
 use Rattle.fq_guarantees.specs.Kept.{Sound}
 use Rattle.fq_burst.specs.Calls.{askedAt}
-use Rattle.fq_burst.specs.Burst.{Lent, burst, done, held, stateIn}
+use Rattle.fq_burst.specs.Burst.{Lent, fqBursts, held, stateIn}
 use Rattle.fq_burst.proofs.Left.{after-long, sound-after}
-use Rattle.fq_burst.proofs.Steps.{one-more}
 use Rattle.fq_burst.proofs.all_answered.Statement.{statement}
 use Rattle.fq_burst.proofs.all_answered.Tie as tie
 
@@ -21,8 +22,8 @@ Inv-loop common₀ order₀ flows₀ deficits₀ counts₀ handles₀ sizes₀ c
     × (length answers ≡ length answers₀)
     × (length handles ≡ length handles₀)
     × (length sizes ≡ length sizes₀)
-    × (done (held common order flows deficits handles sizes) answers
-    ≡ burst (held common₀ order₀ flows₀ deficits₀ handles₀ sizes₀) calls answers₀ i)
+    × (done fqBursts (held common order flows deficits handles sizes) answers
+    ≡ burst fqBursts (held common₀ order₀ flows₀ deficits₀ handles₀ sizes₀) calls answers₀ i)
     × Sound (words.lent common order deficits flows)
     × (counts ≡ countsOf (flowsOf flows))
 
@@ -74,7 +75,7 @@ loop-again c =
       length-set (l .answers) (l .i) (k .result) ∙ l .inv .1,
       ap (λ (q : Lent). length (q .handles)) next ∙ long .0 ∙ l .inv .2,
       ap (λ (q : Lent). length (q .sizes)) next ∙ long .1 ∙ l .inv .3,
-      one-more _ calls (now (a .answers)) (l .i) given (l .answers) (k .result) _ (l .inv .4) (k .ensures .0 .0, next),
+      one-more fqBursts _ calls (now (a .answers)) (l .i) given (l .answers) (k .result) _ (l .inv .4) (k .ensures .0 .0, next),
       rw (ap stateIn next) (sound-after given asked (l .inv .5)),
       k .ensures .1,
     )

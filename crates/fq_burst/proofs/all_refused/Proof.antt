@@ -6,10 +6,11 @@ use Prim.Native.Nat.{_-_, _*_, _≤_}
 use native.Mathlib.Omega.{arith}
 use lib.ListN.{length, length-set}
 use denote.Ref.{now}
+use Rattle.bursts.specs.Burst.{burst, done}
+use Rattle.bursts.proofs.Steps.{one-more}
 use Rattle.fq_state.specs.WellFormed.{wellFormed}
-use Rattle.fq_burst.specs.Burst.{Lent, burst, done, stateIn}
+use Rattle.fq_burst.specs.Burst.{Lent, fqBursts, stateIn}
 use Rattle.fq_burst.proofs.Malformed.{malformed-step}
-use Rattle.fq_burst.proofs.Steps.{one-more}
 use Rattle.fq_burst.proofs.all_refused.Statement.{statement}
 use Rattle.fq_burst.proofs.all_refused.Tie as tie
 
@@ -17,7 +18,7 @@ abbrev Inv-loop : tie.InvT-loop
 Inv-loop calls answers₀ i₀ answers i =
     (i ≤ length answers₀)
     × (length answers ≡ length answers₀)
-    × ((q : Lent) → wellFormed (stateIn q) ≡ false → done q answers ≡ burst q calls answers₀ i)
+    × ((q : Lent) → wellFormed (stateIn q) ≡ false → done fqBursts q answers ≡ burst fqBursts q calls answers₀ i)
 
 abbrev μ-loop : tie.MeasureT-loop
 μ-loop calls answers₀ i₀ answers i = length answers₀ - i
@@ -64,7 +65,7 @@ loop-again c =
       length-set (l .answers) (l .i) (m .result) ∙ l .inv .1,
       λ q e.
           let step = malformed-step q calls (10 * l .i) e in
-          one-more q calls (now (a .answers)) (l .i) q (l .answers) (m .result) q (l .inv .2 q e) (m .ensures ∙ step .0, step .1),
+          one-more fqBursts q calls (now (a .answers)) (l .i) q (l .answers) (m .result) q (l .inv .2 q e) (m .ensures ∙ step .0, step .1),
     )
 
 same-length : tie.Need-same-length Inv-loop μ-loop

@@ -2,23 +2,21 @@
 use borrow.Author.Needs.{needs}
 use mathlib.Core.Path.{_≡_, refl, sym, _∙_}
 use mathlib.Core.Bool.{true}
-use Prim.Native.Nat.{_*_, _/_, _%_}
-use native.Mathlib.Nat.{mod-add-div}
-use native.Mathlib.Omega.{arith}
-use lib.Dec.{eqb}
+use Prim.Native.Nat.{_*_}
 use lib.ListN.{length}
 use denote.Ref.{now}
-use borrow.Author.Tests.{eqb-true, not-false, not-true}
-use Rattle.laws.proofs.Tests.{and-left, and-right}
+use borrow.Author.Tests.{not-false, not-true}
+use Rattle.bursts.specs.Burst.{fits}
+use Rattle.bursts.proofs.Steps.{fitting}
 use Rattle.fq_state.specs.WellFormed.{wellFormed}
 use Rattle.fq_state.proofs.Words.{length-flows}
 use Rattle.fq_capi.specs.Words.{lent}
-use Rattle.fq_burst.specs.Burst.{fitting}
+use Rattle.fq_burst.specs.Burst.{fqBursts}
 use Rattle.fq_burst.proofs.obikuteru_fq_calls_of.Statement.{statement}
 use Rattle.fq_burst.proofs.obikuteru_fq_calls_of.Tie as tie
 
 fit : (c : tie.Else1) →
-    fitting (now (c .before .before .before .before .before .args .calls))
+    fits fqBursts (now (c .before .before .before .before .before .args .calls))
     (now (c .before .before .before .before .before .args .answers)) ≡ true
 fit c = not-false _ (c .if1 .left)
 
@@ -26,16 +24,12 @@ ten : (c : tie.Else1) →
     length (now (c .before .before .before .before .before .args .calls)) ≡ 10 * length
     (now (c .before .before .before .before .before .args .answers))
 ten c =
-    let n = length (now (c .before .before .before .before .before .args .calls)) in
-    let whole : n % 10 ≡ 0 = eqb-true _ _ (and-left (eqb (n % 10) 0) _ (fit c)) in
-    let each : n / 10 ≡ length (now (c .before .before .before .before .before .args .answers)) = eqb-true _ _
-    (and-right (eqb (n % 10) 0) _ (fit c)) in
-    omega (arith, mod-add-div n 10)
+    let a = c .before .before .before .before .before in fitting fqBursts (now (a .args .calls)) (now (a .args .answers)) (fit c)
 
 returns : tie.Need-returns
 returns c =
     let a = c .before .before .before .before .before .args in
-    let e = not-true (fitting (now (a .calls)) (now (a .answers))) (c .if1 .taken) in rw e (refl, refl)
+    let e = not-true (fits fqBursts (now (a .calls)) (now (a .answers))) (c .if1 .taken) in rw e (refl, refl)
 
 whole-requires : tie.Need-whole-requires
 whole-requires c κs = search needs
