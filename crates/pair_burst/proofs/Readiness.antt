@@ -2,7 +2,7 @@
 use mathlib.Core.Path.{_≡_, refl, sym, ap, _∙_}
 use mathlib.Core.Bool.{Bool, true, false, cond, not}
 use mathlib.Core.List.{List}
-use Prim.Native.Nat.{ℕ, zero, suc, _+_, _-_, _≤_, _<_}
+use Prim.Native.Nat.{ℕ, zero, suc, _+_, _≤_, _<_}
 use native.Mathlib.Omega.{arith}
 use lib.Dec.{eqb}
 use lib.ListN.{getD, length}
@@ -196,7 +196,3 @@ ready-kept q (asked w r) n k =
     ready-left w q _ _ _ _ (a .pair) n (reply-left w q (k .0) (own-words-long w q (suc n) k) r) (reply-formed (queuesOf q) w r (k .3))
     (sym (ap length (e .0)) ∙ long .0) (sym (ap length (e .1)) ∙ long .1) k
 ready-kept q unknown n (ls, li, lp, formed, h, z, ri, rp) = (ls, li, lp, formed, h, z, omega arith, omega arith)
-
-pub ready-next : (given next : Lent) (c : Call) (n i : ℕ) → i < n → next ≡ after given c → Ready given (n - i) → Ready next (n - (i + 1))
-ready-next given next c n i h g r =
-    let e : n - i ≡ suc (n - (i + 1)) = omega arith in rw g (ready-kept given c (n - (i + 1)) (rw e at r))

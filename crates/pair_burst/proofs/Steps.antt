@@ -1,13 +1,15 @@
--- One call of a burst, from what its entry gives, and one more call after some.
+-- One call of a burst, from what its entry gives.
 use mathlib.Core.Path.{_≡_, refl, ap, sym, _∙_}
 use mathlib.Core.Bool.{Bool, true, false, _&&_}
 use mathlib.Core.List.{List, [], _∷_}
-use Prim.Native.Nat.{ℕ, zero, suc, _+_, _-_, _*_, _/_, _%_, _≤_, _<_}
+use Prim.Native.Nat.{ℕ, zero, suc, _+_, _-_, _≤_}
 use native.Mathlib.Omega.{arith}
 use lib.Dec.{eqb, leb, ltb}
-use lib.ListN.{getD, length, set}
+use lib.ListN.{getD, length}
 use borrow.Author.Tests.{leb-true}
 use Rattle.laws.proofs.Tests.{and-left, and-right}
+use Rattle.bursts.specs.Numbers.{clockAt}
+use Rattle.bursts.proofs.Steps.{Step}
 use Rattle.refusals.specs.Rows.{firstRefusal}
 use Rattle.queue.specs.Answer.{Answer, departed, handleIn, refused, sizeIn, ticked, verdict}
 use Rattle.guarantees.specs.Handed.{Request}
@@ -22,8 +24,8 @@ use Rattle.pair.specs.Departure.{departedSizes, departure, departureRefusal, de
 use Rattle.pair.specs.Tick.{tick, tickRefusal}
 use Rattle.pair_words.specs.Codes.{codeOf, ownAfter, sharedAfter}
 use Rattle.pair_words.specs.Words.{pairOf, whichOf}
-use Rattle.pair_burst.specs.Calls.{Call, asked, callAt, clockAt, requestAt}
-use Rattle.pair_burst.specs.Burst.{Lent, after, answerTo, answerWord, burst, done, lent}
+use Rattle.pair_burst.specs.Calls.{asked, callAt, requestAt}
+use Rattle.pair_burst.specs.Burst.{after, answerTo, answerWord, lent, pairBursts}
 
 -- ── the word of an answer that hands out nothing is its code ──
 
@@ -119,33 +121,23 @@ tick-step true s o t handles sizes calls at kind clock c k l word o′ e eo =
 
 -- ── either queue's call ──
 
-abbrev pub Step : Lent → (calls : List ℕ) (at word : ℕ) → Lent → Type 0
-Step q calls at word next = (word ≡ answerWord (answerTo q (callAt calls at))) × (next ≡ after q (callAt calls at))
-
 module _ (s o t handles sizes calls : List ℕ) (at : ℕ) where
   abbrev kind : ℕ
   kind = getD calls (at + 5) 0
 
   pub first-step : ltb kind 4 ≡ true → (word : ℕ) (s′ o′ handles′ sizes′ : List ℕ) →
       Asked false s o t handles sizes calls at kind word s′ o′ handles′ sizes′ →
-      Step (lent Intercom s o t handles sizes) calls at word (lent Intercom s′ o′ t handles′ sizes′)
+      Step pairBursts (lent Intercom s o t handles sizes) calls at word (lent Intercom s′ o′ t handles′ sizes′)
   unfolding callAt
   first-step k word s′ o′ handles′ sizes′ (e, f) = rw k (e, f)
 
   pub second-step : ltb kind 4 ≡ false → ltb kind 8 ≡ true → (word : ℕ) (s′ t′ handles′ sizes′ : List ℕ) →
       Asked true s t o handles sizes calls at (kind - 4) word s′ t′ handles′ sizes′ →
-      Step (lent Intercom s o t handles sizes) calls at word (lent Intercom s′ o t′ handles′ sizes′)
+      Step pairBursts (lent Intercom s o t handles sizes) calls at word (lent Intercom s′ o t′ handles′ sizes′)
   unfolding callAt
   second-step k l word s′ t′ handles′ sizes′ (e, f) = rw (k, l) (e, f)
 
   pub unknown-step : ltb kind 4 ≡ false → ltb kind 8 ≡ false →
-      Step (lent Intercom s o t handles sizes) calls at 120 (lent Intercom s o t handles sizes)
+      Step pairBursts (lent Intercom s o t handles sizes) calls at 120 (lent Intercom s o t handles sizes)
   unfolding callAt
   unknown-step k l = rw (k, l) (refl, refl)
-
--- ── one call more ──
-
-module _ (q : Lent) (calls answers : List ℕ) (n : ℕ) (given : Lent) (said : List ℕ) (word : ℕ) (next : Lent) where
-  pub one-more : done given said ≡ burst q calls answers n → Step given calls (6 * n) word next → done next (set said n word) ≡ burst q calls answers (n + 1)
-  unfolding burst
-  one-more e (f, g) = let s : n + 1 ≡ suc n = omega arith in rw (s, ← e, f, g)

@@ -1,12 +1,13 @@
--- What the single entries do with a list of calls, one after the other, each given what the last one left.
+-- What the single entries do with a call on one of two queues, and their bursts.
 use mathlib.Core.Path.{_≡_}
-use mathlib.Core.Bool.{Bool, true, false, cond, _&&_}
+use mathlib.Core.Bool.{true, false}
 use mathlib.Core.List.{List}
-use Prim.Native.Nat.{ℕ, zero, suc, _+_, _*_, _/_, _%_, _≤_}
-use lib.Dec.{eqb}
-use lib.ListN.{length, set}
+use Prim.Native.Nat.{ℕ, _+_, _≤_}
+use lib.ListN.{length}
 use Rattle.pie.specs.Constants.{mostVerdicts}
 use Rattle.pie.specs.Verdicts.{total}
+use Rattle.bursts.specs.Kind.{BurstKind}
+use Rattle.bursts.specs.Numbers.{wordOf}
 use Rattle.queue.specs.Answer.{Answer, handleIn, refused, sizeIn}
 use Rattle.guarantees.specs.Handed.{Request, askArrival, askDeparture, askTick}
 use Rattle.pair_state.specs.Answer.{Reply}
@@ -64,36 +65,19 @@ after q (asked w r) =
     lent w (sharedLeft r a (q .shared)) (ownAfter w a (ownWords w q)) (otherWords w q) (next .handles) (next .sizes)
 after q unknown = q
 
--- an answer as a word: its code, then the size and the handle that a departure hands out
+-- an answer as a word
 abbrev pub answerWord : Answer → ℕ
-answerWord a = codeOf a + 65536 * sizeIn a + 4294967296 * handleIn a
+answerWord a = wordOf (codeOf a) (sizeIn a) (handleIn a)
 
--- what the caller lends, and the answers
-pub record Done : Type 0 where
-  pub lent : Lent
-  pub answers : List ℕ
-
-abbrev pub done : Lent → (answers : List ℕ) → Done
-done q answers = record { lent = q; answers = answers }
-
--- the first n calls, in turn: the answer to each is written at its place
-unfoldable pub burst : Lent → (calls answers : List ℕ) (n : ℕ) → Done
-burst q calls answers zero = record { lent = q; answers = answers }
-burst q calls answers (suc n) =
-    let before = burst q calls answers n in
-    let c = callAt calls (6 * n) in
+-- six numbers for each call
+abbrev pub pairBursts : BurstKind
+pairBursts =
     record {
-      lent = after (before .lent) c;
-      answers = set (before .answers) n (answerWord (answerTo (before .lent) c));
+      kind = record { State = Lent; Call = Call; Answer = Answer; answer = answerTo; next = after };
+      word = answerWord;
+      numbers = 6;
+      callAt = callAt;
     }
-
--- six numbers for each answer
-abbrev pub fits : (calls answers : List ℕ) → Bool
-fits calls answers = eqb (length calls % 6) 0 && eqb (length calls / 6) (length answers)
-
--- all calls, or none where the lengths do not fit
-abbrev pub outcome : Lent → (calls answers : List ℕ) → Done
-outcome q calls answers = cond (fits calls answers) (burst q calls answers (length answers)) (record { lent = q; answers = answers })
 
 -- well-formed records in words of their lengths, tables that fit, and room in both queues' counts for so many arrivals
 abbrev pub Ready : Lent → (arrivals : ℕ) → Type 0

@@ -1,9 +1,10 @@
 -- A call as six 32-bit numbers, in the order of struct obikuteru_call: the clock's low and high half, handle, size, u, kind.
 use mathlib.Core.Bool.{Bool, cond}
 use mathlib.Core.List.{List}
-use Prim.Native.Nat.{ℕ, _+_, _-_, _*_}
+use Prim.Native.Nat.{ℕ, _+_, _-_}
 use lib.Dec.{eqb, ltb}
 use lib.ListN.{getD}
+use Rattle.bursts.specs.Numbers.{clockAt}
 use Rattle.guarantees.specs.Handed.{Request, askArrival, askDeparture, askTick}
 use Rattle.pair_state.specs.declared.Which.{Which}
 use Rattle.pair_state.specs.declared.Which.the-variants.{Intercom, Passengers}
@@ -12,9 +13,6 @@ pub data Call : Type 0 where
   asked : Which → Request → Call
   -- a kind that is none of those below
   unknown : Call
-
-abbrev pub clockAt : (calls : List ℕ) (at : ℕ) → ℕ
-clockAt calls at = getD calls at 0 + 4294967296 * getD calls (at + 1) 0
 
 abbrev pub arrivalAt : (calls : List ℕ) (at : ℕ) (ecn : Bool) → Request
 arrivalAt calls at ecn = askArrival (clockAt calls at) (getD calls (at + 2) 0) (getD calls (at + 3) 0) ecn (getD calls (at + 4) 0)

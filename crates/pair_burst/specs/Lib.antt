@@ -1,4 +1,3 @@
--- A list of calls on two queues in one entry: what each of its numbers asks for, and what the single entries do with them in turn.
+-- A list of calls on two queues in one entry: what each of its numbers asks for, and what the single entries do with it.
 pub mod Calls
 pub mod Burst
-pub mod InTurn

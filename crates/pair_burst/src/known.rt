@@ -1,7 +1,7 @@
 // A call on records that are ready for it.
-use crate::numbers::clock_of;
-use crate::numbers::wide;
-use crate::numbers::word;
+use bursts::clock_of;
+use bursts::wide;
+use bursts::word;
 use pair_steps::arrive;
 use pair_steps::depart;
 use pair_steps::tick;

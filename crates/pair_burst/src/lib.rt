@@ -12,12 +12,12 @@ ghost use lib.ListN.{length};
 ghost use Rattle.pair_state.specs.declared.Which.the-variants.{Intercom};
 ghost use Rattle.pie.specs.Constants.{mostVerdicts};
 ghost use Rattle.pie.specs.Verdicts.{total};
+ghost use Rattle.bursts.specs.Burst.{burst, done, fits, outcome};
 ghost use Rattle.pair_state.specs.WellFormed.{wellFormed};
 ghost use Rattle.pair_words.specs.Words.{pairOf, sharedOf, stateOf};
-ghost use Rattle.pair_burst.specs.Burst.{Ready, burst, done, fits, lent, outcome};
+ghost use Rattle.pair_burst.specs.Burst.{Ready, lent, pairBursts};
 
 mod known;
-mod numbers;
 mod single;
 
 // Whether the counts, which sum to at most 2^48, have room for `n` arrivals.
@@ -83,9 +83,9 @@ fn all_known(
 )
     requires { ⌜ Ready (lent Intercom (now shared) (now intercom) (now passengers) (now handles) (now sizes)) (length (now answers)) ⌝ }
     requires { ⌜ length (now calls) ≡ 6 * length (now answers) ⌝ }
-    ensures { λ _. ⌜ done (lent Intercom (now (shared .exit)) (now (intercom .exit)) (now (passengers .exit))
+    ensures { λ _. ⌜ done pairBursts (lent Intercom (now (shared .exit)) (now (intercom .exit)) (now (passengers .exit))
         (now (handles .exit)) (now (sizes .exit))) (now (answers .exit))
-        ≡ burst (lent Intercom (now (shared .entry)) (now (intercom .entry)) (now (passengers .entry))
+        ≡ burst pairBursts (lent Intercom (now (shared .entry)) (now (intercom .entry)) (now (passengers .entry))
         (now (handles .entry)) (now (sizes .entry))) (now (calls .entry)) (now (answers .entry)) (length (now (answers .entry))) ⌝ }
 {
     let mut i: usize = 0;
@@ -107,9 +107,9 @@ fn all_single(
     answers: &mut [u64],
 )
     requires { ⌜ length (now calls) ≡ 6 * length (now answers) ⌝ }
-    ensures { λ _. ⌜ done (lent Intercom (now (shared .exit)) (now (intercom .exit)) (now (passengers .exit))
+    ensures { λ _. ⌜ done pairBursts (lent Intercom (now (shared .exit)) (now (intercom .exit)) (now (passengers .exit))
         (now (handles .exit)) (now (sizes .exit))) (now (answers .exit))
-        ≡ burst (lent Intercom (now (shared .entry)) (now (intercom .entry)) (now (passengers .entry))
+        ≡ burst pairBursts (lent Intercom (now (shared .entry)) (now (intercom .entry)) (now (passengers .entry))
         (now (handles .entry)) (now (sizes .entry))) (now (calls .entry)) (now (answers .entry)) (length (now (answers .entry))) ⌝ }
 {
     let mut i: usize = 0;
@@ -131,10 +131,10 @@ pub extern "C" fn obikuteru_pair_calls(
     calls: &[u32],
     answers: &mut [u64],
 ) -> u32
-    ensures { λ r. ⌜ r ≡ cond (fits (now (calls .entry)) (now (answers .entry))) 0 120 ⌝ }
-    ensures { λ _. ⌜ done (lent Intercom (now (shared .exit)) (now (intercom .exit)) (now (passengers .exit))
+    ensures { λ r. ⌜ r ≡ cond (fits pairBursts (now (calls .entry)) (now (answers .entry))) 0 120 ⌝ }
+    ensures { λ _. ⌜ done pairBursts (lent Intercom (now (shared .exit)) (now (intercom .exit)) (now (passengers .exit))
         (now (handles .exit)) (now (sizes .exit))) (now (answers .exit))
-        ≡ outcome (lent Intercom (now (shared .entry)) (now (intercom .entry)) (now (passengers .entry))
+        ≡ outcome pairBursts (lent Intercom (now (shared .entry)) (now (intercom .entry)) (now (passengers .entry))
         (now (handles .entry)) (now (sizes .entry))) (now (calls .entry)) (now (answers .entry)) ⌝ }
 {
     let n = answers.len();

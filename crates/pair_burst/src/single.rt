@@ -1,7 +1,7 @@
 // A call by the single entries.
-use crate::numbers::clock_of;
-use crate::numbers::wide;
-use crate::numbers::word;
+use bursts::clock_of;
+use bursts::wide;
+use bursts::word;
 use pair_capi::obikuteru_pair_arrival_of;
 use pair_capi::obikuteru_pair_departure_of;
 use pair_capi::obikuteru_pair_tick_of;

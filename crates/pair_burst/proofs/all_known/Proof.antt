@@ -5,12 +5,13 @@ use Prim.Native.Nat.{_-_, _*_, _≤_}
 use native.Mathlib.Omega.{arith}
 use lib.ListN.{length, length-set}
 use denote.Ref.{now}
+use Rattle.bursts.specs.Burst.{burst, done}
+use Rattle.bursts.proofs.Steps.{one-more, ready-next}
 use Rattle.pair_state.specs.declared.Which.the-variants.{Intercom}
 use Rattle.pair_burst.specs.Calls.{callAt}
-use Rattle.pair_burst.specs.Burst.{Lent, Ready, burst, done, lent}
+use Rattle.pair_burst.specs.Burst.{Lent, Ready, lent, pairBursts}
 use Rattle.pair_burst.proofs.Kept.{after-long}
-use Rattle.pair_burst.proofs.Readiness.{ready-next, ready-one}
-use Rattle.pair_burst.proofs.Steps.{one-more}
+use Rattle.pair_burst.proofs.Readiness.{ready-kept, ready-one}
 
 abbrev Inv-loop : tie.InvT-loop
 Inv-loop shared₀ intercom₀ passengers₀ handles₀ sizes₀ calls answers₀ i₀ shared intercom passengers handles sizes answers i =
@@ -18,8 +19,8 @@ Inv-loop shared₀ intercom₀ passengers₀ handles₀ sizes₀ calls answers�
     × (length answers ≡ length answers₀)
     × (length handles ≡ length handles₀)
     × (length sizes ≡ length sizes₀)
-    × (done (lent Intercom shared intercom passengers handles sizes) answers
-    ≡ burst (lent Intercom shared₀ intercom₀ passengers₀ handles₀ sizes₀) calls answers₀ i)
+    × (done pairBursts (lent Intercom shared intercom passengers handles sizes) answers
+    ≡ burst pairBursts (lent Intercom shared₀ intercom₀ passengers₀ handles₀ sizes₀) calls answers₀ i)
     × Ready (lent Intercom shared intercom passengers handles sizes) (length answers₀ - i)
 
 abbrev μ-loop : tie.MeasureT-loop
@@ -66,8 +67,8 @@ loop-again c =
       length-set (l .answers) (l .i) (k .result) ∙ l .inv .1,
       ap (λ (q : Lent). length (q .handles)) (k .ensures .1) ∙ long .0 ∙ l .inv .2,
       ap (λ (q : Lent). length (q .sizes)) (k .ensures .1) ∙ long .1 ∙ l .inv .3,
-      one-more _ calls (now (a .args .answers)) (l .i) given (l .answers) (k .result) _ (l .inv .4) (k .ensures .0, k .ensures .1),
-      ready-next given _ (callAt calls (6 * l .i)) (length (now (a .args .answers))) (l .i)
+      one-more pairBursts _ calls (now (a .args .answers)) (l .i) given (l .answers) (k .result) _ (l .inv .4) (k .ensures .0, k .ensures .1),
+      ready-next pairBursts Ready ready-kept given _ (callAt calls (6 * l .i)) (length (now (a .args .answers))) (l .i)
           (omega (arith, l .inv .1, c .before .before .before .before .before .before .before .before .before .before .loop-test .taken)) (k .ensures .1) (l .inv .5),
     )
 

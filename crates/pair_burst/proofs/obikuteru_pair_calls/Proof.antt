@@ -3,33 +3,27 @@ use Rattle.pair_burst.proofs.obikuteru_pair_calls.Statement.{statement}
 use Rattle.pair_burst.proofs.obikuteru_pair_calls.Tie as tie
 use mathlib.Core.Path.{_≡_, refl}
 use mathlib.Core.Bool.{true}
-use Prim.Native.Nat.{_*_, _/_, _%_}
-use native.Mathlib.Nat.{mod-add-div}
-use native.Mathlib.Omega.{arith}
-use lib.Dec.{eqb}
+use Prim.Native.Nat.{_*_}
 use lib.ListN.{length}
 use denote.Ref.{now}
-use borrow.Author.Tests.{eqb-true, not-false, not-true}
-use Rattle.laws.proofs.Tests.{and-left, and-right}
-use Rattle.pair_burst.specs.Burst.{fits}
+use borrow.Author.Tests.{not-false, not-true}
+use Rattle.bursts.specs.Burst.{fits}
+use Rattle.bursts.proofs.Steps.{fitting}
+use Rattle.pair_burst.specs.Burst.{pairBursts}
 
 abbrev given : tie.Else1 → tie.Start
 given c = c .before .before .before .before .before
 
-fit : (c : tie.Else1) → fits (now (given c .args .calls)) (now (given c .args .answers)) ≡ true
+fit : (c : tie.Else1) → fits pairBursts (now (given c .args .calls)) (now (given c .args .answers)) ≡ true
 fit c = not-false _ (c .if1 .left)
 
 six : (c : tie.Else1) → length (now (given c .args .calls)) ≡ 6 * length (now (given c .args .answers))
-six c =
-    let n = length (now (given c .args .calls)) in
-    let whole : n % 6 ≡ 0 = eqb-true _ _ (and-left (eqb (n % 6) 0) _ (fit c)) in
-    let each : n / 6 ≡ length (now (given c .args .answers)) = eqb-true _ _ (and-right (eqb (n % 6) 0) _ (fit c)) in
-    omega (arith, mod-add-div n 6)
+six c = fitting pairBursts (now (given c .args .calls)) (now (given c .args .answers)) (fit c)
 
 returns : tie.Need-returns
 returns c =
     let a = c .before .before .before .before .before in
-    let e = not-true (fits (now (a .args .calls)) (now (a .args .answers))) (c .if1 .taken) in rw e (refl, refl)
+    let e = not-true (fits pairBursts (now (a .args .calls)) (now (a .args .answers))) (c .if1 .taken) in rw e (refl, refl)
 
 ready-requires : tie.Need-ready-requires
 ready-requires c κs = search needs
