@@ -145,7 +145,8 @@ fn all_answered(
 fn all_refused(calls: &[u32], answers: &mut [u64])
     requires { ⌜ length (now calls) ≡ 10 * length (now answers) ⌝ }
     ensures { λ _. ⌜ ((q : Lent) → wellFormed (stateIn q) ≡ false →
-        done fqBursts q (now (answers .exit)) ≡ burst fqBursts q (now (calls .entry)) (now (answers .entry)) (length (now (answers .entry)))) ⌝ }
+        done fqBursts q (now (answers .exit))
+        ≡ burst fqBursts q (now (calls .entry)) (now (answers .entry)) (length (now (answers .entry)))) ⌝ }
 {
     let mut i: usize = 0;
     while i < answers.len() {
