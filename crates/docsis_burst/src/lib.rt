@@ -169,7 +169,8 @@ fn all_known(
 )
     requires { ⌜ Ready flow (lent (now words) (now counts) (now handles) (now sizes)) (length (now answers)) ⌝ }
     requires { ⌜ length (now calls) ≡ 6 * length (now answers) ⌝ }
-    ensures { λ _. ⌜ done (flowBursts flow) (lent (now (words .exit)) (now (counts .exit)) (now (handles .exit)) (now (sizes .exit))) (now (answers .exit))
+    ensures { λ _. ⌜ done (flowBursts flow) (lent (now (words .exit)) (now (counts .exit)) (now (handles .exit)) (now (sizes .exit)))
+        (now (answers .exit))
         ≡ burst (flowBursts flow) (lent (now (words .entry)) (now (counts .entry)) (now (handles .entry)) (now (sizes .entry)))
         (now (calls .entry)) (now (answers .entry)) (length (now (answers .entry))) ⌝ }
 {
@@ -192,7 +193,8 @@ fn all_single(
     answers: &mut [u64],
 )
     requires { ⌜ length (now calls) ≡ 6 * length (now answers) ⌝ }
-    ensures { λ _. ⌜ done (flowBursts flow) (lent (now (words .exit)) (now (counts .exit)) (now (handles .exit)) (now (sizes .exit))) (now (answers .exit))
+    ensures { λ _. ⌜ done (flowBursts flow) (lent (now (words .exit)) (now (counts .exit)) (now (handles .exit)) (now (sizes .exit)))
+        (now (answers .exit))
         ≡ burst (flowBursts flow) (lent (now (words .entry)) (now (counts .entry)) (now (handles .entry)) (now (sizes .entry)))
         (now (calls .entry)) (now (answers .entry)) (length (now (answers .entry))) ⌝ }
 {
@@ -216,7 +218,8 @@ pub extern "C" fn obikuteru_modem_calls(
     answers: &mut [u64],
 ) -> u32
     ensures { λ r. ⌜ r ≡ cond (fits (flowBursts flow) (now (calls .entry)) (now (answers .entry))) 0 120 ⌝ }
-    ensures { λ _. ⌜ done (flowBursts flow) (lent (now (words .exit)) (now (counts .exit)) (now (handles .exit)) (now (sizes .exit))) (now (answers .exit))
+    ensures { λ _. ⌜ done (flowBursts flow) (lent (now (words .exit)) (now (counts .exit)) (now (handles .exit)) (now (sizes .exit)))
+        (now (answers .exit))
         ≡ outcome (flowBursts flow) (lent (now (words .entry)) (now (counts .entry)) (now (handles .entry)) (now (sizes .entry)))
         (now (calls .entry)) (now (answers .entry)) ⌝ }
 {
