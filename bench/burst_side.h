@@ -25,8 +25,7 @@ static void SIDE(fresh)(void)
         START(&SIDE(queues)[q], SIDE(counts), q);
 }
 
-static void SIDE(burst)(uint32_t q, const struct plain_call *calls, struct plain_answered *answers,
-                        size_t n)
+static void SIDE(burst)(uint32_t q, const BURST_CALL *calls, BURST_ANSWER *answers, size_t n)
 {
     size_t slots = stream->slots;
     RUN(ENTRY, &SIDE(queues)[q], SIDE(counts), q, SIDE(handles)[q], SIDE(sizes)[q], calls, answers,

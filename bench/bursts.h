@@ -14,6 +14,7 @@
  *   make(STREAM, EVENTS, N)
  *   call_of(EVENT)          the event as a call
  *   NAMED(side, name)       the call of that name of the side with the prefix `side`
+ *   BURST_CALL, BURST_ANSWER    plain C's call and answer, if they are not the ring's
  *   PLAIN_RUN and LIBRARY_RUN(entry, s, c, q, h, z, calls, answers, n)
  *                           a burst on the state s, with the table of counts c if the kind has one, of
  *                           the queue q with tables h and z of `slots`
@@ -23,6 +24,11 @@
 #include <string.h>
 
 #include "timer.h"
+
+#ifndef BURST_CALL
+#define BURST_CALL struct plain_call
+#define BURST_ANSWER struct plain_answered
+#endif
 
 #define SIDE_NAMES "plain, library, room"
 #define EVENTS 60000u
@@ -46,7 +52,7 @@ struct left {
 struct side {
     const char *name;
     void (*fresh)(void);
-    void (*burst)(uint32_t, const struct plain_call *, struct plain_answered *, size_t);
+    void (*burst)(uint32_t, const BURST_CALL *, BURST_ANSWER *, size_t);
     struct left (*left)(uint32_t);
 };
 
@@ -74,10 +80,10 @@ static const struct side sides[] = {ENTRIES(plain), ENTRIES(library), ENTRIES(ro
 
 static size_t length; /* calls of a burst */
 static EVENT events[EVENTS];
-static struct plain_call calls[EVENTS];
+static BURST_CALL calls[EVENTS];
 static struct burst bursts[EVENTS];
 static size_t burst_count;
-static _Alignas(8) struct plain_answered answers[SIDES][EVENTS];
+static _Alignas(8) BURST_ANSWER answers[SIDES][EVENTS];
 
 static void fail(const char *sentence);
 
@@ -95,7 +101,7 @@ static STREAM *find(const char *name)
 }
 
 /* The calls that wait become a burst. */
-static void add_burst(uint32_t queue, const struct plain_call *waiting, size_t n)
+static void add_burst(uint32_t queue, const BURST_CALL *waiting, size_t n)
 {
     const struct burst *last = burst_count == 0 ? NULL : &bursts[burst_count - 1];
     size_t from = last == NULL ? 0 : last->from + last->n;
@@ -105,7 +111,7 @@ static void add_burst(uint32_t queue, const struct plain_call *waiting, size_t n
 
 static void prepare(void)
 {
-    static struct plain_call waiting[QUEUES][CHUNK];
+    static BURST_CALL waiting[QUEUES][CHUNK];
     size_t waits[QUEUES] = {0};
     make(stream, events, EVENTS);
     for (size_t i = 0; i < EVENTS; i++) {

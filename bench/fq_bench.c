@@ -20,11 +20,6 @@
 
 static uint64_t listed, holding; /* flows listed and flows with a packet, over the events */
 
-static bool same(struct plain_fq a, struct plain_fq b)
-{
-    return memcmp(&a, &b, sizeof a) == 0;
-}
-
 static void met(const struct fq_event *e)
 {
     (void)e;

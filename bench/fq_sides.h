@@ -1,21 +1,9 @@
-/* The implementations of the 64 flows on the bench. All records have the same words. */
+/* The implementations of the 64 flows on the bench. */
 #ifndef FQ_SIDES_H
 #define FQ_SIDES_H
 
-#include <string.h>
+#include "fq_records.h"
 
-#include "fq_events.h"
-#include "obikuteru.h"
-
-/* The stream whose events run. */
-static const struct fq_stream *stream;
-
-#define EVENT struct fq_event
-#define RECORD struct plain_fq
-#define QUEUES 1
-#define QUEUE(e) ((void)(e), 0)
-#define START(s, c, q)                                                                            \
-    CALL(fresh)(s, stream->target, stream->buffer, stream->slots, stream->salt, 0)
 #define ARRIVE(s, c, e, h, z)                                                                     \
     CALL(arrival)(s, h, slots, z, slots, (e)->clock, (e)->key, (e)->handle, (e)->size, (e)->ecn,  \
                   (e)->u)
@@ -38,22 +26,6 @@ static const struct fq_stream *stream;
     uint32_t prefix##_tick(struct plain_fq *, uint64_t);
 DECLARE(twin_fq)
 DECLARE(clang_fq)
-
-_Static_assert(sizeof(struct plain_fq) == sizeof(struct obikuteru_fq), "the records differ in size");
-
-static struct obikuteru_fq library_state(struct plain_fq r)
-{
-    struct obikuteru_fq s;
-    memcpy(&s, &r, sizeof s);
-    return s;
-}
-
-static struct plain_fq library_record(struct obikuteru_fq s)
-{
-    struct plain_fq r;
-    memcpy(&r, &s, sizeof r);
-    return r;
-}
 
 #define NAMED(side, name) side##fq_##name
 #define LIBRARY_STATE struct obikuteru_fq

@@ -168,52 +168,75 @@ static inline void enter(struct plain_fq *q, struct plain_flow *f, uint64_t plac
     q->bytes += size;
 }
 
-/* A flow in neither list goes to the end of the new one. */
-static inline void list(struct plain_fq *q, uint32_t flow, uint64_t marks)
+/* Whether a flow is in one of the lists: by their flows as bits, where these are known. */
+static inline bool is_listed(const struct plain_fq *q, uint32_t flow, const uint64_t *marks)
 {
-    if ((marks >> flow & 1) == 0) {
+    if (marks != NULL)
+        return (*marks >> flow & 1) != 0;
+    if (0 < q->flow[flow].count) /* one that holds a packet is listed */
+        return true;
+    for (uint64_t i = 0; i < q->listed; i++)
+        if (q->order[(q->first + i) % FLOWS] == flow)
+            return true;
+    return false;
+}
+
+/* A flow in neither list goes to the end of the new one. */
+static inline void list(struct plain_fq *q, uint32_t flow, const uint64_t *marks)
+{
+    if (!is_listed(q, flow, marks)) {
         q->order[(q->first + q->listed++) % FLOWS] = flow;
         q->deficits[flow] = ZERO + QUANTUM;
     }
+}
+
+/* An arrival at a well-formed record with tables that fit; `marks`: the flows in either list as bits,
+ * or NULL; `room`: it is known that no refusal 8 is due. */
+static inline uint32_t arrive(struct plain_fq *q, const uint64_t *marks, uint32_t *handles,
+                              uint32_t *sizes, uint64_t clock, const uint8_t *key, uint32_t handle,
+                              uint32_t size, bool ecn, uint32_t u, bool room)
+{
+    if (clock < q->clock || LIMIT < clock)
+        return PLAIN_REFUSED_CLOCK; /* 4 */
+    if (size == 0 || LARGEST < size)
+        return PLAIN_REFUSED_SIZE; /* 7 */
+    if (!room && arrivals_counted(q) == LIMIT)
+        return PLAIN_REFUSED_COUNTS; /* 8 */
+
+    uint64_t sum;
+    uint32_t flow = plain_fq_flow(key, (uint32_t)q->salt);
+    struct plain_flow *f = &q->flow[flow];
+    uint32_t verdict = decide(q, f, size, ecn, u, &sum);
+    if (verdict == PLAIN_ENQUEUED || verdict == PLAIN_MARKED) {
+        uint64_t place = q->spare == 0 ? q->used : q->freed;
+        uint64_t next = 1 < q->spare ? sizes[place] / LINK : q->freed;
+        if (q->slots <= next)
+            return PLAIN_REFUSED_HEAD; /* 9 */
+        list(q, flow, marks);
+        enter(q, f, place, handles, sizes, handle, size);
+        if (q->spare == 0) {
+            q->used++;
+        } else {
+            q->freed = next;
+            q->spare--;
+        }
+    }
+    f->accumulated = sum;
+    q->verdicts[verdict]++;
+    q->clock = clock;
+    return verdict;
 }
 
 uint32_t plain_fq_arrival(struct plain_fq *fq, uint32_t *handles, size_t handles_len,
                           uint32_t *sizes, size_t sizes_len, uint64_t clock, const uint8_t *key,
                           uint32_t handle, uint32_t size, bool ecn, uint32_t u)
 {
-    uint64_t marks, sum;
+    uint64_t marks;
     if (!well_formed(fq, &marks))
         return PLAIN_REFUSED_STATE; /* 2 */
     if (handles_len != fq->slots || sizes_len != fq->slots)
         return PLAIN_REFUSED_TABLES; /* 3 */
-    if (clock < fq->clock || LIMIT < clock)
-        return PLAIN_REFUSED_CLOCK; /* 4 */
-    if (size == 0 || LARGEST < size)
-        return PLAIN_REFUSED_SIZE; /* 7 */
-    if (arrivals_counted(fq) == LIMIT)
-        return PLAIN_REFUSED_COUNTS; /* 8 */
-
-    uint32_t flow = plain_fq_flow(key, (uint32_t)fq->salt);
-    struct plain_flow *f = &fq->flow[flow];
-    uint32_t verdict = decide(fq, f, size, ecn, u, &sum);
-    if (verdict == PLAIN_ENQUEUED || verdict == PLAIN_MARKED) {
-        if (fq->spare == 0) {
-            enter(fq, f, fq->used++, handles, sizes, handle, size);
-        } else {
-            uint64_t place = fq->freed;
-            uint64_t next = fq->spare == 1 ? place : sizes[place] / LINK;
-            if (fq->slots <= next)
-                return PLAIN_REFUSED_HEAD; /* 9 */
-            enter(fq, f, place, handles, sizes, handle, size);
-            fq->freed = next;
-            fq->spare--;
-        }
-        list(fq, flow, marks);
-    }
-    f->accumulated = sum;
-    fq->verdicts[verdict]++;
-    fq->clock = clock;
-    return verdict;
+    return arrive(fq, &marks, handles, sizes, clock, key, handle, size, ecn, u, false);
 }
 
 /* The lists and deficits while a flow is chosen: they go back only where the departure is accepted. */
@@ -305,48 +328,57 @@ static inline void leave(struct plain_fq *q, struct plain_flow *f, uint64_t next
     q->bytes -= size;
 }
 
+/* A departure of a well-formed record with tables that fit; the packet is {0, 0, 0} before. */
+static inline uint32_t depart(struct plain_fq *q, const uint32_t *handles, uint32_t *sizes,
+                              uint64_t clock, struct plain_flow_packet *packet)
+{
+    struct schedule s;
+    if (clock < q->clock || LIMIT < clock)
+        return PLAIN_REFUSED_CLOCK; /* 4 */
+    if (q->count == 0)
+        return PLAIN_REFUSED_EMPTY; /* 6 */
+
+    s.first = q->first;
+    s.old = q->old;
+    s.listed = q->listed;
+    memcpy(s.order, q->order, sizeof s.order);
+    memcpy(s.deficits, q->deficits, sizeof s.deficits);
+    uint64_t flow = choose(&s, q->flow);
+    struct plain_flow *f = &q->flow[flow];
+    uint32_t word = sizes[f->head], size = word % LINK;
+    if (size == 0 || f->bytes < size)
+        return PLAIN_REFUSED_HEAD; /* 9 */
+    uint64_t count = f->count - 1, bytes = f->bytes - size;
+    uint64_t next = count == 0 ? f->head : word / LINK;
+    if (bytes < count || LARGEST * count < bytes || q->slots <= next)
+        return PLAIN_REFUSED_HEAD; /* 9 */
+
+    *packet = (struct plain_flow_packet){(uint32_t)flow, handles[f->head], size};
+    s.deficits[flow] -= size;
+    q->first = s.first;
+    q->old = s.old;
+    q->listed = s.listed;
+    memcpy(q->order, s.order, sizeof s.order);
+    memcpy(q->deficits, s.deficits, sizeof s.deficits);
+    leave(q, f, next, sizes, size);
+    q->clock = clock;
+    measure(f, size, clock);
+    return PLAIN_ACCEPTED;
+}
+
+/* With `depart` in it: of itself gcc makes that a call, at 200 instructions more. */
+__attribute__((flatten))
 uint32_t plain_fq_departure(struct plain_fq *fq, const uint32_t *handles, size_t handles_len,
                             uint32_t *sizes, size_t sizes_len, uint64_t clock,
                             struct plain_flow_packet *packet)
 {
-    struct schedule s;
     uint64_t marks;
     memset(packet, 0, sizeof *packet);
     if (!well_formed(fq, &marks))
         return PLAIN_REFUSED_STATE; /* 2 */
     if (handles_len != fq->slots || sizes_len != fq->slots)
         return PLAIN_REFUSED_TABLES; /* 3 */
-    if (clock < fq->clock || LIMIT < clock)
-        return PLAIN_REFUSED_CLOCK; /* 4 */
-    if (fq->count == 0)
-        return PLAIN_REFUSED_EMPTY; /* 6 */
-
-    s.first = fq->first;
-    s.old = fq->old;
-    s.listed = fq->listed;
-    memcpy(s.order, fq->order, sizeof s.order);
-    memcpy(s.deficits, fq->deficits, sizeof s.deficits);
-    uint64_t flow = choose(&s, fq->flow);
-    struct plain_flow *f = &fq->flow[flow];
-    uint32_t word = sizes[f->head], size = word % LINK;
-    if (size == 0 || f->bytes < size)
-        return PLAIN_REFUSED_HEAD; /* 9 */
-    uint64_t count = f->count - 1, bytes = f->bytes - size;
-    uint64_t next = count == 0 ? f->head : word / LINK;
-    if (bytes < count || LARGEST * count < bytes || fq->slots <= next)
-        return PLAIN_REFUSED_HEAD; /* 9 */
-
-    *packet = (struct plain_flow_packet){(uint32_t)flow, handles[f->head], size};
-    s.deficits[flow] -= size;
-    fq->first = s.first;
-    fq->old = s.old;
-    fq->listed = s.listed;
-    memcpy(fq->order, s.order, sizeof s.order);
-    memcpy(fq->deficits, s.deficits, sizeof s.deficits);
-    leave(fq, f, next, sizes, size);
-    fq->clock = clock;
-    measure(f, size, clock);
-    return PLAIN_ACCEPTED;
+    return depart(fq, handles, sizes, clock, packet);
 }
 
 /* A flow's share of a tick. */
@@ -362,18 +394,24 @@ static inline void update(struct plain_flow *f, uint64_t target)
     f->old_delay = delay;         /* 9 */
 }
 
+/* A tick of a well-formed record. */
+static inline uint32_t tick(struct plain_fq *q, uint64_t clock)
+{
+    if (clock < q->clock || LIMIT < clock)
+        return PLAIN_REFUSED_CLOCK; /* 4 */
+    if (clock < q->last + PERIOD)
+        return PLAIN_REFUSED_TOO_SOON; /* 5 */
+    for (size_t i = 0; i < FLOWS; i++)
+        update(&q->flow[i], q->target);
+    q->last = clock;
+    q->clock = clock;
+    return PLAIN_ACCEPTED;
+}
+
 uint32_t plain_fq_tick(struct plain_fq *fq, uint64_t clock)
 {
     uint64_t marks;
     if (!well_formed(fq, &marks))
         return PLAIN_REFUSED_STATE; /* 2 */
-    if (clock < fq->clock || LIMIT < clock)
-        return PLAIN_REFUSED_CLOCK; /* 4 */
-    if (clock < fq->last + PERIOD)
-        return PLAIN_REFUSED_TOO_SOON; /* 5 */
-    for (size_t i = 0; i < FLOWS; i++)
-        update(&fq->flow[i], fq->target);
-    fq->last = clock;
-    fq->clock = clock;
-    return PLAIN_ACCEPTED;
+    return tick(fq, clock);
 }

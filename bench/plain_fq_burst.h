@@ -18,8 +18,11 @@ struct plain_fq_answered {
     uint32_t handle;
 };
 
-void plain_fq_calls(struct plain_fq *fq, uint32_t *handles, size_t handles_len, uint32_t *sizes,
-                    size_t sizes_len, const struct plain_fq_call *calls,
-                    struct plain_fq_answered *answers, size_t n);
+#define DECLARE_FQ_CALLS(name)                                                                    \
+    void name(struct plain_fq *fq, uint32_t *handles, size_t handles_len, uint32_t *sizes,        \
+              size_t sizes_len, const struct plain_fq_call *calls,                                \
+              struct plain_fq_answered *answers, size_t n)
+DECLARE_FQ_CALLS(plain_fq_calls);
+DECLARE_FQ_CALLS(room_fq_calls);
 
 #endif

@@ -111,8 +111,8 @@ function miss(s, what, most, most_counted) {
 }
 
 function miss_entries(s,    most, most_counted) {
-    most = s in modem || s in intercom ? 1.1 : 1.05
-    most_counted = s in modem ? 1.1 : s in intercom ? 0 : 1.0
+    most = s in modem || s in intercom || s in listed ? 1.1 : 1.05
+    most_counted = s in modem || s in listed ? 1.1 : s in intercom ? 0 : 1.0
     miss(s, "arrival", most, most_counted)
     miss(s, "departure", most, most_counted)
     miss(s, "tick", most, most_counted)
@@ -179,20 +179,20 @@ END {
             printf "Plain C by %s to plain C by gcc, stream %s, time and instructions: %s; %s; %s; %s.\n",
                 tool["clang"], s, by_clang(s, "mix"), by_clang(s, "arrival"),
                 by_clang(s, "departure"), by_clang(s, "tick")
-        if (s in inactive || s in listed) # nothing is asked of it
+        miss(s, "calls-32", 1.0, 1.0)
+        miss(s, "calls-256", 1.0, 1.0)
+        if (s in inactive) # nothing else is asked of it
             continue
         if (s in intercom)
             printf "The pair's entries to the queue's, stream %s to %s, instructions of the library: %s; %s; %s.\n", s,
                 beside[s], to_queue(s, "arrival"), to_queue(s, "departure"), to_queue(s, "tick")
         miss_entries(s)
-        miss(s, "calls-32", 1.0, 1.0)
-        miss(s, "calls-256", 1.0, 1.0)
         miss(s, "add", 1.1, 1.1)
         miss(s, "replay", 1.1, 1.1)
         miss(s, "compare", 1.5, 1.5)
     }
     printf "Asked, of plain queues: the queue's entries at most 1.05 times plain C in time and 1.0 in instructions; in both, "
-    printf "bursts 1.0, the modem's entries 1.1, "
-    printf "add and replay 1.1, compare 1.5; the pair's entries 1.1 in time, and 1.6 times the queue's in instructions: "
+    printf "the entries of modem and flows 1.1, add and replay 1.1, compare 1.5; the pair's entries 1.1 in time, and 1.6 times "
+    printf "the queue's in instructions; of every queue: bursts 1.0 in both: "
     print missed == "" ? "reached." : "missed by " substr(missed, 3) "."
 }

@@ -2,18 +2,19 @@
  * The flows' calls by bench/plain_fq.c under the library's names: with it the comparison runs on plain
  * C, which shows that the bench measures against the same rules, refusals and all.
  *
- *   cc -O2 -Iinclude -c tests/fq/stand_in.c bench/plain_fq.c
- *   ar rcs libstand.a stand_in.o plain_fq.o
+ *   cc -O2 -Iinclude -c tests/fq/stand_in.c bench/plain_fq.c bench/plain_fq_burst.c
+ *   ar rcs libstand.a stand_in.o plain_fq.o plain_fq_burst.o
  *   rustc --edition 2021 -O -L native=. -l static=stand tests/fq/main.rs -o fq
+ *   cc -O2 -Iinclude tests/bursts_fq.c libstand.a -o bursts_fq
  *
  * The record is written back only where the call was accepted. A word that says that a measurement
- * runs stays as it is while one does.
+ * runs stays as it is while one does. A burst runs in bursts of one call.
  */
 #include <obikuteru.h>
 
 #include <string.h>
 
-#include "../../bench/plain_fq.h"
+#include "../../bench/plain_fq_burst.h"
 
 #define COMMON (19 * sizeof(uint64_t))
 
@@ -102,6 +103,26 @@ uint32_t obikuteru_fq_tick_of(uint64_t *common, const uint64_t *order, uint64_t 
     if (!obikuteru_refused(answer))
         write_flows(&fq, common, flows);
     return answer;
+}
+
+uint32_t obikuteru_fq_calls_of(uint64_t *common, uint64_t *order, uint64_t *flows,
+                               uint32_t *deficits, uint32_t *handles, size_t handles_len,
+                               uint32_t *sizes, size_t sizes_len, const uint32_t *calls,
+                               size_t calls_len, uint64_t *answers, size_t answers_len)
+{
+    if (calls_len % 10 != 0 || calls_len / 10 != answers_len)
+        return OBIKUTERU_REFUSED_CALL;
+    for (size_t i = 0; i < answers_len; i++) {
+        struct plain_fq fq = read(common, order, flows, deficits);
+        struct plain_fq_call call;
+        struct plain_fq_answered answer;
+        memcpy(&call, &calls[10 * i], sizeof call);
+        plain_fq_calls(&fq, handles, handles_len, sizes, sizes_len, &call, &answer, 1);
+        memcpy(&answers[i], &answer, sizeof answer);
+        if (!obikuteru_refused(answer.code))
+            write(&fq, common, order, flows, deficits);
+    }
+    return OBIKUTERU_ACCEPTED;
 }
 
 bool obikuteru_fq_well_formed_of(const uint64_t *common, const uint64_t *order,
