@@ -601,7 +601,9 @@ uint32_t obikuteru_pair_tick_of(const struct obikuteru_shared *shared,
                                 uint64_t clock);
 
 /* The second of two queues where `second` says so, else the first. It has no branch: which queue a
- * call names is often beyond a processor's guess, and a wrong guess costs a tenth of a call. */
+ * call names is often beyond a processor's guess, and a wrong guess costs a tenth of a call. An array
+ * of the two, indexed by `second`, has none either but goes through memory: measured, a tick takes 3 %
+ * longer by it and the calls together 1 %. */
 static inline struct obikuteru_pair_queue *obikuteru_pair_chosen(struct obikuteru_pair_queue *first,
                                                                  struct obikuteru_pair_queue *other,
                                                                  bool second)
