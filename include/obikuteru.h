@@ -600,16 +600,16 @@ uint32_t obikuteru_pair_tick_of(const struct obikuteru_shared *shared,
                                 const struct obikuteru_pair_queue *other, bool second,
                                 uint64_t clock);
 
-/* The second of two queues where `second` says so, else the first. It has no branch: which queue a
- * call names is often beyond a processor's guess, and a wrong guess costs a tenth of a call. An array
- * of the two, indexed by `second`, has none either but goes through memory: measured, a tick takes 3 %
- * longer by it and the calls together 1 %. */
+/*
+ * The second of two queues where `second` says so, else the first. It has no branch: which queue a
+ * call names is often beyond a processor's guess, and a wrong guess costs a tenth of a call.
+ */
 static inline struct obikuteru_pair_queue *obikuteru_pair_chosen(struct obikuteru_pair_queue *first,
                                                                  struct obikuteru_pair_queue *other,
                                                                  bool second)
 {
-    uintptr_t differs = (uintptr_t)first ^ (uintptr_t)other;
-    return (struct obikuteru_pair_queue *)((uintptr_t)first ^ (differs & (0 - (uintptr_t)second)));
+    struct obikuteru_pair_queue *const queues[2] = {first, other};
+    return queues[second];
 }
 
 /*
