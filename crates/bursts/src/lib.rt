@@ -1,5 +1,5 @@
-// Lists of calls in one entry: what a burst is, over any kind, is stated in specs/ and proved in proofs/; here are the numbers of calls and
-// answers.
+// Lists of calls in one entry. What a burst is, over any kind, is defined in specs/; that it is the list of its calls is proved in proofs/.
+// Here are the numbers of calls and answers.
 mod numbers;
 
 pub use numbers::clock_of;

@@ -26,7 +26,7 @@ fn following(first: u64, slots: u64) -> u64
     0
 }
 
-// The head leaves. The flow's row is only known to fit.
+// The head leaves. The promise is for every row that sums to at most 2^48; the call reads none.
 pub(crate) fn depart(w: &mut [u64; 16], handles: &[u32], sizes: &[u32], clock: u64) -> u64
     requires { ⌜ Fitting (now w) (now handles) (now sizes) ⌝ }
     ensures { λ r. ⌜ ((row : List ℕ) → total row ≤ mostVerdicts →

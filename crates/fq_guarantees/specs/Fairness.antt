@@ -54,7 +54,7 @@ FairnessBySize =
     Backlogged f start calls → Backlogged g start calls →
     bytesServed f (trace fqCalls start calls) < bytesServed g (trace fqCalls start calls) + 2 * (most + quantum)
 
--- which holds after any calls from an accepted fresh call, if no packet since then was larger
+-- the same after any calls from an accepted fresh call, if none since then handed out a larger packet: then no flow owes more
 abbrev pub FairnessFromFresh : Type 0
 FairnessFromFresh =
     (settings : Settings) (clock : ℕ) (earlier calls : List Call) (f g most : ℕ) → freshRefusal settings clock ≡ 0 → f ≢ g → most ≤ 65535 →

@@ -1,4 +1,4 @@
-// The rules over the records of a log that was read whole, on a queue whose record was tested before.
+// The rules over the records of a log that was read whole, on a queue that is ready for so many arrivals.
 use crate::Replayed;
 use crate::calling::call;
 use crate::comparing::compare;
