@@ -20,7 +20,8 @@ ghost use Rattle.docsis_flow.specs.Tick.{tick};
 ghost use Rattle.docsis_capi.specs.Codes.{codeOf};
 ghost use Rattle.docsis_capi.specs.Words.{stateOf, stateWords};
 
-// The promise is for every row that sums to at most 2^48; the call reads none. No rule of a tick reads the accumulated probability, and an allowance of 0 stays.
+// The promise is for every row that sums to at most 2^48; the call reads none. No rule of a tick reads the accumulated probability, and an
+// allowance of 0 stays.
 pub(crate) fn tick(w: &mut [u64; 16], clock: u64, credits: u64) -> u64
     requires { ⌜ (length (now w) ≡ 16) × (formed (stateOf (now w)) ≡ true) ⌝ }
     ensures { λ r. ⌜ ((row : List ℕ) → total row ≤ mostVerdicts →
