@@ -185,15 +185,15 @@ bool obikuteru_well_formed(const struct obikuteru_state *state);
  * Many calls in one: a burst. Each call is answered as its single entry would answer it, refused
  * ones included, each given what the last one left; so a list of calls may be cut into bursts
  * anywhere. The record is tested once, and a call in a burst of 32 costs less than half of a
- * single one, of a plain queue and of a calm one. The modem's bursts, of one flow each, take the
- * same structs.
+ * single one, of a plain queue and of a calm one. The modem's bursts, of one flow each, and the
+ * pair's take the same structs.
  */
 struct obikuteru_call {
     uint64_t clock;
     uint32_t handle; /* arrivals */
     uint32_t size;   /* arrivals; at a modem also the credits of a tick */
     uint32_t u;      /* arrivals: a random number, fresh for each */
-    uint32_t kind;   /* one of those below */
+    uint32_t kind;   /* one of those below, of a pair with CALL_PASSENGERS or without */
 };
 
 /* Kinds of call. */
@@ -477,11 +477,12 @@ bool obikuteru_modem_well_formed(const struct obikuteru_modem_state *state,
                                  uint64_t counts[16][5], uint32_t flow);
 
 /*
- * A burst of calls on one flow, in the numbers and by the rules of obikuteru_calls: each call is
- * answered as the modem's single entry would answer it, refused ones included. A tick's credits
- * stand in `size`. A modem has no ECN: a call of kind OBIKUTERU_CALL_ECN_ARRIVAL, or of a kind
- * above OBIKUTERU_CALL_TICK, is answered REFUSED_CALL, and nothing is changed. For a flow above 15
- * every arrival, departure and tick is answered REFUSED_FLOW. Record and row are tested once.
+ * A burst of calls on one flow, in the numbers and by the rules of obikuteru_calls: calls as six
+ * numbers each, answers aligned to 8 bytes. A tick's credits stand in `size`. A modem has no ECN: a
+ * call of kind OBIKUTERU_CALL_ECN_ARRIVAL, or of a kind above OBIKUTERU_CALL_TICK, is answered
+ * REFUSED_CALL, and nothing is changed. Arrivals raise counts of the flow's row.
+ * The burst itself answers ACCEPTED also where every call in it is refused, for a flow above 15 (by
+ * 110) or a damaged record (by 102): read the code of each answer.
  */
 uint32_t obikuteru_modem_calls(struct obikuteru_modem_state *state, uint64_t counts[16][5],
                                uint32_t flow, uint32_t *handles, size_t handles_len,
@@ -601,14 +602,14 @@ uint32_t obikuteru_pair_tick_of(const struct obikuteru_shared *shared,
                                 uint64_t clock);
 
 /*
- * The second of two queues where `second` says so, else the first. It has no branch: which queue a
- * call names is often beyond a processor's guess, and a wrong guess costs a tenth of a call.
+ * For the functions below: `b` where `second` says so, else `a`. It has no branch: which queue a call
+ * names is often beyond a processor's guess, and a wrong guess costs a tenth of a call.
  */
-static inline struct obikuteru_pair_queue *obikuteru_pair_chosen(struct obikuteru_pair_queue *first,
-                                                                 struct obikuteru_pair_queue *other,
+static inline struct obikuteru_pair_queue *obikuteru_pair_chosen(struct obikuteru_pair_queue *a,
+                                                                 struct obikuteru_pair_queue *b,
                                                                  bool second)
 {
-    struct obikuteru_pair_queue *const queues[2] = {first, other};
+    struct obikuteru_pair_queue *const queues[2] = {a, b};
     return queues[second];
 }
 
@@ -665,10 +666,8 @@ bool obikuteru_pair_well_formed(const struct obikuteru_shared *shared,
                                 const struct obikuteru_pair_queue *passengers);
 
 /*
- * Many calls on a pair in one: a burst. The records are tested once, and each call is answered as
- * its single entry would answer it, refused ones included, each given what the last one left; so a
- * burst may be cut anywhere. Calls and answers are those of obikuteru_calls, with the same refusal
- * of lengths and kinds; CALL_PASSENGERS is added to the kind for the passengers.
+ * A burst of calls on a pair, in the numbers and by the rules of obikuteru_calls; CALL_PASSENGERS
+ * is added to the kind of a call on the passengers' queue. The three records are tested once.
  */
 #define OBIKUTERU_CALL_PASSENGERS 4u
 
@@ -835,10 +834,9 @@ static inline bool obikuteru_fq_well_formed(const struct obikuteru_fq *fq)
 }
 
 /*
- * Many calls on 64 flows in one: a burst. The record is tested once, and each call is answered as
- * its single entry would answer it, refused ones included, each given what the last one left; so a
- * burst may be cut anywhere. A call of no known kind is answered REFUSED_CALL and changes nothing.
- * Testing the record is most of a single call's work, so that a burst of 8 costs a quarter.
+ * A burst of calls on 64 flows, by the rules of obikuteru_calls, with structs of its own: a call has
+ * its key, an answer its flow. Testing the record is most of a single call's work, so that a call in
+ * a burst of 8 costs a quarter.
  */
 struct obikuteru_fq_call {
     uint64_t clock;
@@ -880,7 +878,7 @@ static inline uint32_t obikuteru_fq_calls(struct obikuteru_fq *fq, uint32_t *han
 {
     return obikuteru_fq_calls_of(&fq->target, fq->order, &fq->flow[0].probability, fq->deficits,
                                  handles, handles_len, sizes, sizes_len, (const uint32_t *)calls,
-                                 10 * n, (uint64_t *)answers, n);
+                                 10 * n, (uint64_t *)(void *)answers, n);
 }
 
 #ifdef __cplusplus

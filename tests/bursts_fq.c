@@ -129,6 +129,9 @@ static void structs(void)
     expect("the place of flow", offsetof(struct obikuteru_fq_answer, flow), 1);
     expect("the place of an answer's size", offsetof(struct obikuteru_fq_answer, size), 2);
     expect("the place of an answer's handle", offsetof(struct obikuteru_fq_answer, handle), 4);
+    expect("fresh", obikuteru_fq_fresh(&s.fq, 15000, 40000, SLOTS, 0, 0), OBIKUTERU_ACCEPTED);
+    c.size = 100;
+    copy = s;
     for (size_t n = 0; n < 10; n++) {
         expect("a burst of wrong length",
                obikuteru_fq_calls_of(&s.fq.target, s.fq.order, &s.fq.flow[0].probability,

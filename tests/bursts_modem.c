@@ -133,6 +133,11 @@ static void lengths(void)
     static uint64_t counts[16][5], none[16][5];
     uint64_t answer = 7;
 
+    expect("fresh",
+           obikuteru_modem_fresh(&f.state, counts, 3, 10000, 30000, SLOTS, 2000000, 500000, 0),
+           OBIKUTERU_ACCEPTED);
+    calls[0].size = calls[1].size = 100;
+    copy = f;
     for (size_t n = 0; n < 12; n++) {
         if (n == 6)
             continue;
