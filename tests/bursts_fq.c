@@ -10,20 +10,15 @@
 
 #include "layout.h"
 
+#define SEED 80337
+#include "draw.h"
+
 enum { SLOTS = 48, MOST = 96, ROUNDS = 4000 };
 
 struct set {
     struct obikuteru_fq fq;
     uint32_t handles[SLOTS], sizes[SLOTS];
 };
-
-static uint64_t seed = 80337;
-
-static uint32_t draw(uint32_t below)
-{
-    seed = seed * 6364136223846793005u + 1442695040888963407u;
-    return (uint32_t)(seed >> 33) % below;
-}
 
 static struct obikuteru_fq_call some_call(uint64_t *clock)
 {

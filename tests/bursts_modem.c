@@ -10,20 +10,15 @@
 
 #include "layout.h"
 
+#define SEED 80342
+#include "draw.h"
+
 enum { FLOWS = 17, SLOTS = 48, MOST = 96, ROUNDS = 17000 };
 
 struct flow {
     struct obikuteru_modem_state state;
     uint32_t handles[SLOTS], sizes[SLOTS];
 };
-
-static uint64_t seed = 80342;
-
-static uint32_t draw(uint32_t below)
-{
-    seed = seed * 6364136223846793005u + 1442695040888963407u;
-    return (uint32_t)(seed >> 33) % below;
-}
 
 static uint64_t far_clock(void)
 {
