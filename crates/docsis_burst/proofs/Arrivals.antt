@@ -11,8 +11,8 @@ use Rattle.pie.specs.declared.Verdict.the-variants.{Enqueued, Marked, DroppedBy
 use Rattle.docsis_pie.specs.declared.Decided.{Decided}
 use Rattle.docsis_pie.specs.declared.DocsisPie.{DocsisPie}
 use Rattle.docsis_flow.specs.Arrival.{arrivedState, decisionOf}
-use Rattle.docsis_capi.specs.Words.{stateOf, stateWords}
-use Rattle.docsis_capi.proofs.Changed.{arrival-words}
+use Rattle.docsis_words.specs.Words.{stateOf, stateWords}
+use Rattle.docsis_words.proofs.Changed.{arrival-words}
 use Rattle.docsis_burst.specs.Words.{pieWords}
 use Rattle.docsis_burst.proofs.Words.{arrived-words, enteredWords, past-decision}
 

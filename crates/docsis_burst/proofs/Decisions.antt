@@ -19,8 +19,8 @@ use Rattle.docsis_pie.specs.declared.Decided.{Decided}
 use Rattle.docsis_pie.specs.declared.DocsisPie.{DocsisPie}
 use Rattle.docsis_pie.proofs.NeverEarly.{woken-accumulated}
 use Rattle.docsis_flow.specs.Arrival.{decisionOf}
-use Rattle.docsis_capi.specs.Words.{pieOf, stateOf}
-use Rattle.docsis_capi.proofs.Changed.{Same, same-cleared, same-woken}
+use Rattle.docsis_words.specs.Words.{pieOf, stateOf}
+use Rattle.docsis_words.proofs.Changed.{Same, same-cleared, same-woken}
 use Rattle.docsis_burst.specs.Words.{pieWords}
 use Rattle.docsis_burst.proofs.Words.{pie-back, pie-buffer, pie-long, pie-same, pie-target, pie-twice, spent-words, sum-pie, sum-target, sum-twice, summed-words}
 

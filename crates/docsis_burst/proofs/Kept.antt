@@ -25,7 +25,7 @@ use Rattle.docsis_guarantees.specs.Calls.{reply}
 use Rattle.docsis_guarantees.specs.Handed.{Queue, Request, askArrival, askDeparture, askTick, callOf}
 use Rattle.docsis_guarantees.specs.Modem.{ask, flowAfter}
 use Rattle.docsis_guarantees.proofs.Replies.{acceptance, at-one-reply, reply-formed}
-use Rattle.docsis_capi.specs.Words.{stateOf, stateWords}
+use Rattle.docsis_words.specs.Words.{stateOf, stateWords}
 use Rattle.docsis_burst.specs.Calls as calls
 use Rattle.docsis_burst.specs.Burst.{Lent, Ready, after, flowOf, replyTo}
 

@@ -14,8 +14,8 @@ use Rattle.docsis.specs.Answer.{ModemReply}
 use Rattle.docsis.specs.Counts.{rowOf}
 use Rattle.docsis_guarantees.specs.Handed.{Request}
 use Rattle.docsis_guarantees.specs.Modem.{Flow, ask, flowAfter, modemReply}
-use Rattle.docsis_capi.specs.Codes.{codeOf}
-use Rattle.docsis_capi.specs.Words.{stateOf, stateWords}
+use Rattle.docsis_words.specs.Codes.{codeOf}
+use Rattle.docsis_words.specs.Words.{stateOf, stateWords}
 use Rattle.docsis_burst.specs.Calls.{Call, asked, callAt, unknown}
 
 -- the words of the state, the counts of all flows and the two tables, as a caller lends them

@@ -1,12 +1,12 @@
 // An arrival at a flow that is ready for it.
 use bursts::wide;
-use docsis_capi::raise;
 use docsis_pie::Activity;
 use docsis_pie::FULL_ALLOWANCE;
 use docsis_pie::HIGH;
 use docsis_pie::LOW;
 use docsis_pie::SMALL_QUEUE;
 use docsis_pie::scaled;
+use docsis_words::raise;
 use pie::LARGEST;
 use pie::LATEST;
 use ring::place;
@@ -23,8 +23,8 @@ ghost use Rattle.docsis_pie.specs.DropDecision.{afterDrop, cleared, drawn, draw
 ghost use Rattle.docsis_flow.specs.Arrival.{arrival, decisionOf, stored};
 ghost use Rattle.docsis_flow.specs.State.{formed};
 ghost use Rattle.docsis.specs.Counts.{countsAfter, rowOf};
-ghost use Rattle.docsis_capi.specs.Codes.{codeOf};
-ghost use Rattle.docsis_capi.specs.Words.{pieOf, stateOf, stateWords};
+ghost use Rattle.docsis_words.specs.Codes.{codeOf};
+ghost use Rattle.docsis_words.specs.Words.{pieOf, stateOf, stateWords};
 ghost use Rattle.docsis_burst.specs.Burst.{Ready, lent};
 ghost use Rattle.docsis_burst.specs.Words.{pieWords};
 

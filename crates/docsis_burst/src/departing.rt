@@ -11,7 +11,7 @@ ghost use Prim.Native.Nat.{ℕ, _+_, _%_, _≤_, _<_};
 ghost use Rattle.pie.specs.Constants.{mostVerdicts};
 ghost use Rattle.pie.specs.Verdicts.{total};
 ghost use Rattle.docsis_flow.specs.Departure.{departure};
-ghost use Rattle.docsis_capi.specs.Words.{stateOf, stateWords};
+ghost use Rattle.docsis_words.specs.Words.{stateOf, stateWords};
 ghost use Rattle.docsis_burst.specs.Burst.{Fitting, answerWord};
 
 // (first + 1) modulo slots.

@@ -19,7 +19,7 @@ ghost use Rattle.pie.specs.Verdicts.{total};
 ghost use Rattle.bursts.specs.Burst.{burst, done, fits, outcome};
 ghost use Rattle.docsis_flow.specs.State.{formed};
 ghost use Rattle.docsis.specs.Counts.{rowOf};
-ghost use Rattle.docsis_capi.specs.Words.{stateOf};
+ghost use Rattle.docsis_words.specs.Words.{stateOf};
 ghost use Rattle.docsis_burst.specs.Calls.{callAt};
 ghost use Rattle.docsis_burst.specs.Burst.{Ready, after, answerTo, answerWord, flowBursts, lent};
 

@@ -6,8 +6,7 @@ use Prim.Native.Nat.{ℕ, _+_, _<_}
 use lib.Dec.{ltb}
 use lib.ListN.{length}
 use Rattle.pie.specs.Constants.{mostVerdicts}
-use Rattle.pie.specs.Verdicts.{placeOf, raised, total}
-use Rattle.pie.specs.declared.Verdict.{Verdict}
+use Rattle.pie.specs.Verdicts.{total}
 use Rattle.queue.specs.Answer.{departed, ticked, verdict}
 use Rattle.docsis_flow.specs.Answer.{Reply, answerOf, refusalOf, replyIn}
 use Rattle.docsis_flow.specs.Arrival.{arrival, arrivalRefusal, arrivedState, decisionOf}
@@ -18,9 +17,10 @@ use Rattle.docsis_flow.specs.declared.State.{State}
 use Rattle.docsis_flow.proofs.WhenAccepted.{arrival-accepted}
 use Rattle.docsis.specs.Calls.{flowRefused, forFlow}
 use Rattle.docsis.specs.Counts.{countsAfter}
-use Rattle.docsis_capi.specs.Codes.{placeIn}
-use Rattle.docsis_capi.specs.Words.{arrivalWords, departureWords, raisedAt, stateOf, stateWords}
-use Rattle.docsis_capi.proofs.Changed.{arrival-words, departure-words, words-taken}
+use Rattle.docsis_words.specs.Codes.{placeIn}
+use Rattle.docsis_words.specs.Words.{arrivalWords, departureWords, raisedAt, stateOf, stateWords}
+use Rattle.docsis_words.proofs.Changed.{arrival-words, departure-words, words-taken}
+use Rattle.docsis_words.proofs.Raised.{raised-for}
 use Rattle.docsis_capi.proofs.Entries.{Gives, answer-taken, gives-accepted, gives-refused, state-taken, taken}
 
 -- ── a tick ──
@@ -91,10 +91,6 @@ unfolding arrival
 room s row handles sizes clock size u r n er en h =
     let k = arrivalRefusal s row (length handles) (length sizes) clock size in
     arrival-accepted s row (length handles) (length sizes) clock size (taken s (arrivalReply s clock size u) k r n er en h) .total-low
-
-pub raised-for : (counts : List (List ℕ)) (flow place : ℕ) (v : Verdict) → place ≡ placeOf v → raisedAt counts flow place ≡ countsAfter counts flow (verdict v)
-unfolding countsAfter raised
-raised-for counts flow place v e = rw e
 
 pub arrival-taken : (s : State) (row handles sizes : List ℕ) (clock size u flow : ℕ) (counts next : List (List ℕ)) (r : Replied) (n place : ℕ) (w after : List ℕ) →
     replyIn r ≡ arrival s row handles sizes clock size u → n ≡ refusalOf (r .outcome) → flowRefused flow ≡ false → ltb 0 n ≡ false →

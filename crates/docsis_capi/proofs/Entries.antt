@@ -19,8 +19,8 @@ use Rattle.docsis_flow.specs.declared.State.{State}
 use Rattle.docsis.specs.Answer.{ModemReply}
 use Rattle.docsis.specs.Calls.{flowRefused, forFlow}
 use Rattle.docsis.specs.Counts.{countsAfter}
-use Rattle.docsis_capi.specs.Codes.{codeOf, packetOf}
-use Rattle.docsis_capi.specs.Words.{stateWords}
+use Rattle.docsis_words.specs.Codes.{codeOf, packetOf}
+use Rattle.docsis_words.specs.Words.{stateWords}
 
 -- the number, the words and the counts that say the reply
 abbrev pub Gives : ModemReply → (code : ℕ) (words : List ℕ) (counts : List (List ℕ)) → Type 0

@@ -1,4 +1,3 @@
 -- What the entries' proofs share.
-pub mod Changed
 pub mod Entries
 pub mod Calls

@@ -6,6 +6,7 @@ use docsis_flow::State;
 use docsis_pie::Activity;
 use docsis_pie::DocsisPie;
 use docsis_pie::Phase;
+use docsis_words::raise;
 use pie::Backlog;
 use units::Bytes;
 use units::BytesPerSecond;
@@ -15,8 +16,6 @@ ghost use mathlib.Core.Path.{_≡_};
 ghost use mathlib.Core.Bool.{_&&_, not};
 ghost use Prim.Native.Nat.{ℕ, _<_, _≤_};
 ghost use lib.ListN.{length};
-ghost use Rattle.pie.specs.Constants.{mostVerdicts};
-ghost use Rattle.pie.specs.Verdicts.{total};
 ghost use Rattle.queue.specs.Answer.{made};
 ghost use Rattle.docsis_flow.specs.Answer.{answerOf};
 ghost use Rattle.docsis_flow.specs.Arrival.{stored};
@@ -24,8 +23,8 @@ ghost use Rattle.docsis_flow.specs.Fresh.{settingsOf};
 ghost use Rattle.docsis_flow.specs.State.{wellFormed};
 ghost use Rattle.docsis.specs.Calls.{arrival, departure, flowRefused, fresh, tick};
 ghost use Rattle.docsis.specs.Counts.{countsAfter, rowOf};
-ghost use Rattle.docsis_capi.specs.Words.{arrivalWords, departureWords, raisedAt, stateOf, stateWords};
-ghost use Rattle.docsis_capi.specs.Codes.{codeOf, packetOf, placeIn};
+ghost use Rattle.docsis_words.specs.Words.{arrivalWords, departureWords, stateOf, stateWords};
+ghost use Rattle.docsis_words.specs.Codes.{codeOf, packetOf, placeIn};
 
 // Flows are 0 to 15.
 const LAST_FLOW: u32 = 15;
@@ -124,15 +123,6 @@ fn place_in(outcome: Outcome) -> usize
         Outcome::Departed => 0,
         Outcome::Ticked => 0,
     }
-}
-
-// One count of the flow's row rises by one.
-pub fn raise(counts: &mut [[u64; 5]; 16], flow: u32, place: usize)
-    requires { ⌜ (flow ≤ 15) × (place < 5) × (total (rowOf (now counts) flow) < mostVerdicts) ⌝ }
-    ensures { λ _. ⌜ now (counts .exit) ≡ raisedAt (now (counts .entry)) flow place ⌝ }
-{
-    let row = flow as usize;
-    counts[row][place] = counts[row][place] + 1;
 }
 
 // The flow's row is set to 0.

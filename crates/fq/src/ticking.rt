@@ -1,26 +1,19 @@
 // A tick.
-use crate::Ticked;
+use fq_rules::Ticked;
+use fq_rules::tick_all;
 use fq_state::Common;
-use fq_state::Flow;
 use fq_state::fits;
-use fq_state::flow_at;
-use fq_state::set_flow;
 use pie::LATEST;
 use pie::PERIOD;
 use refusals::Accepted;
 use refusals::Refusal;
 use schedule::Lists;
-use units::Bytes;
 use units::Micros;
 ghost use mathlib.Core.Path.{_≡_};
-ghost use mathlib.Core.Bool.{true};
-ghost use mathlib.Core.List.{map};
-ghost use Rattle.laws.specs.Tests.{all};
 ghost use Rattle.refusals.specs.Numbers.{refusalIn};
-ghost use Rattle.fq_state.specs.WellFormed.{commonConditions, flowConditions, flowsFit};
-ghost use Rattle.fq_state.specs.Words.{flowsOf, stateOf};
-ghost use Rattle.fq.specs.Answer.{acceptedAnswer, ticked};
-ghost use Rattle.fq.specs.Tick.{tick, tickRefusal, tickedFlow};
+ghost use Rattle.fq_state.specs.Words.{stateOf};
+ghost use Rattle.fq_rules.specs.Answer.{acceptedAnswer, ticked};
+ghost use Rattle.fq_rules.specs.Tick.{tick, tickRefusal};
 
 // Refusals 2, 4 and 5.
 fn check_tick(
@@ -48,31 +41,6 @@ fn check_tick(
         return Accepted::No(Refusal::TooSoon);
     }
     Accepted::Yes
-}
-
-// A flow after a tick.
-fn tick_flow(f: Flow, common: Common) -> Flow
-    requires { ⌜ (all (commonConditions common) ≡ true) × (all (flowConditions common f) ≡ true) ⌝ }
-    ensures { λ r. ⌜ r ≡ tickedFlow (common .settings .target .0) f ⌝ }
-{
-    let before = f.pie();
-    let settings = common.settings;
-    let next = before.update(false, settings.target, Bytes(f.bytes));
-    f.with(next, f.backlog(), f.ends())
-}
-
-// Every flow after a tick, listed or not.
-pub fn tick_all(flows: &mut [u64; 768], common: Common)
-    requires { ⌜ (all (commonConditions common) ≡ true) × (flowsFit common (flowsOf (now flows)) ≡ true) ⌝ }
-    ensures { λ _. ⌜ flowsOf (now (flows .exit)) ≡ map (tickedFlow (common .settings .target .0)) (flowsOf (now (flows .entry))) ⌝ }
-{
-    let mut i: usize = 0;
-    while i < 64 {
-        let f = flow_at(flows, i);
-        let next = tick_flow(f, common);
-        set_flow(flows, i, next);
-        i += 1;
-    }
 }
 
 // The periodic update of all flows.

@@ -4,7 +4,7 @@ use mathlib.Core.List.{List, _++_}
 use Prim.Native.Nat.{ℕ}
 use Rattle.answers.specs.Output.{numbersText, wordOf}
 use Rattle.decimal.specs.Written.{Wrote}
-use Rattle.fq.specs.Answer.{acceptedAnswer, ticked}
+use Rattle.fq_rules.specs.Answer.{acceptedAnswer, ticked}
 use Rattle.fq_state.specs.declared.Common.{Common}
 use Rattle.fq_state.specs.declared.Flow.{Flow}
 use Rattle.queue.specs.Answer as queue

@@ -4,7 +4,7 @@ use mathlib.Core.List.{List, [], _∷_, _++_}
 use Prim.Native.Nat.{ℕ, max}
 use Rattle.answers.specs.Output.{ascii, numbersText, verdictWord}
 use Rattle.decimal.specs.Digits.{digitsOf}
-use Rattle.fq.specs.Answer.{Answer, departed, refused, ticked, verdict}
+use Rattle.fq_rules.specs.Answer.{Answer, departed, refused, ticked, verdict}
 use Rattle.fq_state.specs.State.{flowAt}
 use Rattle.fq_state.specs.declared.Common.{Common}
 use Rattle.fq_state.specs.declared.Flow.{Flow}

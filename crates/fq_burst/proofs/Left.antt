@@ -17,10 +17,10 @@ use Rattle.fq_state.specs.Words.{flowsFrom, flowsOf, stateOf}
 use Rattle.fq_state.specs.Written.{flowWords}
 use Rattle.fq_state.specs.declared.Common.{Common}
 use Rattle.fq_state.specs.declared.Flow.{Flow}
-use Rattle.fq.specs.Answer.{Answer, Reply, admits}
-use Rattle.fq.specs.Answer as reads
-use Rattle.fq.specs.Arrival.{arrivedCommon}
-use Rattle.fq.specs.Departure.{departedCommon}
+use Rattle.fq_rules.specs.Answer.{Answer, Reply, admits}
+use Rattle.fq_rules.specs.Answer as reads
+use Rattle.fq_rules.specs.Arrival.{arrivedCommon}
+use Rattle.fq_rules.specs.Departure.{departedCommon}
 use Rattle.fq_capi.specs.Codes.{commonAfter, deficitsAfter, flowsAfter, orderAfter, wordsOf}
 use Rattle.fq_capi.specs.Words.{commonOf, commonWords, lent, listsOf}
 use Rattle.fq_guarantees.specs.Acceptance.{acceptance}

@@ -9,10 +9,10 @@ use lib.ListN.{getD}
 use borrow.Author.Tests.{eqb-false, eqb-true, le-ltb, lt-ltb, ltb-false, ltb-true}
 use Rattle.fq_state.specs.State.{State}
 use Rattle.fq_state.specs.WellFormed.{wellFormed}
-use Rattle.fq.specs.Answer.{Reply, unlessRefused}
-use Rattle.fq.specs.Arrival.{arrivalRefusal}
-use Rattle.fq.specs.Departure.{departureRefusal}
-use Rattle.fq.specs.Tick.{tickRefusal}
+use Rattle.fq_rules.specs.Answer.{Reply, unlessRefused}
+use Rattle.fq_rules.specs.Arrival.{arrivalRefusal}
+use Rattle.fq_rules.specs.Departure.{departureRefusal}
+use Rattle.fq_rules.specs.Tick.{tickRefusal}
 use Rattle.fq_guarantees.specs.Acceptance.{acceptance, refusal, reply-unless-refused}
 use Rattle.fq_guarantees.specs.Calls.{Call, arrive, depart, reply, update}
 use Rattle.fq_guarantees.proofs.Replies.{refusalOf}

@@ -11,10 +11,10 @@ use Rattle.fq_state.specs.State.{State, countOf, countsOf, flowAt}
 use Rattle.fq_state.specs.declared.Flow.{Flow}
 use Rattle.fq_state.proofs.AddedUp.{bounds}
 use Rattle.fq_state.proofs.Facts.{passes}
-use Rattle.fq.specs.Answer.{Reply, flowIn}
-use Rattle.fq.specs.Arrival.{arrival, flowNumber}
-use Rattle.fq.specs.Departure.{departure}
-use Rattle.fq.specs.Tick.{tick, tickedFlow}
+use Rattle.fq_rules.specs.Answer.{Reply, flowIn}
+use Rattle.fq_rules.specs.Arrival.{arrival, flowNumber}
+use Rattle.fq_rules.specs.Departure.{departure}
+use Rattle.fq_rules.specs.Tick.{tick, tickedFlow}
 use Rattle.fq_guarantees.specs.Calls.{Call, arrive, depart, reply, update}
 use Rattle.fq_guarantees.specs.Kept.{Sound}
 use Rattle.fq_guarantees.proofs.Flows.{each-passes, map-same}

@@ -14,10 +14,10 @@ use Rattle.schedule.specs.Ring.{Schedule}
 use Rattle.schedule.specs.declared.Lists.{Lists}
 use Rattle.fq_state.specs.State.{State}
 use Rattle.fq_state.specs.declared.Common.{Common}
-use Rattle.fq.specs.Answer.{Reply, verdict}
-use Rattle.fq.specs.Arrival.{arrival, arrivedCommon, arrivedSchedule}
-use Rattle.fq.specs.Departure.{departedCommon, departure}
-use Rattle.fq.specs.Tick.{tick}
+use Rattle.fq_rules.specs.Answer.{Reply, verdict}
+use Rattle.fq_rules.specs.Arrival.{arrival, arrivedCommon, arrivedSchedule}
+use Rattle.fq_rules.specs.Departure.{departedCommon, departure}
+use Rattle.fq_rules.specs.Tick.{tick}
 use Rattle.fq_capi.specs.Words.{commonOf, commonWords, listsOf}
 use Rattle.fq_guarantees.specs.Calls.{arrive, depart, update}
 use Rattle.fq_guarantees.proofs.Replies.{by-number}

@@ -14,10 +14,10 @@ use Rattle.bursts.proofs.Steps.{Step}
 use Rattle.refusals.specs.Rows.{firstRefusal}
 use Rattle.fq_state.specs.State.{State}
 use Rattle.fq_state.proofs.Words.{length-flows}
-use Rattle.fq.specs.Answer.{Reply, flowIn, sizeIn}
-use Rattle.fq.specs.Arrival.{arrival, arrivedHandles, arrivedSizes}
-use Rattle.fq.specs.Departure.{departedSizes, departure, departureRefusals}
-use Rattle.fq.specs.Tick.{tick}
+use Rattle.fq_rules.specs.Answer.{Reply, flowIn, sizeIn}
+use Rattle.fq_rules.specs.Arrival.{arrival, arrivedHandles, arrivedSizes}
+use Rattle.fq_rules.specs.Departure.{departedSizes, departure, departureRefusals}
+use Rattle.fq_rules.specs.Tick.{tick}
 use Rattle.fq_capi.specs.Codes.{codeOf, commonAfter, deficitsAfter, flowsAfter, orderAfter}
 use Rattle.fq_capi.specs.Words.{lent}
 use Rattle.fq_guarantees.specs.Calls.{arrive, depart, update}

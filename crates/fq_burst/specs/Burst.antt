@@ -3,10 +3,10 @@ use mathlib.Core.List.{List}
 use Prim.Native.Nat.{ℕ, _+_, _*_}
 use Rattle.bursts.specs.Kind.{BurstKind}
 use Rattle.fq_state.specs.State.{State}
-use Rattle.fq.specs.Answer.{Answer, Reply, flowIn, handleIn, refused, sizeIn}
-use Rattle.fq.specs.Arrival.{arrival, arrivedHandles, arrivedSizes}
-use Rattle.fq.specs.Departure.{departedSizes, departure}
-use Rattle.fq.specs.Tick.{tick}
+use Rattle.fq_rules.specs.Answer.{Answer, Reply, flowIn, handleIn, refused, sizeIn}
+use Rattle.fq_rules.specs.Arrival.{arrival, arrivedHandles, arrivedSizes}
+use Rattle.fq_rules.specs.Departure.{departedSizes, departure}
+use Rattle.fq_rules.specs.Tick.{tick}
 use Rattle.fq_capi.specs.Codes.{codeOf, commonAfter, deficitsAfter, flowsAfter, orderAfter}
 use Rattle.fq_capi.specs.Words.{lent}
 use Rattle.fq_burst.specs.Calls.{Asked, arrives, askedAt, departs, ticks, unknown}

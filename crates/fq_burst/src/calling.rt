@@ -2,13 +2,13 @@
 use crate::checking::check_arrival;
 use crate::checking::check_departure;
 use crate::checking::check_tick;
-use fq::Arrived;
-use fq::Departed;
-use fq::Ticked;
-use fq::receive;
-use fq::refuse;
-use fq::serve;
-use fq::tick_all;
+use fq_rules::Arrived;
+use fq_rules::Departed;
+use fq_rules::Ticked;
+use fq_rules::receive;
+use fq_rules::refuse;
+use fq_rules::serve;
+use fq_rules::tick_all;
 use fq_state::Common;
 use queue::ArrivalAnswer;
 use refusals::Accepted;
@@ -20,13 +20,13 @@ ghost use mathlib.Core.Bool.{true};
 ghost use Rattle.fq_state.specs.State.{countsOf};
 ghost use Rattle.fq_state.specs.WellFormed.{wellFormed};
 ghost use Rattle.fq_state.specs.Words.{flowsOf, stateOf};
-ghost use Rattle.fq.specs.Answer.{acceptedAnswer, arrivalAnswer, departed, flowIn, handleIn, sizeIn, ticked};
-ghost use Rattle.fq.specs.Arrival.{arrival, arrivedHandles, arrivedSizes};
-ghost use Rattle.fq.specs.Departure.{departedSizes, departure};
-ghost use Rattle.fq.specs.Tick.{tick};
+ghost use Rattle.fq_rules.specs.Answer.{acceptedAnswer, arrivalAnswer, departed, flowIn, handleIn, sizeIn, ticked};
+ghost use Rattle.fq_rules.specs.Arrival.{arrival, arrivedHandles, arrivedSizes};
+ghost use Rattle.fq_rules.specs.Departure.{departedSizes, departure};
+ghost use Rattle.fq_rules.specs.Tick.{tick};
 
 // A packet with this key, of `size` bytes, arrives; `u` is its random number.
-pub fn arrival_of(
+pub(crate) fn arrival_of(
     common: Common,
     lists: Lists,
     order: &mut [u64; 64],
@@ -81,7 +81,7 @@ pub fn arrival_of(
 }
 
 // The packet that is served next leaves. The counts are the flows'.
-pub fn departure_of(
+pub(crate) fn departure_of(
     common: Common,
     lists: Lists,
     order: &mut [u64; 64],
@@ -119,7 +119,7 @@ pub fn departure_of(
 }
 
 // The periodic update of all flows.
-pub fn tick_of(
+pub(crate) fn tick_of(
     common: Common,
     lists: Lists,
     order: &[u64; 64],

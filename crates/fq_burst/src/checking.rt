@@ -14,12 +14,12 @@ ghost use Rattle.refusals.specs.Numbers.{refusalIn};
 ghost use Rattle.refusals.specs.Rows.{firstRefusal};
 ghost use Rattle.fq_state.specs.State.{State};
 ghost use Rattle.fq_state.specs.WellFormed.{commonConditions, wellFormed};
-ghost use Rattle.fq.specs.Early.{beforeChoosing, beforeVerdict};
-ghost use Rattle.fq.specs.Tick.{tickRefusal};
+ghost use Rattle.fq_rules.specs.Early.{beforeChoosing, beforeVerdict};
+ghost use Rattle.fq_rules.specs.Tick.{tickRefusal};
 ghost use Rattle.laws.specs.Tests.{all};
 
 // Refusals 3, 4, 7 and 8 of an arrival.
-pub fn check_arrival(
+pub(crate) fn check_arrival(
     common: Common,
     handles: u64,
     sizes: u64,
@@ -52,7 +52,7 @@ pub fn check_arrival(
 }
 
 // Refusals 3, 4 and 6 of a departure.
-pub fn check_departure(common: Common, handles: u64, sizes: u64, clock: Micros) -> Accepted
+pub(crate) fn check_departure(common: Common, handles: u64, sizes: u64, clock: Micros) -> Accepted
     ensures { λ r. ⌜ ((s : State) → s .common ≡ common → wellFormed s ≡ true →
         refusalIn r ≡ firstRefusal (beforeChoosing s handles sizes (clock .0))) ⌝ }
 {
@@ -73,7 +73,7 @@ pub fn check_departure(common: Common, handles: u64, sizes: u64, clock: Micros) 
 }
 
 // Refusals 4 and 5 of a tick.
-pub fn check_tick(common: Common, clock: Micros) -> Accepted
+pub(crate) fn check_tick(common: Common, clock: Micros) -> Accepted
     requires { ⌜ all (commonConditions common) ≡ true ⌝ }
     ensures { λ r. ⌜ ((s : State) → s .common ≡ common → wellFormed s ≡ true → refusalIn r ≡ tickRefusal s (clock .0)) ⌝ }
 {

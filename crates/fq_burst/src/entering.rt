@@ -21,9 +21,9 @@ ghost use Prim.Native.Nat.{_≤_, _<_};
 ghost use lib.ListN.{set};
 ghost use Rattle.fq_state.specs.State.{countsOf, flowAt};
 ghost use Rattle.fq_state.specs.Words.{flowsOf};
-ghost use Rattle.fq.specs.Arrival.{arrival, arrivedHandles, arrivedSizes};
-ghost use Rattle.fq.specs.Departure.{departedSizes, departure};
-ghost use Rattle.fq.specs.Tick.{tick};
+ghost use Rattle.fq_rules.specs.Arrival.{arrival, arrivedHandles, arrivedSizes};
+ghost use Rattle.fq_rules.specs.Departure.{departedSizes, departure};
+ghost use Rattle.fq_rules.specs.Tick.{tick};
 ghost use Rattle.fq_capi.specs.Codes.{codeOf, commonAfter, deficitsAfter, flowsAfter, orderAfter, packetOf};
 ghost use Rattle.fq_capi.specs.Words.{lent};
 ghost use Rattle.fq_guarantees.specs.Kept.{Sound};
@@ -37,7 +37,7 @@ fn note(flows: &[u64; 768], counts: &mut [u32; 64], flow: usize)
     counts[flow] = f.count as u32;
 }
 
-pub fn arrive(
+pub(crate) fn arrive(
     common: &mut [u64; 19],
     order: &mut [u64; 64],
     flows: &mut [u64; 768],
@@ -98,7 +98,7 @@ pub fn arrive(
     }
 }
 
-pub fn depart(
+pub(crate) fn depart(
     common: &mut [u64; 19],
     order: &mut [u64; 64],
     flows: &mut [u64; 768],
@@ -154,7 +154,7 @@ pub fn depart(
     }
 }
 
-pub fn update(
+pub(crate) fn update(
     common: &mut [u64; 19],
     order: &[u64; 64],
     flows: &mut [u64; 768],

@@ -6,7 +6,7 @@ ghost use Prim.Native.Nat.{_+_, _*_, _≤_};
 ghost use Rattle.fq_burst.specs.Calls.{keyOf};
 
 // The word of a departure's answer.
-pub fn word(code: u32, flow: u32, size: u32, handle: u32) -> u64
+pub(crate) fn word(code: u32, flow: u32, size: u32, handle: u32) -> u64
     requires { ⌜ (code ≤ 255) × (flow ≤ 255) × (size ≤ 65535) ⌝ }
     ensures { λ r. ⌜ r ≡ code + 256 * flow + 65536 * size + 4294967296 * handle ⌝ }
 {
@@ -14,7 +14,7 @@ pub fn word(code: u32, flow: u32, size: u32, handle: u32) -> u64
 }
 
 // A key from its four numbers.
-pub fn key_of(a: u32, b: u32, c: u32, d: u32) -> [u8; 13]
+pub(crate) fn key_of(a: u32, b: u32, c: u32, d: u32) -> [u8; 13]
     ensures { λ r. ⌜ r ≡ keyOf a b c d ⌝ }
 {
     [
@@ -35,7 +35,7 @@ pub fn key_of(a: u32, b: u32, c: u32, d: u32) -> [u8; 13]
 }
 
 // What a call of this kind on a malformed record is answered: refusal 2, or 20 where the kind is unknown.
-pub fn malformed(kind: u32) -> u64
+pub(crate) fn malformed(kind: u32) -> u64
     ensures { λ r. ⌜ r ≡ cond (ltb kind 4) 102 120 ⌝ }
 {
     let called = kind < 4;

@@ -9,7 +9,7 @@ ghost use Rattle.pie.specs.Verdicts.{raised, total};
 ghost use Rattle.fq_capi.specs.Words.{commonOf, commonWords, listsOf};
 
 // After an arrival with this verdict.
-pub fn write_arrived(w: &mut [u64; 19], c: Common, l: Lists, v: Verdict)
+pub(crate) fn write_arrived(w: &mut [u64; 19], c: Common, l: Lists, v: Verdict)
     requires { ⌜ (c .settings ≡ commonOf (now w) .settings) × (c .last ≡ commonOf (now w) .last)
         × (c .verdicts ≡ raised (commonOf (now w) .verdicts) v) × (total (commonOf (now w) .verdicts) ≤ mostVerdicts) ⌝ }
     requires { ⌜ (l .first ≡ listsOf (now w) .first) × (l .old ≡ listsOf (now w) .old) ⌝ }
@@ -42,7 +42,7 @@ pub fn write_arrived(w: &mut [u64; 19], c: Common, l: Lists, v: Verdict)
 }
 
 // After a departure.
-pub fn write_left(w: &mut [u64; 19], c: Common, l: Lists)
+pub(crate) fn write_left(w: &mut [u64; 19], c: Common, l: Lists)
     requires { ⌜ (c .settings ≡ commonOf (now w) .settings) × (c .last ≡ commonOf (now w) .last)
         × (c .store .used ≡ commonOf (now w) .store .used) × (c .verdicts ≡ commonOf (now w) .verdicts) ⌝ }
     ensures { λ _. ⌜ now (w .exit) ≡ commonWords c l ⌝ }
@@ -72,7 +72,7 @@ pub fn write_left(w: &mut [u64; 19], c: Common, l: Lists)
 }
 
 // After a tick.
-pub fn write_ticked(w: &mut [u64; 19], c: Common)
+pub(crate) fn write_ticked(w: &mut [u64; 19], c: Common)
     requires { ⌜ (c .settings ≡ commonOf (now w) .settings) × (c .backlog ≡ commonOf (now w) .backlog)
         × (c .store ≡ commonOf (now w) .store) × (c .verdicts ≡ commonOf (now w) .verdicts) ⌝ }
     ensures { λ _. ⌜ now (w .exit) ≡ commonWords c (listsOf (now (w .entry))) ⌝ }

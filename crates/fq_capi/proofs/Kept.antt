@@ -5,10 +5,10 @@ use mathlib.Core.List.{List}
 use Prim.Native.Nat.{ℕ}
 use lib.ListN.{length}
 use Rattle.fq_state.specs.State.{State}
-use Rattle.fq.specs.Answer.{refused}
-use Rattle.fq.specs.Arrival.{arrival, arrivalRefusal}
-use Rattle.fq.specs.Departure.{departure, departureRefusal}
-use Rattle.fq.specs.Tick.{tick, tickRefusal}
+use Rattle.fq_rules.specs.Answer.{refused}
+use Rattle.fq_rules.specs.Arrival.{arrival, arrivalRefusal}
+use Rattle.fq_rules.specs.Departure.{departure, departureRefusal}
+use Rattle.fq_rules.specs.Tick.{tick, tickRefusal}
 use Rattle.fq_capi.proofs.Returned.{kept}
 
 pub arrival-kept : (s : State) (handles sizes : List ℕ) (clock : ℕ) (key : List ℕ) (size : ℕ) (ecn : Bool) (u n : ℕ) →

@@ -15,7 +15,7 @@ use Rattle.fq_state.specs.Words.{flowsOf, stateOf}
 use Rattle.fq_state.specs.declared.Common.{Common}
 use Rattle.fq_state.specs.Written.{flowWords}
 use Rattle.fq_state.proofs.Words.{words-are}
-use Rattle.fq.specs.Answer.{Answer, Reply, acceptedAnswer, departed, refused, ticked, unlessRefused, verdict}
+use Rattle.fq_rules.specs.Answer.{Answer, Reply, acceptedAnswer, departed, refused, ticked, unlessRefused, verdict}
 use Rattle.fq_capi.specs.Codes.{codeOf, commonAfter, deficitsAfter, flowsAfter, freshCode, orderAfter, wordsFor, wordsOf}
 use Rattle.fq_capi.specs.Words.{commonWords}
 

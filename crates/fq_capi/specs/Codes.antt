@@ -4,7 +4,7 @@ use Prim.Native.Nat.{ℕ, zero, suc, _+_}
 use Rattle.pie.specs.Verdicts.{placeOf}
 use Rattle.fq_state.specs.State.{State}
 use Rattle.fq_state.specs.Written.{flowWords}
-use Rattle.fq.specs.Answer.{Answer, Reply, departed, flowIn, handleIn, refused, sizeIn, ticked, verdict}
+use Rattle.fq_rules.specs.Answer.{Answer, Reply, departed, flowIn, handleIn, refused, sizeIn, ticked, verdict}
 use Rattle.fq_capi.specs.Words.{commonWords}
 
 -- 0 to 4 for a verdict, in the order of the counts; 100 and the number for a refusal; 0 for any other call that is accepted

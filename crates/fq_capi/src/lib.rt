@@ -20,9 +20,9 @@ ghost use Rattle.hash.specs.OneAtATime.{flowOf};
 ghost use Rattle.fq_state.specs.Fresh.{fresh, freshRefusal, settingsOf};
 ghost use Rattle.fq_state.specs.WellFormed.{wellFormed};
 ghost use Rattle.fq_state.specs.Written.{flowWords};
-ghost use Rattle.fq.specs.Arrival.{arrival, arrivedHandles, arrivedSizes};
-ghost use Rattle.fq.specs.Departure.{departedSizes, departure};
-ghost use Rattle.fq.specs.Tick.{tick};
+ghost use Rattle.fq_rules.specs.Arrival.{arrival, arrivedHandles, arrivedSizes};
+ghost use Rattle.fq_rules.specs.Departure.{departedSizes, departure};
+ghost use Rattle.fq_rules.specs.Tick.{tick};
 ghost use Rattle.fq_capi.specs.Codes.{codeOf, commonAfter, deficitsAfter, flowsAfter, freshCode, orderAfter, packetOf, wordsOf};
 ghost use Rattle.fq_capi.specs.Words.{lent};
 

@@ -23,7 +23,7 @@ use Rattle.fq_state.specs.Flow.{emptyFlow, flowWith}
 use Rattle.fq_state.specs.State.{State, bytesOf, countOf, countsOf, eachBytes, flowAt}
 use Rattle.fq_state.specs.declared.Common.{Common}
 use Rattle.fq_state.specs.declared.Flow.{Flow}
-use Rattle.fq.specs.Arrival.{arrivedCommon, arrivedFlow, arrivedSchedule, flowNumber, freedRefused, verdictOf}
+use Rattle.fq_rules.specs.Arrival.{arrivedCommon, arrivedFlow, arrivedSchedule, flowNumber, freedRefused, verdictOf}
 use Rattle.fq_guarantees.specs.Acceptance.{acceptance}
 use Rattle.fq_guarantees.specs.Calls.{Call, arrive}
 use Rattle.fq_guarantees.specs.Kept.{Sound}

@@ -15,10 +15,10 @@ use Rattle.schedule_guarantees.proofs.Kept.{entered-or-same}
 use Rattle.store.specs.Put.{freePlace}
 use Rattle.fq_state.specs.State.{State, countOf, countsOf, flowAt}
 use Rattle.fq_state.specs.declared.Flow.{Flow}
-use Rattle.fq.specs.Answer.{Reply}
-use Rattle.fq.specs.Arrival.{arrivedFlow, arrivedSchedule, flowNumber, verdictOf}
-use Rattle.fq.specs.Departure.{choiceOf, departedFlow, headSize, servedFlow}
-use Rattle.fq.specs.Tick.{tickedFlow}
+use Rattle.fq_rules.specs.Answer.{Reply}
+use Rattle.fq_rules.specs.Arrival.{arrivedFlow, arrivedSchedule, flowNumber, verdictOf}
+use Rattle.fq_rules.specs.Departure.{choiceOf, departedFlow, headSize, servedFlow}
+use Rattle.fq_rules.specs.Tick.{tickedFlow}
 use Rattle.fq_guarantees.specs.Acceptance.{acceptance}
 use Rattle.fq_guarantees.specs.AsStretch.{AsStretch, ServesNext, eventsOf, lineOf}
 use Rattle.fq_guarantees.specs.Calls.{Call, arrive, depart, keyFlow, update}

@@ -13,7 +13,7 @@ use Rattle.schedule_guarantees.proofs.Kept.{choosing-keeps}
 use Rattle.fq_state.specs.Flow.{emptyFlow, flowWith}
 use Rattle.fq_state.specs.State.{State, bytesOf, countOf, countsOf, eachBytes}
 use Rattle.fq_state.specs.declared.Flow.{Flow}
-use Rattle.fq.specs.Departure.{choiceOf, departedCommon, departedFlow, headSize, servedFlow}
+use Rattle.fq_rules.specs.Departure.{choiceOf, departedCommon, departedFlow, headSize, servedFlow}
 use Rattle.fq_guarantees.specs.Acceptance.{acceptance}
 use Rattle.fq_guarantees.specs.Calls.{depart}
 use Rattle.fq_guarantees.specs.Kept.{Sound}

@@ -9,7 +9,7 @@ use Rattle.calls.proofs.Traces.{along}
 use Rattle.refusals.specs.Rows.{firstRefusal}
 use Rattle.schedule_guarantees.proofs.Fairness as stretch
 use Rattle.fq_state.specs.State.{State}
-use Rattle.fq.specs.Answer.{sizeIn}
+use Rattle.fq_rules.specs.Answer.{sizeIn}
 use Rattle.fq_guarantees.specs.Acceptance.{acceptance}
 use Rattle.fq_guarantees.specs.AsStretch.{lineOf}
 use Rattle.fq_guarantees.specs.Calls.{Call, arrive, depart, update}

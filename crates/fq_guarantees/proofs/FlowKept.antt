@@ -33,9 +33,9 @@ use Rattle.store.specs.declared.Ends.{Ends}
 use Rattle.fq_state.specs.Flow.{backlogOf, endsOf, flagWord, flowWith, isSet, pieOf}
 use Rattle.fq_state.specs.declared.Common.{Common}
 use Rattle.fq_state.specs.declared.Flow.{Flow}
-use Rattle.fq.specs.Arrival.{arrivedFlow, arrivedPie, bytesFull, slotsFull, verdictOf}
-use Rattle.fq.specs.Departure.{departedFlow, departedPie}
-use Rattle.fq.specs.Tick.{tickedFlow}
+use Rattle.fq_rules.specs.Arrival.{arrivedFlow, arrivedPie, bytesFull, slotsFull, verdictOf}
+use Rattle.fq_rules.specs.Departure.{departedFlow, departedPie}
+use Rattle.fq_rules.specs.Tick.{tickedFlow}
 use Rattle.fq_state.proofs.Facts.{CommonFits, FlowFits}
 
 -- ── a flow by its PIE state, its packets and its chain ──

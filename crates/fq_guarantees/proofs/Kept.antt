@@ -9,7 +9,7 @@ use Rattle.refusals.specs.Rows.{firstRefusal}
 use Rattle.fq_state.specs.Flow.{flowWith}
 use Rattle.fq_state.specs.State.{State, bytesOf, countOf}
 use Rattle.fq_state.specs.declared.Flow.{Flow}
-use Rattle.fq.specs.Tick.{tickedFlow}
+use Rattle.fq_rules.specs.Tick.{tickedFlow}
 use Rattle.fq_guarantees.specs.Acceptance.{acceptance}
 use Rattle.fq_guarantees.specs.Calls.{Call, arrive, depart, update}
 use Rattle.fq_guarantees.specs.Kept.{Kept, Sound}

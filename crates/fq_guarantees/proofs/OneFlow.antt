@@ -17,8 +17,8 @@ use Rattle.fq_state.specs.Flow.{emptyFlow}
 use Rattle.fq_state.specs.State.{State, bytesOf, countOf, flowAt}
 use Rattle.fq_state.specs.declared.Common.{Common}
 use Rattle.fq_state.specs.declared.Flow.{Flow}
-use Rattle.fq.specs.Arrival.{flowNumber, verdictOf}
-use Rattle.fq.specs.Departure.{choiceOf}
+use Rattle.fq_rules.specs.Arrival.{flowNumber, verdictOf}
+use Rattle.fq_rules.specs.Departure.{choiceOf}
 use Rattle.fq_state.proofs.Facts.{CommonFits, FlowFits, flow-fits}
 use Rattle.fq_guarantees.proofs.Facts.{Facts}
 use Rattle.fq_guarantees.proofs.Flows.{each-passes, part-of-total}

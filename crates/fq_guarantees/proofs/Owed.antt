@@ -18,8 +18,8 @@ use Rattle.schedule_guarantees.proofs.Owing.{owing}
 use Rattle.fq_state.specs.Fresh.{fresh, freshRefusal}
 use Rattle.fq_state.specs.State.{State, countsOf}
 use Rattle.fq_state.specs.declared.Settings.{Settings}
-use Rattle.fq.specs.Answer.{Answer, departed, departs, refused, sizeIn, ticked, verdict}
-use Rattle.fq.specs.Departure.{choiceOf}
+use Rattle.fq_rules.specs.Answer.{Answer, departed, departs, refused, sizeIn, ticked, verdict}
+use Rattle.fq_rules.specs.Departure.{choiceOf}
 use Rattle.fq_guarantees.specs.Acceptance.{acceptance}
 use Rattle.fq_guarantees.specs.AsStretch.{eventsOf, lineOf}
 use Rattle.fq_guarantees.specs.Calls.{Call, arrive, depart, keyFlow, reply, update}

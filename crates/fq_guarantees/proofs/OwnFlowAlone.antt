@@ -9,8 +9,8 @@ use Rattle.fq_state.specs.Flow.{pieOf}
 use Rattle.fq_state.specs.State.{State}
 use Rattle.fq_state.specs.declared.Common.{Common}
 use Rattle.fq_state.specs.declared.Flow.{Flow}
-use Rattle.fq.specs.Answer.{verdict}
-use Rattle.fq.specs.Arrival.{arrival, flowNumber, slotsFull, verdictOf}
+use Rattle.fq_rules.specs.Answer.{verdict}
+use Rattle.fq_rules.specs.Arrival.{arrival, flowNumber, slotsFull, verdictOf}
 use Rattle.fq_guarantees.specs.Calls.{arrive}
 use Rattle.fq_guarantees.specs.OwnFlowAlone.{OwnFlowAlone}
 use Rattle.fq_guarantees.specs.Shedding.{own}

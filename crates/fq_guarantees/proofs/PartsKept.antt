@@ -19,7 +19,7 @@ use Rattle.fq_state.specs.Flow.{emptyFlow}
 use Rattle.fq_state.specs.State.{State, countOf, countsOf, flowAt}
 use Rattle.fq_state.specs.WellFormed.{flowsFit}
 use Rattle.fq_state.specs.declared.Flow.{Flow}
-use Rattle.fq.specs.Arrival.{arrivedSchedule}
+use Rattle.fq_rules.specs.Arrival.{arrivedSchedule}
 use Rattle.fq_guarantees.specs.Acceptance.{acceptance}
 use Rattle.fq_guarantees.specs.Calls.{Call}
 use Rattle.fq_guarantees.specs.Kept.{Sound}

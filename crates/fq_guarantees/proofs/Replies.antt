@@ -6,10 +6,10 @@ use Prim.Native.Nat.{ℕ, zero, suc}
 use native.Mathlib.Omega.{arith}
 use Rattle.refusals.specs.Rows.{firstRefusal}
 use Rattle.fq_state.specs.State.{State}
-use Rattle.fq.specs.Answer.{Reply, refused, unlessRefused}
-use Rattle.fq.specs.Arrival.{arrivalRefusal}
-use Rattle.fq.specs.Departure.{departureRefusal}
-use Rattle.fq.specs.Tick.{tickRefusal}
+use Rattle.fq_rules.specs.Answer.{Reply, refused, unlessRefused}
+use Rattle.fq_rules.specs.Arrival.{arrivalRefusal}
+use Rattle.fq_rules.specs.Departure.{departureRefusal}
+use Rattle.fq_rules.specs.Tick.{tickRefusal}
 use Rattle.fq_guarantees.specs.Acceptance.{acceptance, refusal, reply-unless-refused}
 use Rattle.fq_guarantees.specs.Calls.{Call, arrive, depart, reply, update}
 use Rattle.fq_guarantees.specs.Refusals.{rowsOf}

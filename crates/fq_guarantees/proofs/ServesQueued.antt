@@ -7,7 +7,7 @@ use lib.ListN.{getD}
 use Rattle.pie.specs.Verdicts.{total}
 use Rattle.schedule_guarantees.proofs.ChoosingEnds.{choosing-ends}
 use Rattle.fq_state.specs.State.{countsOf}
-use Rattle.fq.specs.Departure.{choiceOf}
+use Rattle.fq_rules.specs.Departure.{choiceOf}
 use Rattle.fq_guarantees.specs.ServesQueued.{ServesQueued}
 use Rattle.fq_guarantees.proofs.Facts.{facts}
 use Rattle.fq_guarantees.proofs.PartsKept.{count-at, lists-sound}

@@ -27,10 +27,10 @@ use Rattle.fq_state.specs.State.{State, bytesOf, countOf}
 use Rattle.laws.specs.Tests.{all}
 use Rattle.fq_state.specs.WellFormed.{flowConditions}
 use Rattle.fq_state.specs.declared.Flow.{Flow}
-use Rattle.fq.specs.Answer.{verdict}
-use Rattle.fq.specs.Arrival.{arrivedCommon, arrivedFlow, arrivedPie, flowNumber, verdictOf}
-use Rattle.fq.specs.Departure.{choiceOf, departedCommon, departedFlow, departedPie, headSize, servedFlow}
-use Rattle.fq.specs.Tick.{tickedCommon, tickedFlow}
+use Rattle.fq_rules.specs.Answer.{verdict}
+use Rattle.fq_rules.specs.Arrival.{arrivedCommon, arrivedFlow, arrivedPie, flowNumber, verdictOf}
+use Rattle.fq_rules.specs.Departure.{choiceOf, departedCommon, departedFlow, departedPie, headSize, servedFlow}
+use Rattle.fq_rules.specs.Tick.{tickedCommon, tickedFlow}
 use Rattle.fq_guarantees.specs.Acceptance.{acceptance}
 use Rattle.fq_guarantees.specs.Calls.{Call, arrive, depart, keyFlow, reply, update}
 use Rattle.fq_guarantees.specs.Lists.{fqCalls}

@@ -10,8 +10,8 @@ use Rattle.calls.specs.Traces.{Entry, trace}
 use Rattle.schedule.specs.Ring.{deficitOf, zeroDeficit}
 use Rattle.schedule_guarantees.specs.Stretch.{AllFit, AtEach, Event, Line, Waits, after, arrives, departs, served}
 use Rattle.fq_state.specs.State.{State}
-use Rattle.fq.specs.Answer.{Answer, departed, refused, sizeIn, ticked, verdict}
-use Rattle.fq.specs.Answer as answer
+use Rattle.fq_rules.specs.Answer.{Answer, departed, refused, sizeIn, ticked, verdict}
+use Rattle.fq_rules.specs.Answer as answer
 use Rattle.fq_guarantees.specs.AsStretch.{ServesNext, eventsOf, lineOf}
 use Rattle.fq_guarantees.specs.Calls.{Call, arrive, depart, keyFlow, reply, update}
 use Rattle.fq_guarantees.specs.Fairness.{Backlogged, HandOutAtMost, bytesServed, handedOut}

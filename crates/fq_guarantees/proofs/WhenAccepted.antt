@@ -23,10 +23,10 @@ use Rattle.fq_state.specs.State.{State, flowAt}
 use Rattle.fq_state.specs.WellFormed.{wellFormed}
 use Rattle.fq_state.specs.declared.Common.{Common}
 use Rattle.fq_state.specs.declared.Flow.{Flow}
-use Rattle.fq.specs.Arrival.{arrivalRefusals, bytesFull, flowNumber, freedRefused, slotsFull, verdictOf}
-use Rattle.fq.specs.Departure.{departureRefusals, headSize, servedFlow}
-use Rattle.fq.specs.Refusals.{clockRefused, tablesRefused}
-use Rattle.fq.specs.Tick.{tickRefusals}
+use Rattle.fq_rules.specs.Arrival.{arrivalRefusals, bytesFull, flowNumber, freedRefused, slotsFull, verdictOf}
+use Rattle.fq_rules.specs.Departure.{departureRefusals, headSize, servedFlow}
+use Rattle.fq_rules.specs.Refusals.{clockRefused, tablesRefused}
+use Rattle.fq_rules.specs.Tick.{tickRefusals}
 use Rattle.fq_guarantees.proofs.Facts.{Facts, facts}
 
 -- ── what each test's failing says ──

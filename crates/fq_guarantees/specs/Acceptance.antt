@@ -6,10 +6,10 @@ use lib.ListN.{length, set}
 use Rattle.store.specs.Put.{freePlace}
 use Rattle.schedule.specs.Choosing.{charged}
 use Rattle.fq_state.specs.State.{State, flowAt}
-use Rattle.fq.specs.Answer.{Reply, departed, ticked, unlessRefused, verdict}
-use Rattle.fq.specs.Arrival.{arrival, arrivalRefusal, arrivedCommon, arrivedFlow, arrivedSchedule, flowNumber, verdictOf}
-use Rattle.fq.specs.Departure.{choiceOf, departedCommon, departedFlow, departure, departureRefusal, headHandle, headSize, servedFlow}
-use Rattle.fq.specs.Tick.{tick, tickRefusal, tickedCommon, tickedFlow}
+use Rattle.fq_rules.specs.Answer.{Reply, departed, ticked, unlessRefused, verdict}
+use Rattle.fq_rules.specs.Arrival.{arrival, arrivalRefusal, arrivedCommon, arrivedFlow, arrivedSchedule, flowNumber, verdictOf}
+use Rattle.fq_rules.specs.Departure.{choiceOf, departedCommon, departedFlow, departure, departureRefusal, headHandle, headSize, servedFlow}
+use Rattle.fq_rules.specs.Tick.{tick, tickRefusal, tickedCommon, tickedFlow}
 use Rattle.fq_guarantees.specs.Calls.{Call, arrive, depart, reply, update}
 
 -- the reply where no test of the call holds

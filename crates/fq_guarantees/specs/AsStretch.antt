@@ -8,7 +8,7 @@ use Prim.Native.Nat.{ℕ}
 use Rattle.pie.specs.Verdicts.{admitted}
 use Rattle.schedule_guarantees.specs.Stretch.{Event, Line, after, arrives, departs, next}
 use Rattle.fq_state.specs.State.{State, countsOf}
-use Rattle.fq.specs.Answer.{Answer, departed, refused, ticked, verdict}
+use Rattle.fq_rules.specs.Answer.{Answer, departed, refused, ticked, verdict}
 use Rattle.fq_guarantees.specs.Calls.{Call, keyFlow, reply}
 
 -- the counts, and the lists and deficits, of a record

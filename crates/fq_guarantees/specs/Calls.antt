@@ -3,10 +3,10 @@ use mathlib.Core.Bool.{Bool}
 use mathlib.Core.List.{List}
 use Prim.Native.Nat.{ℕ}
 use Rattle.fq_state.specs.State.{State}
-use Rattle.fq.specs.Answer.{Reply}
-use Rattle.fq.specs.Arrival.{arrival, flowNumber}
-use Rattle.fq.specs.Departure.{departure}
-use Rattle.fq.specs.Tick.{tick}
+use Rattle.fq_rules.specs.Answer.{Reply}
+use Rattle.fq_rules.specs.Arrival.{arrival, flowNumber}
+use Rattle.fq_rules.specs.Departure.{departure}
+use Rattle.fq_rules.specs.Tick.{tick}
 
 -- a call with all that it is given, but for the record: a departure and an arrival are lent both tables
 pub data Call : Type 0 where

@@ -12,7 +12,7 @@ use Rattle.calls.specs.Traces.{Entry, trace}
 use Rattle.schedule.specs.Ring.{deficitOf, quantum, zeroDeficit}
 use Rattle.fq_state.specs.Fresh.{freshRefusal}
 use Rattle.fq_state.specs.declared.Settings.{Settings}
-use Rattle.fq.specs.Answer.{Answer, departed, departs, refused, sizeIn, ticked, verdict}
+use Rattle.fq_rules.specs.Answer.{Answer, departed, departs, refused, sizeIn, ticked, verdict}
 use Rattle.fq_guarantees.specs.Calls.{Call}
 use Rattle.fq_guarantees.specs.Kept.{Sound}
 use Rattle.fq_guarantees.specs.Lists.{fqCalls}

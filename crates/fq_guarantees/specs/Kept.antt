@@ -10,7 +10,7 @@ use Rattle.fq_state.specs.Fresh.{freshRefusal}
 use Rattle.fq_state.specs.State.{State}
 use Rattle.fq_state.specs.WellFormed.{wellFormed}
 use Rattle.fq_state.specs.declared.Settings.{Settings}
-use Rattle.fq.specs.Answer.{refused}
+use Rattle.fq_rules.specs.Answer.{refused}
 use Rattle.fq_guarantees.specs.Calls.{Call, reply}
 use Rattle.fq_guarantees.specs.Lists.{fqCalls}
 use Rattle.fq_guarantees.specs.SixtyFour.{fresh64}

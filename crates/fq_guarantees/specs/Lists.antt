@@ -2,7 +2,7 @@
 use mathlib.Core.Path.{_∙_}
 use Prim.Native.Nat.{ℕ}
 use Rattle.calls.specs.Kind.{Kind}
-use Rattle.fq.specs.Answer.{Answer}
+use Rattle.fq_rules.specs.Answer.{Answer}
 use Rattle.fq_guarantees.specs.Calls.{Call, keyFlow, reply}
 use Rattle.fq_guarantees.specs.SixtyFour.{Record64, same-length}
 

@@ -8,8 +8,8 @@ use Prim.Native.Nat.{ℕ}
 use Rattle.pie.specs.declared.Verdict.{Verdict}
 use Rattle.fq_state.specs.Flow.{pieOf}
 use Rattle.fq_state.specs.State.{State}
-use Rattle.fq.specs.Answer.{verdict}
-use Rattle.fq.specs.Arrival.{arrival, flowNumber, slotsFull}
+use Rattle.fq_rules.specs.Answer.{verdict}
+use Rattle.fq_rules.specs.Arrival.{arrival, flowNumber, slotsFull}
 use Rattle.fq_guarantees.specs.Shedding.{own}
 
 -- for an arrival with this key

@@ -9,10 +9,10 @@ use Rattle.fq_state.specs.Fresh.{fresh, freshRefusal, setupRefused, zeroState}
 use Rattle.fq_state.specs.State.{State}
 use Rattle.fq_state.specs.WellFormed.{wellFormed}
 use Rattle.fq_state.specs.declared.Settings.{Settings}
-use Rattle.fq.specs.Answer.{Answer, refused}
-use Rattle.fq.specs.Arrival.{arrivalRefusals, arrivedHandles, arrivedSizes}
-use Rattle.fq.specs.Departure.{departedSizes, departureRefusals}
-use Rattle.fq.specs.Tick.{tickRefusals}
+use Rattle.fq_rules.specs.Answer.{Answer, refused}
+use Rattle.fq_rules.specs.Arrival.{arrivalRefusals, arrivedHandles, arrivedSizes}
+use Rattle.fq_rules.specs.Departure.{departedSizes, departureRefusals}
+use Rattle.fq_rules.specs.Tick.{tickRefusals}
 use Rattle.fq_guarantees.specs.Calls.{Call, arrive, depart, reply, update}
 
 -- the call's rows of the table of refusals: each number with its test

@@ -6,7 +6,7 @@ use Prim.Native.Nat.{ℕ, _+_, _≤_, _<_}
 use Rattle.schedule.specs.Choosing.{chooseIn, mostLooks}
 use Rattle.schedule_guarantees.specs.ChoosingEnds.{MayBeServed, movesIn}
 use Rattle.fq_state.specs.State.{State, countsOf}
-use Rattle.fq.specs.Departure.{choiceOf, servedFlow}
+use Rattle.fq_rules.specs.Departure.{choiceOf, servedFlow}
 use Rattle.fq_guarantees.specs.Kept.{Sound}
 
 pub record Serves (s : State) : Type 0 where

@@ -11,8 +11,8 @@ use Rattle.fq_state.specs.Flow.{pieOf}
 use Rattle.fq_state.specs.State.{State, flowAt}
 use Rattle.fq_state.specs.WellFormed.{flowConditions, settingsConditions}
 use Rattle.fq_state.specs.declared.Flow.{Flow}
-use Rattle.fq.specs.Answer.{Answer, departed, refused, ticked, verdict}
-use Rattle.fq.specs.Arrival.{bytesFull, slotsFull}
+use Rattle.fq_rules.specs.Answer.{Answer, departed, refused, ticked, verdict}
+use Rattle.fq_rules.specs.Arrival.{bytesFull, slotsFull}
 use Rattle.fq_guarantees.specs.Calls.{Call, arrive, depart, update}
 use Rattle.fq_guarantees.specs.Lists.{Answered, fqCalls}
 

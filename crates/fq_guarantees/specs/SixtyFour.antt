@@ -6,7 +6,7 @@ use lib.ListN.{length, length-map, length-set}
 use Rattle.fq_state.specs.Fresh.{fresh, freshState, setupRefused, zeroState}
 use Rattle.fq_state.specs.State.{State}
 use Rattle.fq_state.specs.declared.Settings.{Settings}
-use Rattle.fq.specs.Answer.{unlessRefused}
+use Rattle.fq_rules.specs.Answer.{unlessRefused}
 use Rattle.fq_guarantees.specs.Acceptance.{acceptance, refusal, reply-unless-refused}
 use Rattle.fq_guarantees.specs.Calls.{Call, arrive, depart, reply, update}
 

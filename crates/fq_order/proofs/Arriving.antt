@@ -16,8 +16,8 @@ use Rattle.store_guarantees.specs.Chains.{contents}
 use Rattle.fq_state.specs.Flow.{flowWith}
 use Rattle.fq_state.specs.State.{State, flowAt}
 use Rattle.fq_state.specs.declared.Flow.{Flow}
-use Rattle.fq.specs.Answer.{verdict}
-use Rattle.fq.specs.Arrival.{arrivedCommon, arrivedFlow, flowNumber, verdictOf}
+use Rattle.fq_rules.specs.Answer.{verdict}
+use Rattle.fq_rules.specs.Arrival.{arrivedCommon, arrivedFlow, flowNumber, verdictOf}
 use Rattle.fq_guarantees.specs.Acceptance.{acceptance}
 use Rattle.fq_guarantees.specs.Refusals.{rowsOf}
 use Rattle.fq_guarantees.proofs.Replies.{numberGiven}

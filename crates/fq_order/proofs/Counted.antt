@@ -10,7 +10,7 @@ use Rattle.pie.specs.Verdicts.{placeOf, raised}
 use Rattle.pie.specs.declared.Verdict.{Verdict}
 use Rattle.pie.proofs.Counts.{length-raised}
 use Rattle.queue.specs.Answer as queue
-use Rattle.fq.specs.Answer.{Answer, departed, refused, ticked, verdict}
+use Rattle.fq_rules.specs.Answer.{Answer, departed, refused, ticked, verdict}
 use Rattle.fq_order.specs.Conservation.{isVerdict}
 
 -- the counts after this answer

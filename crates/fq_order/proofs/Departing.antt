@@ -13,8 +13,8 @@ use Rattle.store_guarantees.specs.Chains.{contents}
 use Rattle.fq_state.specs.Flow.{flowWith}
 use Rattle.fq_state.specs.State.{State, flowAt}
 use Rattle.fq_state.specs.declared.Flow.{Flow}
-use Rattle.fq.specs.Answer.{Answer, departed}
-use Rattle.fq.specs.Departure.{choiceOf, departedCommon, departedFlow, headHandle, headSize, servedFlow}
+use Rattle.fq_rules.specs.Answer.{Answer, departed}
+use Rattle.fq_rules.specs.Departure.{choiceOf, departedCommon, departedFlow, headHandle, headSize, servedFlow}
 use Rattle.fq_guarantees.specs.Acceptance.{acceptance}
 use Rattle.fq_guarantees.specs.Refusals.{rowsOf}
 use Rattle.fq_guarantees.proofs.Replies.{numberGiven}

@@ -13,8 +13,8 @@ use Rattle.store.specs.Put.{endsAfterPut, sizesAfterPut, storeAfterPut}
 use Rattle.fq_state.specs.Flow.{flowWith}
 use Rattle.fq_state.specs.Fresh.{fresh}
 use Rattle.fq_state.specs.WellFormed.{flowsFit, wellFormed}
-use Rattle.fq.specs.Arrival.{arrival, arrivalRefusal, arrivedCommon, arrivedFlow, arrivedSchedule, verdictOf}
-use Rattle.fq.specs.Departure.{departedCommon, departedFlow, departure, departureRefusal}
+use Rattle.fq_rules.specs.Arrival.{arrival, arrivalRefusal, arrivedCommon, arrivedFlow, arrivedSchedule, verdictOf}
+use Rattle.fq_rules.specs.Departure.{departedCommon, departedFlow, departure, departureRefusal}
 use Rattle.fq_order.specs.Example.{Example}
 
 pub example : Example

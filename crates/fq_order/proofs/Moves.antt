@@ -14,7 +14,7 @@ use Rattle.store_guarantees.proofs.Lists.{map-set}
 use Rattle.fq_state.specs.Flow.{emptyFlow}
 use Rattle.fq_state.specs.State.{bytesOf as flowBytes, flowAt}
 use Rattle.fq_state.specs.declared.Flow.{Flow}
-use Rattle.fq.specs.Answer.{Answer}
+use Rattle.fq_rules.specs.Answer.{Answer}
 use Rattle.fq_order.specs.Handed.{Flows, Request, admittedBy, chainOf, chainsOf, departedBy, ofAll, ofFlow, queued}
 use Rattle.fq_order.proofs.Counted.{countedBy}
 use Rattle.fq_order.proofs.Whole.{Whole, unfitOf}

@@ -11,10 +11,10 @@ use Rattle.calls.specs.Packets.{bytesOf}
 use Rattle.calls.proofs.Packets.{bytes-append, sized-append, sized-rest}
 use Rattle.refusals.proofs.Ordered.{test-fails}
 use Rattle.fq_state.specs.State.{flowAt}
-use Rattle.fq.specs.Answer.{Answer, Reply, refused}
-use Rattle.fq.specs.Arrival.{flowNumber}
-use Rattle.fq.specs.Departure.{choiceOf}
-use Rattle.fq.specs.Refusals.{clockRefused, emptyRefused}
+use Rattle.fq_rules.specs.Answer.{Answer, Reply, refused}
+use Rattle.fq_rules.specs.Arrival.{flowNumber}
+use Rattle.fq_rules.specs.Departure.{choiceOf}
+use Rattle.fq_rules.specs.Refusals.{clockRefused, emptyRefused}
 use Rattle.fq_guarantees.specs.Acceptance.{acceptance}
 use Rattle.fq_guarantees.specs.Calls.{reply}
 use Rattle.fq_guarantees.specs.Refusals.{Applies, rowsOf}

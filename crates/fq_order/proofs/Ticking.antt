@@ -5,8 +5,8 @@ use Prim.Native.Nat.{ℕ, zero, suc}
 use Rattle.fq_state.specs.Flow.{flowWith}
 use Rattle.fq_state.specs.State.{flowAt}
 use Rattle.fq_state.specs.declared.Flow.{Flow}
-use Rattle.fq.specs.Answer.{ticked}
-use Rattle.fq.specs.Tick.{tickedFlow}
+use Rattle.fq_rules.specs.Answer.{ticked}
+use Rattle.fq_rules.specs.Tick.{tickedFlow}
 use Rattle.fq_guarantees.specs.Acceptance.{acceptance}
 use Rattle.fq_order.specs.Handed.{Flows, askTick, callOf, chainOf, returned}
 use Rattle.fq_order.proofs.Chained.{same-read}

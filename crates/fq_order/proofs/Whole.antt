@@ -26,9 +26,9 @@ use Rattle.fq_state.specs.Flow.{backlogOf, emptyFlow, pieOf}
 use Rattle.fq_state.specs.State.{State, bytesOf as flowBytes, flowAt}
 use Rattle.fq_state.specs.declared.Common.{Common}
 use Rattle.fq_state.specs.declared.Flow.{Flow}
-use Rattle.fq.specs.Arrival.{bytesFull, freedRefused, slotsFull, verdictOf}
-use Rattle.fq.specs.Departure.{headHandle, headSize, headWordRefused, servedFlow}
-use Rattle.fq.specs.Refusals.{tablesRefused}
+use Rattle.fq_rules.specs.Arrival.{bytesFull, freedRefused, slotsFull, verdictOf}
+use Rattle.fq_rules.specs.Departure.{headHandle, headSize, headWordRefused, servedFlow}
+use Rattle.fq_rules.specs.Refusals.{tablesRefused}
 use Rattle.fq_guarantees.specs.Kept.{Sound as Formed}
 use Rattle.fq_guarantees.proofs.Facts.{facts}
 use Rattle.fq_guarantees.proofs.ServesQueued.{serves-queued}

@@ -14,7 +14,7 @@ use Rattle.pie.specs.declared.Verdict.{Verdict}
 use Rattle.fq_state.specs.Fresh.{freshRefusal}
 use Rattle.fq_state.specs.State.{countsOf, eachBytes, flowAt}
 use Rattle.fq_state.specs.declared.Settings.{Settings}
-use Rattle.fq.specs.Answer.{Answer, departed, refused, ticked, verdict}
+use Rattle.fq_rules.specs.Answer.{Answer, departed, refused, ticked, verdict}
 use Rattle.fq_order.specs.Handed.{Request, Run, answerOf, ofAll, ofFlow, queued, run}
 
 -- the answer to an arrival is this verdict

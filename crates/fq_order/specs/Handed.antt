@@ -11,9 +11,9 @@ use Rattle.fq_state.specs.Fresh.{fresh}
 use Rattle.fq_state.specs.State.{State}
 use Rattle.fq_state.specs.declared.Flow.{Flow}
 use Rattle.fq_state.specs.declared.Settings.{Settings}
-use Rattle.fq.specs.Answer.{Answer, Reply, admits, departed, refused, ticked, verdict}
-use Rattle.fq.specs.Arrival.{arrivedHandles, arrivedSizes, flowNumber}
-use Rattle.fq.specs.Departure.{departedSizes}
+use Rattle.fq_rules.specs.Answer.{Answer, Reply, admits, departed, refused, ticked, verdict}
+use Rattle.fq_rules.specs.Arrival.{arrivedHandles, arrivedSizes, flowNumber}
+use Rattle.fq_rules.specs.Departure.{departedSizes}
 use Rattle.fq_guarantees.specs.Calls.{Call, arrive, depart, reply, update}
 
 -- the record and the two tables

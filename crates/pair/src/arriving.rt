@@ -1,9 +1,9 @@
 // An arrival.
-use crate::Arrived;
+use pair_rules::Arrived;
+use pair_rules::decide;
 use pair_state::Shared;
 use pair_state::State;
 use pair_state::Which;
-use pie::Decided;
 use pie::LARGEST;
 use pie::LATEST;
 use pie::Pie;
@@ -19,25 +19,17 @@ use units::Bytes;
 use units::Micros;
 use units::Prob;
 ghost use mathlib.Core.Path.{_≡_};
-ghost use mathlib.Core.Bool.{cond, true};
 ghost use mathlib.Core.List.{[], _∷_};
 ghost use Prim.Native.Nat.{_≤_, _<_};
-ghost use lib.ListN.{length};
-ghost use Rattle.laws.specs.Tests.{all};
 ghost use Rattle.pie.specs.Constants.{largest, mostVerdicts};
-ghost use Rattle.pie.specs.Verdicts.{admitted, total};
-ghost use Rattle.queue.specs.declared.ArrivalAnswer.the-variants.{Decided, Refused};
+ghost use Rattle.pie.specs.Verdicts.{total};
 ghost use Rattle.refusals.specs.Numbers.{refusalIn};
 ghost use Rattle.refusals.specs.Rows.{firstRefusal};
 ghost use Rattle.refusals.specs.Tests.{sizeRefused};
-ghost use Rattle.refusals.specs.declared.Refusal.the-variants.{Head};
-ghost use Rattle.store.specs.Following.{linkRefused};
-ghost use Rattle.store.specs.Put.{freePlace, handlesAfterPut, sizesAfterPut, storeAfterPut};
-ghost use Rattle.pair.specs.Answer.{arrivalReply};
-ghost use Rattle.pair.specs.Arrival.{arrival, arrivedHandles, arrivedPie, arrivedSizes, arrivedState, verdictOf};
+ghost use Rattle.pair_rules.specs.Answer.{arrivalReply};
+ghost use Rattle.pair_rules.specs.Arrival.{arrival, arrivedHandles, arrivedPie, arrivedSizes, arrivedState};
 ghost use Rattle.pair_state.specs.Queues.{paired};
-ghost use Rattle.pair.specs.Refusals.{clockRefused, countsRefused, pairRefused, tablesRefused};
-ghost use Rattle.pair_state.specs.WellFormed.{queueConditions, wellFormed};
+ghost use Rattle.pair_rules.specs.Refusals.{clockRefused, countsRefused, pairRefused, tablesRefused};
 ghost use Rattle.pair_state.specs.declared.Which.the-variants.{Intercom};
 
 // Refusals 2, 3, 4, 7 and 8, where the first queue is called.
@@ -93,33 +85,6 @@ fn check_arrival(
         return Accepted::No(Refusal::Counts);
     }
     Accepted::Yes
-}
-
-// Rules 1 to 7, where the first queue is called.
-pub fn decide(shared: Shared, own: State, other: State, size: Bytes, ecn: bool, u: u32) -> Decided
-    requires { ⌜ wellFormed (paired Intercom shared own other) ≡ true ⌝ }
-    requires { ⌜ size .0 ≤ largest ⌝ }
-    ensures { λ r. ⌜ r .verdict ≡ verdictOf (paired Intercom shared own other) Intercom (size .0) ecn u ⌝ }
-    ensures { λ r. ⌜ r .accumulated ≡ arrivedPie own (r .verdict) .accumulated ⌝ }
-{
-    let settings = own.settings;
-    let pie = own.pie;
-    let accumulated = pie.accumulated;
-    let bytes_full = settings.buffer.0 < own.backlog.bytes.0 + size.0;
-    if bytes_full {
-        return Decided {
-            verdict: Verdict::DroppedBytes,
-            accumulated,
-        };
-    }
-    let slots_full = shared.full(own.backlog.count, other.backlog.count);
-    if slots_full {
-        return Decided {
-            verdict: Verdict::DroppedSlots,
-            accumulated,
-        };
-    }
-    pie.decide(settings.target, own.backlog.bytes, ecn, u)
 }
 
 // The state after an arrival with this verdict; where it admits, the packet stands at `place`.

@@ -1,5 +1,5 @@
 // A departure.
-use crate::Departed;
+use pair_rules::Departed;
 use pair_state::Shared;
 use pair_state::State;
 use pair_state::Which;
@@ -21,8 +21,8 @@ ghost use Rattle.laws.specs.Tests.{all};
 ghost use Rattle.pie.specs.Constants.{largest};
 ghost use Rattle.queue.specs.Answer.{handleIn, sizeIn};
 ghost use Rattle.refusals.specs.Numbers.{refusalIn};
-ghost use Rattle.pair.specs.Answer.{departureReply};
-ghost use Rattle.pair.specs.Departure.{departedSizes, departedState, departure, departureRefusal};
+ghost use Rattle.pair_rules.specs.Answer.{departureReply};
+ghost use Rattle.pair_rules.specs.Departure.{departedSizes, departedState, departure, departureRefusal};
 ghost use Rattle.pair_state.specs.Queues.{paired};
 ghost use Rattle.pair_state.specs.WellFormed.{queueConditions};
 ghost use Rattle.pair_state.specs.declared.Which.the-variants.{Intercom};

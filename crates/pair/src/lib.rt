@@ -1,36 +1,9 @@
 // Two queues of packet records, intercom and passengers, over one pair of lent tables, each shedding load by PIE. A call is given the
 // shared record, the state of the queue that it names and the other one's.
-use pair_state::State;
-use queue::ArrivalAnswer;
-use refusals::Accepted;
-use store::Store;
-
 mod arriving;
 mod departing;
 mod ticking;
 
-// A call returns what it may change: of the shared record the store, and the state of the queue that it names.
-pub struct Arrived {
-    pub answer: ArrivalAnswer,
-    pub store: Store,
-    pub state: State,
-}
-
-// The handle and size of the packet that left, or 0 and 0.
-pub struct Departed {
-    pub accepted: Accepted,
-    pub handle: u32,
-    pub size: u32,
-    pub store: Store,
-    pub state: State,
-}
-
-pub struct Ticked {
-    pub accepted: Accepted,
-    pub state: State,
-}
-
 pub use arriving::arrival;
-pub use arriving::decide;
 pub use departing::departure;
 pub use ticking::tick;

@@ -1,5 +1,5 @@
 // A tick.
-use crate::Ticked;
+use pair_rules::Ticked;
 use pair_state::Shared;
 use pair_state::State;
 use pair_state::Which;
@@ -10,12 +10,11 @@ use refusals::Refusal;
 use units::Micros;
 ghost use mathlib.Core.Path.{_≡_};
 ghost use mathlib.Core.Bool.{true};
-ghost use Prim.Native.Nat.{_≤_};
 ghost use Rattle.laws.specs.Tests.{all};
 ghost use Rattle.refusals.specs.Numbers.{refusalIn};
-ghost use Rattle.pair.specs.Answer.{tickReply};
+ghost use Rattle.pair_rules.specs.Answer.{tickReply};
 ghost use Rattle.pair_state.specs.Queues.{paired};
-ghost use Rattle.pair.specs.Tick.{tick, tickRefusal, tickedState};
+ghost use Rattle.pair_rules.specs.Tick.{tick, tickRefusal, tickedState};
 ghost use Rattle.pair_state.specs.WellFormed.{queueConditions};
 ghost use Rattle.pair_state.specs.declared.Which.the-variants.{Intercom};
 

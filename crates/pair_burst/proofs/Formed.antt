@@ -29,12 +29,12 @@ use Rattle.pair_state.specs.declared.Pair.{Pair}
 use Rattle.pair_state.specs.declared.State.{State}
 use Rattle.pair_state.specs.declared.Which.{Which}
 use Rattle.pair_state.proofs.Facts.{Facts, QueueFits, facts}
-use Rattle.pair.specs.Answer.{unlessRefused}
-use Rattle.pair.specs.Arrival.{arrival, arrivalRefusal, arrivalRefusals, arrivedState, arrivedStore, verdictOf}
-use Rattle.pair.specs.Departure.{departedState, departure, departureRefusal, departureRefusals, headSize}
-use Rattle.pair.specs.Tick.{tick, tickRefusal, tickRefusals, tickedState}
-use Rattle.pair.proofs.Kept.{arrived-fits, departed-fits, ticked-fits}
-use Rattle.pair.proofs.WhenAccepted.{admitted-room}
+use Rattle.pair_rules.specs.Answer.{unlessRefused}
+use Rattle.pair_rules.specs.Arrival.{arrival, arrivalRefusal, arrivalRefusals, arrivedState, arrivedStore, verdictOf}
+use Rattle.pair_rules.specs.Departure.{departedState, departure, departureRefusal, departureRefusals, headSize}
+use Rattle.pair_rules.specs.Tick.{tick, tickRefusal, tickRefusals, tickedState}
+use Rattle.pair_rules.proofs.Kept.{arrived-fits, departed-fits, ticked-fits}
+use Rattle.pair_rules.proofs.WhenAccepted.{admitted-room}
 use Rattle.pair_isolation.specs.Handed.{Queues, replyTo}
 use Rattle.pair_isolation.proofs.Kept.{changed-formed, held-total, no-more, own-fits, room}
 

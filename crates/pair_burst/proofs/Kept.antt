@@ -13,9 +13,9 @@ use Rattle.pair_state.specs.Queues.{own}
 use Rattle.pair_state.specs.declared.Pair.{Pair}
 use Rattle.pair_state.specs.declared.Which.{Which}
 use Rattle.pair_state.specs.declared.Which.the-variants.{Intercom, Passengers}
-use Rattle.pair.specs.Answer.{departs}
-use Rattle.pair.specs.Arrival.{arrivedHandles, arrivedSizes}
-use Rattle.pair.specs.Departure.{departedSizes}
+use Rattle.pair_rules.specs.Answer.{departs}
+use Rattle.pair_rules.specs.Arrival.{arrivedHandles, arrivedSizes}
+use Rattle.pair_rules.specs.Departure.{departedSizes}
 use Rattle.pair_isolation.specs.Handed.{replyTo}
 use Rattle.pair_burst.specs.Calls.{Call, asked, unknown}
 use Rattle.pair_burst.specs.Burst.{Lent, after, lent, queuesOf}

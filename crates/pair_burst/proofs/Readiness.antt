@@ -20,10 +20,10 @@ use Rattle.pair_state.specs.declared.Shared.{Shared}
 use Rattle.pair_state.specs.declared.State.{State}
 use Rattle.pair_state.specs.declared.Which.{Which}
 use Rattle.pair_state.specs.declared.Which.the-variants.{Intercom, Passengers}
-use Rattle.pair.specs.Answer.{unlessRefused}
-use Rattle.pair.specs.Arrival.{arrival, arrivalRefusal, arrivedState, arrivedStore, verdictOf}
-use Rattle.pair.specs.Departure.{departedState, departure, departureRefusal}
-use Rattle.pair.specs.Tick.{tick, tickRefusal, tickedState}
+use Rattle.pair_rules.specs.Answer.{unlessRefused}
+use Rattle.pair_rules.specs.Arrival.{arrival, arrivalRefusal, arrivedState, arrivedStore, verdictOf}
+use Rattle.pair_rules.specs.Departure.{departedState, departure, departureRefusal}
+use Rattle.pair_rules.specs.Tick.{tick, tickRefusal, tickedState}
 use Rattle.pair_isolation.specs.Handed.{Queues, replyTo, returned}
 use Rattle.pair_words.specs.Codes.{ownAfter, sharedAfter}
 use Rattle.pair_words.specs.Words.{flagWord, isSet, pairOf, sharedOf, sharedWords, stateOf, stateWords}

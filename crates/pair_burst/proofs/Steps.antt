@@ -18,10 +18,10 @@ use Rattle.pair_state.specs.Queues.{own}
 use Rattle.pair_state.specs.declared.Pair.{Pair}
 use Rattle.pair_state.specs.declared.Which.{Which}
 use Rattle.pair_state.specs.declared.Which.the-variants.{Intercom, Passengers}
-use Rattle.pair.specs.Answer.{unlessRefused}
-use Rattle.pair.specs.Arrival.{arrival, arrivalRefusal, arrivedHandles, arrivedSizes}
-use Rattle.pair.specs.Departure.{departedSizes, departure, departureRefusal, departureRefusals, headHandle, headSize}
-use Rattle.pair.specs.Tick.{tick, tickRefusal}
+use Rattle.pair_rules.specs.Answer.{unlessRefused}
+use Rattle.pair_rules.specs.Arrival.{arrival, arrivalRefusal, arrivedHandles, arrivedSizes}
+use Rattle.pair_rules.specs.Departure.{departedSizes, departure, departureRefusal, departureRefusals, headHandle, headSize}
+use Rattle.pair_rules.specs.Tick.{tick, tickRefusal}
 use Rattle.pair_words.specs.Codes.{codeOf, ownAfter, sharedAfter}
 use Rattle.pair_words.specs.Words.{pairOf, whichOf}
 use Rattle.pair_burst.specs.Calls.{asked, callAt, requestAt}

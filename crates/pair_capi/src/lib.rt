@@ -23,9 +23,9 @@ ghost use mathlib.Core.List.{[]};
 ghost use Prim.Native.Nat.{_+_};
 ghost use Rattle.pair_state.specs.Fresh.{fresh, setupOf};
 ghost use Rattle.pair_state.specs.WellFormed.{wellFormed};
-ghost use Rattle.pair.specs.Arrival.{arrival, arrivedHandles, arrivedSizes};
-ghost use Rattle.pair.specs.Departure.{departedSizes, departure};
-ghost use Rattle.pair.specs.Tick.{tick};
+ghost use Rattle.pair_rules.specs.Arrival.{arrival, arrivedHandles, arrivedSizes};
+ghost use Rattle.pair_rules.specs.Departure.{departedSizes, departure};
+ghost use Rattle.pair_rules.specs.Tick.{tick};
 ghost use Rattle.pair_words.specs.Codes.{codeOf, ownAfter, packetOf, sharedAfter};
 ghost use Rattle.pair_words.specs.Words.{pairOf, sharedWords, stateWords, whichOf};
 

@@ -9,7 +9,7 @@ use Rattle.guarantees.specs.Calls.{arrive}
 use Rattle.pair_state.specs.Queues.{own}
 use Rattle.pair_state.specs.declared.Pair.{Pair}
 use Rattle.pair_state.specs.declared.Which.{Which}
-use Rattle.pair.specs.Arrival.{arrival, slotsFull, verdictOf}
+use Rattle.pair_rules.specs.Arrival.{arrival, slotsFull, verdictOf}
 use Rattle.pair_guarantees.specs.OwnStateAlone.{OwnStateAlone, SameButEnds}
 use Rattle.pair_guarantees.proofs.Replies.{by-number}
 

@@ -22,12 +22,12 @@ use Rattle.pair_state.specs.declared.State.{State}
 use Rattle.pair_state.specs.declared.Which.{Which}
 use Rattle.pair_state.specs.declared.Which.the-variants.{Intercom}
 use Rattle.pair_state.proofs.Symmetry.{own-paired, seen}
-use Rattle.pair.specs.Answer.{unlessRefused}
-use Rattle.pair.specs.Arrival.{arrival, arrivalRefusal, arrivedState, arrivedStore, freedRefused, verdictOf}
-use Rattle.pair.specs.Departure.{departedState, departure, departureRefusal, headHandle, headSize}
-use Rattle.pair.specs.Tick.{tick, tickRefusal, tickedState}
-use Rattle.pair.proofs.Replies.{arrival-reply, departure-reply, early, tick-reply}
-use Rattle.pair.proofs.WhenAccepted.{ArrivalAccepted, DepartureAccepted, TickAccepted, arrival-accepted, departure-accepted, tick-accepted}
+use Rattle.pair_rules.specs.Answer.{unlessRefused}
+use Rattle.pair_rules.specs.Arrival.{arrival, arrivalRefusal, arrivedState, arrivedStore, freedRefused, verdictOf}
+use Rattle.pair_rules.specs.Departure.{departedState, departure, departureRefusal, headHandle, headSize}
+use Rattle.pair_rules.specs.Tick.{tick, tickRefusal, tickedState}
+use Rattle.pair_rules.proofs.Replies.{arrival-reply, departure-reply, early, tick-reply}
+use Rattle.pair_rules.proofs.WhenAccepted.{ArrivalAccepted, DepartureAccepted, TickAccepted, arrival-accepted, departure-accepted, tick-accepted}
 use Rattle.pair_guarantees.specs.Calls.{reply}
 use Rattle.pair_guarantees.specs.Refusals.{rowsOf}
 

@@ -25,12 +25,12 @@ use Rattle.pair_state.specs.declared.Which.{Which}
 use Rattle.pair_state.specs.declared.Which.the-variants.{Intercom, Passengers}
 use Rattle.pair_state.proofs.Facts.{QueueFits, facts, passes, queue-fits, queue-passes}
 use Rattle.pair_state.proofs.Symmetry.{seen}
-use Rattle.pair.specs.Arrival.{arrivedState, verdictOf}
-use Rattle.pair.specs.Departure.{departedState}
-use Rattle.pair.specs.Tick.{tickedState}
-use Rattle.pair.proofs.Kept.{arrived-fits, departed-fits, free-slot, ticked-fits}
-use Rattle.pair.proofs.Seen.{slots-full-seen}
-use Rattle.pair.proofs.WhenAccepted.{admitted-room, room}
+use Rattle.pair_rules.specs.Arrival.{arrivedState, verdictOf}
+use Rattle.pair_rules.specs.Departure.{departedState}
+use Rattle.pair_rules.specs.Tick.{tickedState}
+use Rattle.pair_rules.proofs.Kept.{arrived-fits, departed-fits, free-slot, ticked-fits}
+use Rattle.pair_rules.proofs.Seen.{slots-full-seen}
+use Rattle.pair_rules.proofs.WhenAccepted.{admitted-room, room}
 use Rattle.pair_guarantees.specs.Calls.{OwnCall, ownCalls}
 use Rattle.pair_guarantees.specs.Shedding.{Formed, queueOf, tells}
 use Rattle.pair_guarantees.proofs.Replies.{at-own-reply}

@@ -8,9 +8,9 @@ use Rattle.pair_state.specs.declared.Pair.{Pair}
 use Rattle.pair_state.specs.declared.Shared.{Shared}
 use Rattle.pair_state.specs.declared.State.{State}
 use Rattle.pair_state.specs.declared.Which.{Which}
-use Rattle.pair.specs.Arrival.{arrival}
-use Rattle.pair.specs.Departure.{departure}
-use Rattle.pair.specs.Tick.{tick}
+use Rattle.pair_rules.specs.Arrival.{arrival}
+use Rattle.pair_rules.specs.Departure.{departure}
+use Rattle.pair_rules.specs.Tick.{tick}
 
 -- what a queue is asked is what the ring queue is asked (crate guarantees): arrive, depart or update, with arguments and lent tables
 abbrev pub reply : Pair → Which → Call → Reply

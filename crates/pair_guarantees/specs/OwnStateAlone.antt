@@ -10,7 +10,7 @@ use Rattle.pair_state.specs.Queues.{own}
 use Rattle.pair_state.specs.declared.Pair.{Pair}
 use Rattle.pair_state.specs.declared.State.{State}
 use Rattle.pair_state.specs.declared.Which.{Which}
-use Rattle.pair.specs.Arrival.{arrival, slotsFull}
+use Rattle.pair_rules.specs.Arrival.{arrival, slotsFull}
 
 -- the same but for head and tail
 pub record SameButEnds (a b : State) : Type 0 where

@@ -12,9 +12,9 @@ use Rattle.pair_state.specs.WellFormed.{wellFormed}
 use Rattle.pair_state.specs.declared.Pair.{Pair}
 use Rattle.pair_state.specs.declared.Setup.{Setup}
 use Rattle.pair_state.specs.declared.Which.{Which}
-use Rattle.pair.specs.Arrival.{arrivalRefusals, arrivedHandles, arrivedSizes}
-use Rattle.pair.specs.Departure.{departedSizes, departureRefusals}
-use Rattle.pair.specs.Tick.{tickRefusals}
+use Rattle.pair_rules.specs.Arrival.{arrivalRefusals, arrivedHandles, arrivedSizes}
+use Rattle.pair_rules.specs.Departure.{departedSizes, departureRefusals}
+use Rattle.pair_rules.specs.Tick.{tickRefusals}
 use Rattle.pair_guarantees.specs.Calls.{reply}
 
 -- the call's rows of the table of refusals: each number with its test

@@ -11,7 +11,7 @@ use Rattle.guarantees.specs.Calls.{Call, arrive, depart, update}
 use Rattle.pair_state.specs.WellFormed.{queueConditions}
 use Rattle.pair_state.specs.declared.State.{State}
 use Rattle.pair_state.specs.declared.Which.{Which}
-use Rattle.pair.specs.Arrival.{bytesFull, slotsFull}
+use Rattle.pair_rules.specs.Arrival.{bytesFull, slotsFull}
 use Rattle.pair_guarantees.specs.Calls.{ownCalls, records}
 
 abbrev pub tells : Answer → Told

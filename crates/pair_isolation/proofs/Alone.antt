@@ -13,10 +13,10 @@ use Rattle.queue.specs.Answer.{Answer, departed, refused, ticked, verdict}
 use Rattle.refusals.specs.Rows.{firstRefusal}
 use Rattle.refusals.specs.Tests.{sizeRefused}
 use Rattle.pair_state.specs.declared.State.{State}
-use Rattle.pair.specs.Arrival.{arrivedState, bytesFull}
-use Rattle.pair.specs.Departure.{departedState}
-use Rattle.pair.specs.Refusals.{clockRefused, countsRefused, emptyRefused, tooSoonRefused}
-use Rattle.pair.specs.Tick.{tickedState}
+use Rattle.pair_rules.specs.Arrival.{arrivedState, bytesFull}
+use Rattle.pair_rules.specs.Departure.{departedState}
+use Rattle.pair_rules.specs.Refusals.{clockRefused, countsRefused, emptyRefused, tooSoonRefused}
+use Rattle.pair_rules.specs.Tick.{tickedState}
 use Rattle.pair_isolation.specs.Isolation.{withoutEnds}
 
 pub record View : Type 0 where

@@ -22,9 +22,9 @@ use Rattle.queue.specs.Answer.{Answer, refused, verdict}
 use Rattle.refusals.proofs.Fitting.{size-in-range}
 use Rattle.refusals.proofs.Ordered.{none-refuses}
 use Rattle.refusals.specs.Rows.{firstRefusal}
-use Rattle.pair.specs.Arrival.{arrivedState}
-use Rattle.pair.specs.Departure.{departedState}
-use Rattle.pair.specs.Tick.{tickedState}
+use Rattle.pair_rules.specs.Arrival.{arrivedState}
+use Rattle.pair_rules.specs.Departure.{departedState}
+use Rattle.pair_rules.specs.Tick.{tickedState}
 use Rattle.pair_isolation.proofs.Alone.{AloneReply, View, aloneAcceptance, aloneNumber, aloneReply, aloneRows, aloneUnless}
 use Rattle.pair_isolation.proofs.Alone.{aloneVerdict, headTaken, judged}
 use Rattle.pair_isolation.proofs.Whole.{Held}

@@ -16,7 +16,7 @@ use Rattle.pair_state.specs.declared.Reserves.{Reserves}
 use Rattle.pair_state.specs.declared.Shared.{Shared}
 use Rattle.pair_state.specs.declared.Which.{Which}
 use Rattle.pair_state.specs.declared.Which.the-variants.{Intercom, Passengers}
-use Rattle.pair.specs.Arrival.{slotsFull}
+use Rattle.pair_rules.specs.Arrival.{slotsFull}
 use Rattle.pair_isolation.specs.Handed.{Call, Queues, after, replyTo, returned, same, twoQueues}
 use Rattle.pair_isolation.specs.Isolation.{BelowReserve, answersIn, isArrival, ownCalls}
 use Rattle.pair_isolation.proofs.Alone.{View, aloneReply}

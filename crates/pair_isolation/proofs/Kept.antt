@@ -14,7 +14,7 @@ use Rattle.pair_state.specs.declared.State.{State}
 use Rattle.pair_state.specs.declared.Which.{Which}
 use Rattle.pair_state.specs.declared.Which.the-variants.{Intercom, Passengers}
 use Rattle.pair_state.proofs.Facts.{Facts, QueueFits, SharedFits, well-formed}
-use Rattle.pair.specs.Arrival.{slotsFull}
+use Rattle.pair_rules.specs.Arrival.{slotsFull}
 
 pub own-fits : (w : Which) (p : Pair) → Facts p → QueueFits (p .shared .slots) (own w p)
 own-fits Intercom p f = f .intercom

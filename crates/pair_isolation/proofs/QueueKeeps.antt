@@ -16,7 +16,7 @@ use Rattle.queue.specs.Answer.{refused}
 use Rattle.pair_state.specs.Queues.{own}
 use Rattle.pair_state.specs.declared.Which.{Which}
 use Rattle.pair_state.specs.declared.Which.the-variants.{Intercom, Passengers}
-use Rattle.pair.specs.Arrival.{slotsFull}
+use Rattle.pair_rules.specs.Arrival.{slotsFull}
 use Rattle.pair_isolation.specs.Conservation.{isVerdict}
 use Rattle.pair_isolation.specs.Handed.{Answered, Call, Queues, admittedBy, after, answerOf, departedBy, oneOfTwo, queued, replyTo}
 use Rattle.pair_isolation.specs.Handed.{returned}

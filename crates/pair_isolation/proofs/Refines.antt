@@ -32,12 +32,12 @@ use Rattle.pair_state.specs.declared.Which.{Which}
 use Rattle.pair_state.specs.declared.Which.the-variants.{Intercom, Passengers}
 use Rattle.pair_state.proofs.Facts.{QueueFits, facts}
 use Rattle.pair_state.proofs.Symmetry.{own-paired, shared-paired}
-use Rattle.pair.specs.Answer.{unlessRefused}
-use Rattle.pair.specs.Arrival.{arrival, arrivalRefusal, arrivalRefusals, arrivedState, arrivedStore, slotsFull, verdictOf}
-use Rattle.pair.specs.Departure.{departedState, departure, departureRefusal, departureRefusals, headHandle, headSize}
-use Rattle.pair.specs.Tick.{tick, tickRefusal, tickRefusals, tickedState}
-use Rattle.pair.proofs.Kept.{arrived-fits, departed-fits, ticked-fits}
-use Rattle.pair.proofs.WhenAccepted.{admitted-room}
+use Rattle.pair_rules.specs.Answer.{unlessRefused}
+use Rattle.pair_rules.specs.Arrival.{arrival, arrivalRefusal, arrivalRefusals, arrivedState, arrivedStore, slotsFull, verdictOf}
+use Rattle.pair_rules.specs.Departure.{departedState, departure, departureRefusal, departureRefusals, headHandle, headSize}
+use Rattle.pair_rules.specs.Tick.{tick, tickRefusal, tickRefusals, tickedState}
+use Rattle.pair_rules.proofs.Kept.{arrived-fits, departed-fits, ticked-fits}
+use Rattle.pair_rules.proofs.WhenAccepted.{admitted-room}
 use Rattle.pair_isolation.specs.Handed.{Queues, chainNumber, chainsOf, queued, replyTo, returned}
 use Rattle.pair_isolation.specs.Isolation.{withoutEnds}
 use Rattle.pair_isolation.proofs.Alone.{AloneReply, aloneAcceptance, aloneNumber, aloneReply, aloneUnless, headTaken, judged}

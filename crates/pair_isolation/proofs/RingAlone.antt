@@ -30,9 +30,9 @@ use Rattle.queue.specs.declared.State as ring-queue
 use Rattle.queue.proofs.Facts.{facts}
 use Rattle.refusals.proofs.Ordered.{none-refuses}
 use Rattle.pair_state.specs.declared.State.{State}
-use Rattle.pair.specs.Arrival.{arrivedState}
-use Rattle.pair.specs.Departure.{departedState}
-use Rattle.pair.specs.Tick.{tickedState}
+use Rattle.pair_rules.specs.Arrival.{arrivedState}
+use Rattle.pair_rules.specs.Departure.{departedState}
+use Rattle.pair_rules.specs.Tick.{tickedState}
 use Rattle.pair_isolation.specs.Isolation.{withoutEnds}
 use Rattle.pair_isolation.proofs.Alone.{AloneReply, View, aloneAcceptance, aloneNumber, aloneReply, aloneUnless, aloneVerdict}
 use Rattle.pair_isolation.proofs.Alone.{headTaken}

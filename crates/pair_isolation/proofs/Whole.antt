@@ -21,11 +21,11 @@ use Rattle.pair_state.specs.Queues.{own}
 use Rattle.pair_state.specs.WellFormed.{wellFormed}
 use Rattle.pair_state.specs.declared.Which.{Which}
 use Rattle.pair_state.proofs.Facts.{facts}
-use Rattle.pair.specs.Arrival.{arrivalRefusal, freedRefused, verdictOf}
-use Rattle.pair.specs.Departure.{departureRefusal, headHandle, headSize}
-use Rattle.pair.specs.Refusals.{emptyRefused, tablesRefused}
-use Rattle.pair.specs.Tick.{tickRefusal}
-use Rattle.pair.proofs.WhenAccepted.{admitted-room}
+use Rattle.pair_rules.specs.Arrival.{arrivalRefusal, freedRefused, verdictOf}
+use Rattle.pair_rules.specs.Departure.{departureRefusal, headHandle, headSize}
+use Rattle.pair_rules.specs.Refusals.{emptyRefused, tablesRefused}
+use Rattle.pair_rules.specs.Tick.{tickRefusal}
+use Rattle.pair_rules.proofs.WhenAccepted.{admitted-room}
 use Rattle.pair_isolation.specs.Handed.{Queues, chainNumber, chainOf, chainsOf, queued}
 use Rattle.pair_isolation.specs.Isolation.{withoutEnds}
 use Rattle.pair_isolation.proofs.Alone.{View, aloneNumber}

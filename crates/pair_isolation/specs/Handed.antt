@@ -18,9 +18,9 @@ use Rattle.pair_state.specs.declared.Setup.{Setup}
 use Rattle.pair_state.specs.declared.State.{State}
 use Rattle.pair_state.specs.declared.Which.{Which}
 use Rattle.pair_state.specs.declared.Which.the-variants.{Intercom, Passengers}
-use Rattle.pair.specs.Arrival.{arrival, arrivedHandles, arrivedSizes}
-use Rattle.pair.specs.Departure.{departedSizes, departure}
-use Rattle.pair.specs.Tick.{tick}
+use Rattle.pair_rules.specs.Arrival.{arrival, arrivedHandles, arrivedSizes}
+use Rattle.pair_rules.specs.Departure.{departedSizes, departure}
+use Rattle.pair_rules.specs.Tick.{tick}
 
 -- the three records and the two tables
 pub record Queues : Type 0 where

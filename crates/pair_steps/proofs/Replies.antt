@@ -19,10 +19,10 @@ use Rattle.pair_state.specs.declared.Shared.{Shared}
 use Rattle.pair_state.specs.declared.State.{State}
 use Rattle.pair_state.specs.declared.Which.{Which}
 use Rattle.pair_state.specs.declared.Which.the-variants.{Intercom, Passengers}
-use Rattle.pair.specs.Arrival.{arrival, arrivalRefusal, arrivedHandles, arrivedSizes, arrivedState, arrivedStore, freedRefused, verdictOf}
-use Rattle.pair.specs.Departure.{departedSizes, departedState, departure, departureRefusal, headHandle, headSize, headWordRefused}
-use Rattle.pair.specs.Refusals.{clockRefused, countsRefused, emptyRefused, tablesRefused, tooSoonRefused}
-use Rattle.pair.specs.Tick.{tick, tickRefusal, tickedState}
+use Rattle.pair_rules.specs.Arrival.{arrival, arrivalRefusal, arrivedHandles, arrivedSizes, arrivedState, arrivedStore, freedRefused, verdictOf}
+use Rattle.pair_rules.specs.Departure.{departedSizes, departedState, departure, departureRefusal, headHandle, headSize, headWordRefused}
+use Rattle.pair_rules.specs.Refusals.{clockRefused, countsRefused, emptyRefused, tablesRefused, tooSoonRefused}
+use Rattle.pair_rules.specs.Tick.{tick, tickRefusal, tickedState}
 use Rattle.pair_words.specs.Codes.{codeOf, ownAfter, packetOf, sharedAfter}
 use Rattle.pair_words.specs.Words.{sharedWords, stateWords}
 

@@ -20,9 +20,9 @@ use Rattle.store.specs.Following.{followed}
 use Rattle.store.specs.Take.{storeAfterTake}
 use Rattle.store.specs.declared.Store.{Store}
 use Rattle.pair_state.specs.Queues.{storing}
-use Rattle.pair.specs.Arrival.{arrivedPie, arrivedState}
-use Rattle.pair.specs.Departure.{departedState}
-use Rattle.pair.specs.Tick.{tickedState}
+use Rattle.pair_rules.specs.Arrival.{arrivedPie, arrivedState}
+use Rattle.pair_rules.specs.Departure.{departedState}
+use Rattle.pair_rules.specs.Tick.{tickedState}
 use Rattle.pair_words.specs.Words.{isSet, pieOf, rateOf, sharedOf, sharedWords, stateOf, stateWords}
 use Rattle.pair_words.proofs.Written.{flag-kept, listed, written-out}
 use Rattle.pair_steps.specs.Written.{enteredWords, rateWords, settledWords}

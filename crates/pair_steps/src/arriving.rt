@@ -1,5 +1,5 @@
 // An arrival at records that are well formed, with tables that fit and room in the counts.
-use pair::decide;
+use pair_rules::decide;
 use pair_words::decode;
 use pair_words::decode_shared;
 use pair_words::named;
@@ -21,7 +21,7 @@ ghost use Rattle.pie.specs.Verdicts.{placeOf, total};
 ghost use Rattle.store.specs.Put.{freePlace, handlesAfterPut, sizesAfterPut, storeAfterPut};
 ghost use Rattle.pair_state.specs.Queues.{storing};
 ghost use Rattle.pair_state.specs.WellFormed.{wellFormed};
-ghost use Rattle.pair.specs.Arrival.{arrival, arrivedHandles, arrivedPie, arrivedSizes, verdictOf};
+ghost use Rattle.pair_rules.specs.Arrival.{arrival, arrivedHandles, arrivedPie, arrivedSizes, verdictOf};
 ghost use Rattle.pair_words.specs.Codes.{codeOf, ownAfter, sharedAfter};
 ghost use Rattle.pair_words.specs.Words.{endsOf, pairOf, sharedOf, sharedWords, stateOf, storeOf, whichOf};
 ghost use Rattle.pair_steps.specs.Written.{enteredWords, settledWords};

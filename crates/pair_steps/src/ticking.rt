@@ -10,7 +10,7 @@ ghost use mathlib.Core.Path.{_≡_};
 ghost use mathlib.Core.Bool.{true};
 ghost use lib.ListN.{length};
 ghost use Rattle.pair_state.specs.WellFormed.{wellFormed};
-ghost use Rattle.pair.specs.Tick.{tick};
+ghost use Rattle.pair_rules.specs.Tick.{tick};
 ghost use Rattle.pair_words.specs.Codes.{codeOf, ownAfter};
 ghost use Rattle.pair_words.specs.Words.{pairOf, whichOf};
 

@@ -15,7 +15,7 @@ use Rattle.docsis_flow.specs.State.{wellFormed}
 use Rattle.docsis_flow.proofs.Facts.{record-formed, row-fits}
 use Rattle.docsis.specs.Calls.{flowRefused}
 use Rattle.docsis.specs.Counts.{rowOf}
-use Rattle.docsis_capi.specs.Words.{stateOf}
+use Rattle.docsis_words.specs.Words.{stateOf}
 
 both : (c : tie.Else1) →
     let a = c .before .before .before .before .args in not (flowRefused (a .flow)) && wellFormed (stateOf (now (a .w))) (rowOf (now (a .counts)) (a .flow)) ≡ true

@@ -4,7 +4,7 @@ use Rattle.docsis_burst.proofs.single.Statement.{statement}
 use Rattle.docsis_burst.proofs.single.Tie as tie
 use mathlib.Core.Path.{_∙_}
 use denote.Ref.{now}
-use Rattle.docsis_capi.specs.Words.{stateOf}
+use Rattle.docsis_words.specs.Words.{stateOf}
 use Rattle.docsis_burst.proofs.Steps.{arrival-step, departure-small, departure-step, tick-step, unknown-step}
 
 mul-clock-of : tie.Need-mul-clock-of

@@ -1,7 +1,7 @@
 -- `decode`: each field is its word.
 use borrow.Author.Needs.{needs}
 use mathlib.Core.Path.{refl}
-use Rattle.docsis_capi.specs.Words.{stateOf}
+use Rattle.docsis_words.specs.Words.{stateOf}
 use Rattle.docsis_capi.proofs.decode.Statement.{statement}
 use Rattle.docsis_capi.proofs.decode.Tie as tie
 

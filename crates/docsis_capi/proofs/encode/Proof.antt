@@ -1,7 +1,7 @@
 -- `encode`: each word is its field.
 use borrow.Author.Needs.{needs}
 use mathlib.Core.Path.{refl}
-use Rattle.docsis_capi.specs.Words.{stateWords}
+use Rattle.docsis_words.specs.Words.{stateWords}
 use Rattle.docsis_capi.proofs.encode.Statement.{statement}
 use Rattle.docsis_capi.proofs.encode.Tie as tie
 

@@ -4,7 +4,7 @@ use borrow.Author.Tests.{ltb-false}
 use denote.Ref.{now}
 use Rattle.docsis.specs.Calls.{arrival}
 use Rattle.docsis.proofs.Replies.{stored-10, stored-known}
-use Rattle.docsis_capi.proofs.Changed.{kept}
+use Rattle.docsis_words.proofs.Changed.{kept}
 use Rattle.docsis_capi.proofs.Entries.{gives-10}
 use Rattle.docsis_capi.proofs.Calls.{arrival-refused, arrival-taken, room}
 use Rattle.docsis_capi.proofs.obikuteru_modem_arrival.Statement.{statement}

@@ -1,7 +1,7 @@
 -- `obikuteru_modem_departure`: refusal 10, or the number, the words and the packet of what the flow replied; the counts as they were.
 use borrow.Author.Needs.{needs}
 use Rattle.docsis.specs.Calls.{departure}
-use Rattle.docsis_capi.proofs.Changed.{kept}
+use Rattle.docsis_words.proofs.Changed.{kept}
 use Rattle.docsis_capi.proofs.Entries.{gives-10, packet-10, packet-known}
 use Rattle.docsis_capi.proofs.Calls.{departure-refused, departure-taken}
 use Rattle.docsis_capi.proofs.obikuteru_modem_departure.Statement.{statement}

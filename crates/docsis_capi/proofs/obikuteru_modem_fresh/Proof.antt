@@ -3,7 +3,7 @@ use borrow.Author.Needs.{needs}
 use borrow.Author.Tests.{ltb-false}
 use mathlib.Core.Path.{ap, _∙_}
 use Rattle.docsis.specs.Calls.{fresh}
-use Rattle.docsis_capi.specs.Words.{stateWords}
+use Rattle.docsis_words.specs.Words.{stateWords}
 use Rattle.docsis_capi.proofs.Entries.{gives-10, gives-made, gives-not-made}
 use Rattle.docsis_capi.proofs.obikuteru_modem_fresh.Statement.{statement}
 use Rattle.docsis_capi.proofs.obikuteru_modem_fresh.Tie as tie

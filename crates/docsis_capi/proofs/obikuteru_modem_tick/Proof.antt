@@ -1,7 +1,7 @@
 -- `obikuteru_modem_tick`: refusal 10, or the number and the words of what the flow replied; the counts as they were.
 use borrow.Author.Needs.{needs}
 use Rattle.docsis.specs.Calls.{tick}
-use Rattle.docsis_capi.proofs.Changed.{kept}
+use Rattle.docsis_words.proofs.Changed.{kept}
 use Rattle.docsis_capi.proofs.Entries.{gives-10}
 use Rattle.docsis_capi.proofs.Calls.{tick-refused, tick-taken}
 use Rattle.docsis_capi.proofs.obikuteru_modem_tick.Statement.{statement}

@@ -1,6 +1,6 @@
 -- `obikuteru_fq_arrival_of`: the reply's number and words, and the tables as the call left them.
 use mathlib.Core.Path.{refl, ap, sym, _∙_}
-use Rattle.fq.specs.Answer.{arrivalAnswer}
+use Rattle.fq_rules.specs.Answer.{arrivalAnswer}
 use Rattle.fq_capi.proofs.Kept.{arrival-kept}
 use Rattle.fq_capi.proofs.Returned.{accepted, not-accepted}
 use borrow.Author.Needs.{needs}

@@ -1,6 +1,6 @@
 -- `obikuteru_fq_departure_of`: the reply's number, words and packet, and the sizes as the call left them.
 use mathlib.Core.Path.{refl, sym, _∙_}
-use Rattle.fq.specs.Answer.{departed}
+use Rattle.fq_rules.specs.Answer.{departed}
 use Rattle.fq_capi.proofs.Kept.{departure-kept}
 use Rattle.fq_capi.proofs.Returned.{accepted, not-accepted, told-no, told-yes}
 use borrow.Author.Needs.{needs}

@@ -1,6 +1,6 @@
 -- `obikuteru_fq_tick_of`: the reply's number and words.
 use mathlib.Core.Path.{refl, sym, _∙_}
-use Rattle.fq.specs.Answer.{ticked}
+use Rattle.fq_rules.specs.Answer.{ticked}
 use Rattle.fq_capi.proofs.Kept.{tick-kept}
 use Rattle.fq_capi.proofs.Returned.{accepted, not-accepted, told-no, told-yes}
 use borrow.Author.Needs.{needs}

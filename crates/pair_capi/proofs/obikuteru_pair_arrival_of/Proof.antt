@@ -14,7 +14,7 @@ use Rattle.pie.specs.Constants.{mostVerdicts}
 use Rattle.pie.specs.Verdicts.{total}
 use Rattle.pair_state.specs.WellFormed.{wellFormed}
 use Rattle.pair_state.proofs.Symmetry.{well-formed-seen}
-use Rattle.pair.proofs.WhenAccepted.{known}
+use Rattle.pair_rules.proofs.WhenAccepted.{known}
 use Rattle.pair_words.specs.Words.{pairOf, sharedOf, stateOf, whichOf}
 use Rattle.pair_steps.proofs.Replies.{arrival-counts, arrival-late, arrival-malformed, arrival-size, arrival-tables}
 use Rattle.pair_capi.proofs.obikuteru_pair_arrival_of.Statement.{statement}

@@ -21,9 +21,9 @@ use Rattle.docsis_pie.specs.declared.Decided.{Decided}
 use Rattle.docsis_flow.specs.Arrival.{decisionOf, tailPlace}
 use Rattle.docsis_flow.proofs.Facts.{Facts, facts}
 use Rattle.docsis.specs.Counts.{countsAfter, rowOf}
-use Rattle.docsis_capi.specs.Words.{stateOf}
-use Rattle.docsis_capi.proofs.Calls.{raised-for}
-use Rattle.docsis_capi.proofs.Changed.{kept}
+use Rattle.docsis_words.specs.Words.{stateOf}
+use Rattle.docsis_words.proofs.Raised.{raised-for}
+use Rattle.docsis_words.proofs.Changed.{kept}
 use Rattle.docsis_burst.specs.Words.{pieWords}
 use Rattle.docsis_burst.proofs.Arrivals.{admits-as, entered-ok, first-read, turned-away}
 use Rattle.docsis_burst.proofs.Replies.{arrival-late, arrival-made, arrival-wrong}

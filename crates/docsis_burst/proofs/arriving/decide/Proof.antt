@@ -8,7 +8,7 @@ use lib.ListN.{getD}
 use denote.Ref.{now}
 use Rattle.docsis_pie.specs.DropDecision.{cleared}
 use Rattle.docsis_flow.proofs.Facts.{Facts, facts}
-use Rattle.docsis_capi.specs.Words.{pieOf, stateOf}
+use Rattle.docsis_words.specs.Words.{pieOf, stateOf}
 use Rattle.docsis_burst.proofs.Decisions.{allowance-decides, awake-fits, awake-long, bytes-decide, drawn-decides, slots-decide, stays-decide}
 use Rattle.docsis_burst.proofs.Words.{pie-long}
 

@@ -9,7 +9,7 @@ use lib.ListN.{getD}
 use denote.Ref.{now}
 use Rattle.docsis_pie.specs.Constants.{high}
 use Rattle.docsis_pie.specs.DropDecision.{drawn, lightlyLoaded}
-use Rattle.docsis_capi.specs.Words.{pieOf}
+use Rattle.docsis_words.specs.Words.{pieOf}
 use Rattle.docsis_burst.proofs.Decisions.{either-drops, spares}
 
 abbrev light : tie.Start → Bool

@@ -14,8 +14,8 @@ use Rattle.refusals.specs.Tests.{headRefused}
 use Rattle.refusals.proofs.Fitting.{HeadFits, head-fits}
 use Rattle.docsis_flow.specs.Departure.{headOf}
 use Rattle.docsis_flow.proofs.Facts.{Facts, facts}
-use Rattle.docsis_capi.specs.Words.{stateOf}
-use Rattle.docsis_capi.proofs.Changed.{kept}
+use Rattle.docsis_words.specs.Words.{stateOf}
+use Rattle.docsis_words.proofs.Changed.{kept}
 use Rattle.docsis_burst.proofs.Replies.{departure-empty, departure-late, departure-made, departure-wrong}
 use Rattle.docsis_burst.proofs.Words.{departed-words}
 

@@ -6,8 +6,8 @@ use mathlib.Core.Path.{refl, sym}
 use native.Mathlib.Omega.{arith}
 use denote.Ref.{now}
 use Rattle.docsis_flow.proofs.Facts.{facts}
-use Rattle.docsis_capi.specs.Words.{stateOf}
-use Rattle.docsis_capi.proofs.Changed.{kept}
+use Rattle.docsis_words.specs.Words.{stateOf}
+use Rattle.docsis_words.proofs.Changed.{kept}
 use Rattle.docsis_burst.proofs.Replies.{tick-early, tick-late, tick-made}
 use Rattle.docsis_burst.proofs.Words.{idle-words, ticked-words}
 

@@ -4,7 +4,7 @@ use mathlib.Core.Path.{ap, sym, _∙_}
 use Rattle.refusals.specs.Numbers.{refusalIn}
 use Rattle.fq_state.specs.State.{State}
 use Rattle.fq_state.specs.Words.{stateOf}
-use Rattle.fq.proofs.ArrivalReplies.{arrival-refused}
+use Rattle.fq_rules.proofs.ArrivalReplies.{arrival-refused}
 use Rattle.fq.proofs.arriving.arrival.Statement.{statement}
 use Rattle.fq.proofs.arriving.arrival.Tie as tie
 

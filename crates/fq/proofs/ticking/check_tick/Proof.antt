@@ -8,7 +8,7 @@ use denote.Ref.{now}
 use Rattle.fq_state.specs.State.{State}
 use Rattle.fq_state.specs.WellFormed.{wellFormed}
 use Rattle.fq_state.specs.Words.{stateOf}
-use Rattle.fq.specs.Tick.{tickRefusal}
+use Rattle.fq_rules.specs.Tick.{tickRefusal}
 use Rattle.fq_state.proofs.Facts.{common-fits, passes}
 use Rattle.fq.proofs.ticking.check_tick.Statement.{statement}
 use Rattle.fq.proofs.ticking.check_tick.Tie as tie

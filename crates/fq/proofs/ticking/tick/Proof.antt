@@ -6,8 +6,8 @@ use Rattle.refusals.specs.Numbers.{refusalIn}
 use Rattle.fq_state.specs.State.{State}
 use Rattle.fq_state.specs.Words.{stateOf}
 use Rattle.fq_state.proofs.Facts.{passes}
-use Rattle.fq.proofs.Replies.{tick-refused, tick-taken}
-use Rattle.fq.proofs.WhenAccepted.{tick-accepted}
+use Rattle.fq_rules.proofs.Replies.{tick-refused, tick-taken}
+use Rattle.fq_rules.proofs.WhenAccepted.{tick-accepted}
 use Rattle.fq.proofs.ticking.tick.Statement.{statement}
 use Rattle.fq.proofs.ticking.tick.Tie as tie
 

@@ -5,7 +5,7 @@ use Rattle.refusals.specs.Numbers.{refusalIn}
 use Rattle.fq_state.specs.State.{State}
 use Rattle.fq_state.specs.Words.{stateOf}
 use Rattle.fq_state.proofs.Facts.{passes}
-use Rattle.fq.proofs.ArrivalReplies.{arrival-refused}
+use Rattle.fq_rules.proofs.ArrivalReplies.{arrival-refused}
 use Rattle.fq_burst.proofs.calling.arrival_of.Statement.{statement}
 use Rattle.fq_burst.proofs.calling.arrival_of.Tie as tie
 

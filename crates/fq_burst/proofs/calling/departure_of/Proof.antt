@@ -4,7 +4,7 @@ use mathlib.Core.Path.{ap, refl, sym, _∙_}
 use Rattle.refusals.specs.Numbers.{refusalIn}
 use Rattle.fq_state.specs.State.{State}
 use Rattle.fq_state.specs.Words.{stateOf}
-use Rattle.fq.proofs.DepartureReplies.{departure-refused}
+use Rattle.fq_rules.proofs.DepartureReplies.{departure-refused}
 use Rattle.fq_burst.proofs.calling.departure_of.Statement.{statement}
 use Rattle.fq_burst.proofs.calling.departure_of.Tie as tie
 

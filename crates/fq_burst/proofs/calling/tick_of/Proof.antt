@@ -5,7 +5,7 @@ use denote.Ref.{now}
 use Rattle.fq_state.specs.State.{State}
 use Rattle.fq_state.specs.Words.{stateOf}
 use Rattle.fq_state.proofs.Facts.{passes}
-use Rattle.fq.proofs.Replies.{tick-refused, tick-taken}
+use Rattle.fq_rules.proofs.Replies.{tick-refused, tick-taken}
 use Rattle.fq_burst.proofs.calling.tick_of.Statement.{statement}
 use Rattle.fq_burst.proofs.calling.tick_of.Tie as tie
 

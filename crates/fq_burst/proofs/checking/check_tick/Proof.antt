@@ -1,6 +1,6 @@
 -- `check_tick`: each test in turn is the definition's own.
 use native.Mathlib.Omega.{arith}
-use Rattle.fq.specs.Tick.{tickRefusal}
+use Rattle.fq_rules.specs.Tick.{tickRefusal}
 use Rattle.fq_state.proofs.Facts.{common-fits}
 use Rattle.fq_burst.proofs.checking.check_tick.Statement.{statement}
 use Rattle.fq_burst.proofs.checking.check_tick.Tie as tie

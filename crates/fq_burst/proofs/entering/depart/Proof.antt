@@ -4,7 +4,7 @@ use Prim.Native.Nat.{_<_}
 use denote.Ref.{now}
 use Rattle.fq_state.specs.State.{State}
 use Rattle.fq_state.specs.Words.{stateOf}
-use Rattle.fq.specs.Answer.{departed}
+use Rattle.fq_rules.specs.Answer.{departed}
 use Rattle.fq_capi.proofs.Kept.{departure-kept}
 use Rattle.fq_capi.proofs.Returned.{accepted, not-accepted, told-no, told-yes}
 use Rattle.fq_guarantees.specs.Calls as calls

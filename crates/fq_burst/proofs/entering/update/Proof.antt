@@ -1,7 +1,7 @@
 -- `update`: the reply's number and words; the counts stay.
 use mathlib.Core.Path.{refl, ap, sym, _∙_}
 use Rattle.fq_state.specs.State.{State, countsOf}
-use Rattle.fq.specs.Answer.{ticked}
+use Rattle.fq_rules.specs.Answer.{ticked}
 use Rattle.fq_capi.specs.Words.{commonWords}
 use Rattle.fq_capi.proofs.Kept.{tick-kept}
 use Rattle.fq_capi.proofs.Returned.{accepted, not-accepted, told-no, told-yes}

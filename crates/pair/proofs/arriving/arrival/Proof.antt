@@ -12,8 +12,8 @@ use Rattle.refusals.specs.Numbers.{refusalIn}
 use Rattle.pair_state.specs.Queues.{paired}
 use Rattle.pair_state.specs.WellFormed.{wellFormed}
 use Rattle.pair_state.specs.declared.Which.the-variants.{Intercom}
-use Rattle.pair.proofs.Replies.{arrival-dropped, arrival-lost, arrival-refused, arrival-stored}
-use Rattle.pair.proofs.WhenAccepted.{ArrivalAccepted, admitted-room, arrival-accepted, room}
+use Rattle.pair_rules.proofs.Replies.{arrival-dropped, arrival-lost, arrival-refused, arrival-stored}
+use Rattle.pair_rules.proofs.WhenAccepted.{ArrivalAccepted, admitted-room, arrival-accepted, room}
 use Rattle.pair.proofs.arriving.arrival.Statement.{statement}
 use Rattle.pair.proofs.arriving.arrival.Tie as tie
 

@@ -1,6 +1,6 @@
 -- `arrived`: one count rises; an admitted packet enters the backlog and the chain.
 use borrow.Author.Needs.{needs}
-use Rattle.pair.specs.Arrival.{arrivedState}
+use Rattle.pair_rules.specs.Arrival.{arrivedState}
 use Rattle.pair.proofs.arriving.arrived.Statement.{statement}
 use Rattle.pair.proofs.arriving.arrived.Tie as tie
 

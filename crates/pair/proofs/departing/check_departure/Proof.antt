@@ -9,7 +9,7 @@ use lib.Dec.{eqb}
 use lib.ListN.{length}
 use denote.Ref.{now}
 use Rattle.laws.proofs.Tests.{and-right}
-use Rattle.pair.specs.Departure.{departureRefusal}
+use Rattle.pair_rules.specs.Departure.{departureRefusal}
 use Rattle.pair_state.specs.Queues.{paired}
 use Rattle.pair_state.specs.WellFormed.{wellFormed}
 use Rattle.pair_state.specs.declared.Pair.{Pair}

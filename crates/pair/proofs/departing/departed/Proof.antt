@@ -11,7 +11,7 @@ use Rattle.pie.specs.declared.Backlog.{Backlog}
 use Rattle.pie.specs.declared.Rate.{Rate}
 use Rattle.store.specs.Take.{endsAfterTake}
 use Rattle.store.specs.declared.Ends.{Ends}
-use Rattle.pair.specs.Departure.{departedState}
+use Rattle.pair_rules.specs.Departure.{departedState}
 use Rattle.pair_state.specs.declared.State.{State}
 use Rattle.pair_state.proofs.Facts.{queue-fits}
 use Rattle.pair.proofs.departing.departed.Statement.{statement}

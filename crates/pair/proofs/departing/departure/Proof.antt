@@ -5,8 +5,8 @@ use native.Mathlib.Omega.{arith}
 use lib.ListN.{length}
 use denote.Ref.{now}
 use Rattle.refusals.specs.Numbers.{refusalIn}
-use Rattle.pair.proofs.Replies.{departure-refused, departure-taken}
-use Rattle.pair.proofs.WhenAccepted.{DepartureAccepted, departure-accepted}
+use Rattle.pair_rules.proofs.Replies.{departure-refused, departure-taken}
+use Rattle.pair_rules.proofs.WhenAccepted.{DepartureAccepted, departure-accepted}
 use Rattle.pair.proofs.departing.departure.Statement.{statement}
 use Rattle.pair.proofs.departing.departure.Tie as tie
 

@@ -4,7 +4,7 @@ use borrow.Author.Tests.{not-false}
 use mathlib.Core.Path.{_≡_, sym, _∙_}
 use mathlib.Core.Bool.{true}
 use native.Mathlib.Omega.{arith}
-use Rattle.pair.specs.Tick.{tickRefusal}
+use Rattle.pair_rules.specs.Tick.{tickRefusal}
 use Rattle.pair_state.specs.Queues.{paired}
 use Rattle.pair_state.specs.WellFormed.{wellFormed}
 use Rattle.pair_state.specs.declared.Pair.{Pair}

@@ -2,8 +2,8 @@
 use borrow.Author.Needs.{needs}
 use mathlib.Core.Path.{ap, sym, _∙_}
 use Rattle.refusals.specs.Numbers.{refusalIn}
-use Rattle.pair.proofs.Replies.{tick-refused, tick-taken}
-use Rattle.pair.proofs.WhenAccepted.{tick-accepted}
+use Rattle.pair_rules.proofs.Replies.{tick-refused, tick-taken}
+use Rattle.pair_rules.proofs.WhenAccepted.{tick-accepted}
 use Rattle.pair.proofs.ticking.tick.Statement.{statement}
 use Rattle.pair.proofs.ticking.tick.Tie as tie
 

@@ -1,7 +1,7 @@
 -- `ticked`: the update, within the ranges of a state that fits.
 use borrow.Author.Needs.{needs}
 use native.Mathlib.Omega.{arith}
-use Rattle.pair.specs.Tick.{tickedState}
+use Rattle.pair_rules.specs.Tick.{tickedState}
 use Rattle.pair_state.proofs.Facts.{queue-fits}
 use Rattle.pair.proofs.ticking.ticked.Statement.{statement}
 use Rattle.pair.proofs.ticking.ticked.Tie as tie

@@ -21,10 +21,10 @@ use Rattle.pair_state.specs.declared.State.{State}
 use Rattle.pair_state.specs.declared.Which.{Which}
 use Rattle.pair_state.specs.declared.Which.the-variants.{Intercom}
 use Rattle.pair_state.proofs.Symmetry.{seen, well-formed-seen}
-use Rattle.pair.specs.Arrival.{freedRefused}
-use Rattle.pair.specs.Refusals.{countsRefused}
-use Rattle.pair.proofs.Seen.{verdict-seen}
-use Rattle.pair.proofs.WhenAccepted.{Known, admitted-room, known, room}
+use Rattle.pair_rules.specs.Arrival.{freedRefused}
+use Rattle.pair_rules.specs.Refusals.{countsRefused}
+use Rattle.pair_rules.proofs.Seen.{verdict-seen}
+use Rattle.pair_rules.proofs.WhenAccepted.{Known, admitted-room, known, room}
 use Rattle.pair_words.specs.Words.{sharedOf, stateOf, whichOf}
 use Rattle.pair_words.proofs.Written.{count-word}
 use Rattle.pair_steps.specs.Written.{enteredWords, settledWords}

@@ -13,8 +13,8 @@ use Rattle.pair_state.specs.declared.State.{State}
 use Rattle.pair_state.specs.declared.Which.{Which}
 use Rattle.pair_state.specs.declared.Which.the-variants.{Intercom}
 use Rattle.pair_state.proofs.Symmetry.{well-formed-seen}
-use Rattle.pair.specs.Arrival.{verdictOf}
-use Rattle.pair.proofs.Seen.{verdict-seen}
+use Rattle.pair_rules.specs.Arrival.{verdictOf}
+use Rattle.pair_rules.proofs.Seen.{verdict-seen}
 use Rattle.pair_words.specs.Words.{pairOf, sharedOf, stateOf, whichOf}
 use Rattle.pair_steps.proofs.arriving.decided.Statement.{statement}
 use Rattle.pair_steps.proofs.arriving.decided.Tie as tie

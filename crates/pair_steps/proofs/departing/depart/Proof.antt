@@ -18,8 +18,8 @@ use Rattle.refusals.proofs.Fitting.{head-fits}
 use Rattle.pair_state.specs.declared.Shared.{Shared}
 use Rattle.pair_state.specs.declared.State.{State}
 use Rattle.pair_state.proofs.Symmetry.{well-formed-seen}
-use Rattle.pair.specs.Departure.{headHandle, headSize, headWordRefused}
-use Rattle.pair.proofs.WhenAccepted.{Known, known}
+use Rattle.pair_rules.specs.Departure.{headHandle, headSize, headWordRefused}
+use Rattle.pair_rules.proofs.WhenAccepted.{Known, known}
 use Rattle.pair_words.specs.Words.{sharedOf, stateOf, whichOf}
 use Rattle.pair_steps.proofs.Replies.{Fit, departed-gives, tables-fit}
 use Rattle.pair_steps.proofs.Replies.{departure-empty, departure-late, departure-made, departure-wrong}

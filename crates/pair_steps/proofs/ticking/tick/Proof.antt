@@ -7,7 +7,7 @@ use Rattle.pair_state.specs.declared.Shared.{Shared}
 use Rattle.pair_state.specs.declared.State.{State}
 use Rattle.pair_state.specs.declared.Which.{Which}
 use Rattle.pair_state.proofs.Symmetry.{well-formed-seen}
-use Rattle.pair.proofs.WhenAccepted.{Known, known}
+use Rattle.pair_rules.proofs.WhenAccepted.{Known, known}
 use Rattle.pair_words.specs.Words.{sharedOf, stateOf, whichOf}
 use Rattle.pair_steps.proofs.Replies.{tick-early, tick-late, tick-made, ticked-gives}
 use Rattle.pair_steps.proofs.Words.{ticked-words}

@@ -1,3 +1,0 @@
--- The modem's C interface: a flow's state as words, and an answer as a number.
-pub mod Words
-pub mod Codes

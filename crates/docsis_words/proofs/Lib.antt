@@ -1,0 +1,3 @@
+-- Laws about the words and the counts, for the entries' proofs and the bursts'.
+pub mod Changed
+pub mod Raised

@@ -1,0 +1,40 @@
+-- `tick_flow`: the update, within the ranges of a flow that fits.
+use borrow.Author.Needs.{needs}
+use native.Mathlib.Omega.{arith}
+use Rattle.fq_rules.specs.Tick.{tickedFlow}
+use Rattle.fq_state.proofs.Facts.{common-fits, flow-fits}
+use Rattle.fq_rules.proofs.ticking.tick_flow.Statement.{statement}
+use Rattle.fq_rules.proofs.ticking.tick_flow.Tie as tie
+
+pie-requires : tie.Need-pie-requires
+pie-requires c κs = search needs
+
+update-requires : tie.Need-update-requires
+update-requires c κs =
+    let p = c .before in
+    let s = p .before in
+    let k = common-fits (s .args .common) (s .pre .0) in
+    let f = flow-fits (s .args .common) (s .args .f) (s .pre .1) in
+    rw (p .pie .ensures) ((f .prob-high, f .old-high, f .average-high), (k .settings .target-high, omega (arith, f .bytes-fit, k .settings .buffer-high)))
+
+backlog-requires : tie.Need-backlog-requires
+backlog-requires c κs = search needs
+
+ends-requires : tie.Need-ends-requires
+ends-requires c κs = search needs
+
+with-requires : tie.Need-with-requires
+with-requires c κs = search needs
+
+returns : tie.Need-returns
+unfolding tickedFlow
+returns c =
+    let e = c .before in
+    let b = e .before in
+    let u = b .before in
+    rw (c .with .ensures, e .ends .ensures, b .backlog .ensures, u .update .ensures, u .before .before .pie .ensures)
+
+pub tick-flow-spec : {M : Type 1} → statement M
+tick-flow-spec =
+    tie.close
+    (tie.spec pie-requires update-requires backlog-requires ends-requires with-requires returns)
