@@ -17,8 +17,7 @@ ghost use Prim.Native.Nat.{_<_};
 ghost use Rattle.refusals.specs.Rows.{firstRefusal};
 ghost use Rattle.fq_state.specs.Words.{stateOf};
 ghost use Rattle.fq_rules.specs.Answer.{arrivalAnswer};
-ghost use Rattle.fq_rules.specs.Early.{beforeVerdict};
-ghost use Rattle.fq_rules.specs.Arrival.{arrival, arrivedHandles, arrivedSizes};
+ghost use Rattle.fq_rules.specs.Arrival.{arrival, arrivedHandles, arrivedSizes, beforeVerdict};
 ghost use Rattle.refusals.specs.Numbers.{refusalIn};
 
 // Refusals 2, 3, 4, 7 and 8.

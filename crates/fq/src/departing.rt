@@ -16,8 +16,7 @@ ghost use Rattle.refusals.specs.Rows.{firstRefusal};
 ghost use Rattle.fq_state.specs.State.{countsOf};
 ghost use Rattle.fq_state.specs.Words.{flowsOf, stateOf};
 ghost use Rattle.fq_rules.specs.Answer.{acceptedAnswer, departed, flowIn, handleIn, sizeIn};
-ghost use Rattle.fq_rules.specs.Departure.{departedSizes, departure};
-ghost use Rattle.fq_rules.specs.Early.{beforeChoosing};
+ghost use Rattle.fq_rules.specs.Departure.{beforeChoosing, departedSizes, departure};
 
 // Refusals 2, 3, 4 and 6. Notes the flows' counts, for the choosing.
 fn check_departure(

@@ -14,7 +14,8 @@ ghost use Rattle.refusals.specs.Numbers.{refusalIn};
 ghost use Rattle.refusals.specs.Rows.{firstRefusal};
 ghost use Rattle.fq_state.specs.State.{State};
 ghost use Rattle.fq_state.specs.WellFormed.{commonConditions, wellFormed};
-ghost use Rattle.fq_rules.specs.Early.{beforeChoosing, beforeVerdict};
+ghost use Rattle.fq_rules.specs.Departure.{beforeChoosing};
+ghost use Rattle.fq_rules.specs.Arrival.{beforeVerdict};
 ghost use Rattle.fq_rules.specs.Tick.{tickRefusal};
 ghost use Rattle.laws.specs.Tests.{all};
 

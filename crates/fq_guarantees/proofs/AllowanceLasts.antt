@@ -8,7 +8,9 @@ use Rattle.pie_guarantees.proofs.AllowanceLasts as proved
 use Rattle.fq_state.specs.Flow.{emptyFlow}
 use Rattle.fq_state.specs.Fresh.{fresh, freshRefusal}
 use Rattle.fq_state.specs.declared.Settings.{Settings}
-use Rattle.fq_guarantees.specs.AllowanceLasts.{AllowanceLasts, FreshGrace, Grace}
+use Rattle.fq_guarantees.specs.AllowanceLasts.{AllowanceLasts}
+use Rattle.fq_guarantees.specs.FreshGrace.{FreshGrace}
+use Rattle.fq_guarantees.specs.Grace.{Grace}
 use Rattle.fq_guarantees.specs.Shedding.{flowQueue, own, toldOf}
 use Rattle.fq_guarantees.specs.SixtyFour.{fresh64}
 use Rattle.fq_guarantees.proofs.FreshFormed.{fresh-accepted}

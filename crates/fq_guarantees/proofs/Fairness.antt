@@ -13,7 +13,9 @@ use Rattle.fq_rules.specs.Answer.{sizeIn}
 use Rattle.fq_guarantees.specs.Acceptance.{acceptance}
 use Rattle.fq_guarantees.specs.AsStretch.{lineOf}
 use Rattle.fq_guarantees.specs.Calls.{Call, arrive, depart, update}
-use Rattle.fq_guarantees.specs.Fairness.{Fairness, FairnessBySize, FairnessFromFresh, HandOutAtMost}
+use Rattle.fq_guarantees.specs.Fairness.{Fairness}
+use Rattle.fq_guarantees.specs.FairnessFromFresh.{FairnessFromFresh}
+use Rattle.fq_guarantees.specs.FairnessBySize.{FairnessBySize, HandOutAtMost}
 use Rattle.fq_guarantees.specs.Lists.{fqCalls}
 use Rattle.fq_guarantees.specs.Refusals.{rowsOf}
 use Rattle.fq_guarantees.specs.SixtyFour.{Record64, fresh64}

@@ -11,7 +11,8 @@ use Rattle.fq_state.specs.WellFormed.{wellFormed}
 use Rattle.fq_state.specs.declared.Settings.{Settings}
 use Rattle.fq_rules.specs.Answer.{refused}
 use Rattle.fq_guarantees.specs.Calls.{Call, arrive, depart, reply, update}
-use Rattle.fq_guarantees.specs.Kept.{NeverMalformed, Sound}
+use Rattle.fq_guarantees.specs.Kept.{Sound}
+use Rattle.fq_guarantees.specs.NeverMalformed.{NeverMalformed}
 use Rattle.fq_guarantees.specs.Lists.{fqCalls}
 use Rattle.fq_guarantees.specs.Refusals.{rowsOf}
 use Rattle.fq_guarantees.specs.SixtyFour.{fresh-length, fresh64}

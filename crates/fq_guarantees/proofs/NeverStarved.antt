@@ -8,10 +8,12 @@ use Rattle.schedule.specs.Ring.{deficitOf, quantum, zeroDeficit}
 use Rattle.schedule_guarantees.proofs.NeverStarved as stretch
 use Rattle.fq_guarantees.specs.AsStretch.{lineOf}
 use Rattle.fq_guarantees.specs.Calls.{Call}
-use Rattle.fq_guarantees.specs.Fairness.{Backlogged, HandOutAtMost, bytesServed}
+use Rattle.fq_guarantees.specs.Fairness.{Backlogged, bytesServed}
+use Rattle.fq_guarantees.specs.FairnessBySize.{HandOutAtMost}
 use Rattle.fq_guarantees.specs.Kept.{Sound}
 use Rattle.fq_guarantees.specs.Lists.{fqCalls}
-use Rattle.fq_guarantees.specs.NeverStarved.{NeverStarved, NeverStarvedFromFresh}
+use Rattle.fq_guarantees.specs.NeverStarved.{NeverStarved}
+use Rattle.fq_guarantees.specs.NeverStarvedFromFresh.{NeverStarvedFromFresh}
 use Rattle.fq_guarantees.specs.SixtyFour.{Record64, fresh64}
 use Rattle.fq_guarantees.proofs.Fairness.{any-size}
 use Rattle.fq_guarantees.proofs.Owed.{from-fresh, owed-by}

@@ -1,7 +1,8 @@
 -- Demand 3 and question 4 by the target, for each flow.
 use Rattle.pie_guarantees.proofs.RecoveryByTarget as proved
 use Rattle.pie_guarantees.proofs.ShorterRecovery as shorter
-use Rattle.fq_guarantees.specs.RecoveryByTarget.{RecoveryByTarget, ShorterRecovery}
+use Rattle.fq_guarantees.specs.RecoveryByTarget.{RecoveryByTarget}
+use Rattle.fq_guarantees.specs.ShorterRecovery.{ShorterRecovery}
 use Rattle.fq_guarantees.specs.Shedding.{flowQueue}
 use Rattle.fq_guarantees.proofs.Facts.{facts}
 use Rattle.fq_guarantees.proofs.Sheds.{flow-sheds, own-formed}

@@ -2,7 +2,8 @@
 use mathlib.Core.Path.{refl}
 use Rattle.pie_guarantees.proofs.Spacing as proved
 use Rattle.fq_guarantees.specs.Shedding.{flowQueue}
-use Rattle.fq_guarantees.specs.Spacing.{EarlyAtLeastApart, EarlyAtMostApart}
+use Rattle.fq_guarantees.specs.EarlyAtMostApart.{EarlyAtMostApart}
+use Rattle.fq_guarantees.specs.EarlyAtLeastApart.{EarlyAtLeastApart}
 use Rattle.fq_guarantees.proofs.Facts.{facts}
 use Rattle.fq_guarantees.proofs.Sheds.{flow-sheds, own-formed}
 

@@ -14,7 +14,8 @@ use Rattle.fq_rules.specs.Answer.{Answer, departed, refused, sizeIn, ticked, ve
 use Rattle.fq_rules.specs.Answer as answer
 use Rattle.fq_guarantees.specs.AsStretch.{ServesNext, eventsOf, lineOf}
 use Rattle.fq_guarantees.specs.Calls.{Call, arrive, depart, keyFlow, reply, update}
-use Rattle.fq_guarantees.specs.Fairness.{Backlogged, HandOutAtMost, bytesServed, handedOut}
+use Rattle.fq_guarantees.specs.Fairness.{Backlogged, bytesServed, handedOut}
+use Rattle.fq_guarantees.specs.FairnessBySize.{HandOutAtMost}
 use Rattle.fq_guarantees.specs.Lists.{fqCalls}
 use Rattle.fq_guarantees.specs.Shedding.{own}
 use Rattle.fq_guarantees.specs.SixtyFour.{Record64}

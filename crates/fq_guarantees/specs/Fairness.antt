@@ -4,20 +4,17 @@
 use mathlib.Core.Path.{_≡_}
 use mathlib.Core.Bool.{true, cond}
 use mathlib.Core.Logic.{_≢_}
-use mathlib.Core.List.{List, _++_, List·Memᴰ, foldl, map}
-use Prim.Native.Nat.{ℕ, _+_, _*_, _≤_, _<_}
+use mathlib.Core.List.{List, List·Memᴰ, map}
+use Prim.Native.Nat.{ℕ, _+_, _≤_, _<_}
 use lib.Dec.{eqb}
 use Rattle.pie.specs.Verdicts.{total}
 use Rattle.calls.specs.Traces.{Entry, trace}
-use Rattle.schedule.specs.Ring.{deficitOf, quantum, zeroDeficit}
-use Rattle.fq_state.specs.Fresh.{freshRefusal}
-use Rattle.fq_state.specs.declared.Settings.{Settings}
-use Rattle.fq_rules.specs.Answer.{Answer, departed, departs, refused, sizeIn, ticked, verdict}
+use Rattle.fq_rules.specs.Answer.{Answer, departed, departs, refused, ticked, verdict}
 use Rattle.fq_guarantees.specs.Calls.{Call}
 use Rattle.fq_guarantees.specs.Kept.{Sound}
 use Rattle.fq_guarantees.specs.Lists.{fqCalls}
 use Rattle.fq_guarantees.specs.Shedding.{own}
-use Rattle.fq_guarantees.specs.SixtyFour.{Record64, fresh64}
+use Rattle.fq_guarantees.specs.SixtyFour.{Record64}
 
 -- the bytes of a flow that an answer hands out, and those that the answers of a list of calls do
 abbrev pub handedOut : (flow : ℕ) → Answer → ℕ
@@ -40,25 +37,3 @@ abbrev pub Fairness : Type 0
 Fairness =
     (start : Record64) (calls : List Call) (f g : ℕ) → Sound (start .state) → f ≢ g → Backlogged f start calls → Backlogged g start calls →
     bytesServed f (trace fqCalls start calls) < bytesServed g (trace fqCalls start calls) + 134098
-
--- no packet that these calls hand out is larger
-abbrev pub HandOutAtMost : (most : ℕ) → List (Entry fqCalls) → Type 0
-HandOutAtMost most entries = (a : Entry fqCalls) → List·Memᴰ a entries → sizeIn (a .answer .answer) ≤ most
-
--- with smaller packets, where neither flow owes more than one at the start
-abbrev pub FairnessBySize : Type 0
-FairnessBySize =
-    (start : Record64) (calls : List Call) (f g most : ℕ) → Sound (start .state) → f ≢ g → most ≤ 65535 →
-    HandOutAtMost most (trace fqCalls start calls) →
-    zeroDeficit ≤ deficitOf (start .state .schedule) f + most → zeroDeficit ≤ deficitOf (start .state .schedule) g + most →
-    Backlogged f start calls → Backlogged g start calls →
-    bytesServed f (trace fqCalls start calls) < bytesServed g (trace fqCalls start calls) + 2 * (most + quantum)
-
--- the same after any calls from an accepted fresh call, if none since then handed out a larger packet: then no flow owes more
-abbrev pub FairnessFromFresh : Type 0
-FairnessFromFresh =
-    (settings : Settings) (clock : ℕ) (earlier calls : List Call) (f g most : ℕ) → freshRefusal settings clock ≡ 0 → f ≢ g → most ≤ 65535 →
-    HandOutAtMost most (trace fqCalls (fresh64 settings clock) (earlier ++ calls)) →
-    let start = foldl (fqCalls .next) (fresh64 settings clock) earlier in
-    Backlogged f start calls → Backlogged g start calls →
-    bytesServed f (trace fqCalls start calls) < bytesServed g (trace fqCalls start calls) + 2 * (most + quantum)

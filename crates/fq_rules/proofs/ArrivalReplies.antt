@@ -32,7 +32,7 @@ use Rattle.fq_rules.specs.Arrival.{
   freedRefused,
   verdictOf,
 }
-use Rattle.fq_rules.specs.Early.{beforeVerdict}
+use Rattle.fq_rules.specs.Arrival.{beforeVerdict}
 use Rattle.fq_rules.proofs.Replies.{refused-reply}
 use Rattle.fq_rules.proofs.Rows.{above, first-refuses, none-refuses-yet}
 

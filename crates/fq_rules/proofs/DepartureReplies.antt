@@ -29,7 +29,7 @@ use Rattle.fq_rules.specs.Departure.{
   headWordRefused,
   servedFlow,
 }
-use Rattle.fq_rules.specs.Early.{beforeChoosing}
+use Rattle.fq_rules.specs.Departure.{beforeChoosing}
 use Rattle.fq_rules.proofs.Replies.{refused-reply}
 use Rattle.fq_rules.proofs.Rows.{above, first-refuses, none-refuses-yet}
 

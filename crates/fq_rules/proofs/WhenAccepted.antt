@@ -27,9 +27,8 @@ use Rattle.fq_state.specs.WellFormed.{flowConditions, wellFormed}
 use Rattle.fq_state.specs.declared.Common.{Common}
 use Rattle.fq_state.specs.declared.Flow.{Flow}
 use Rattle.fq_state.proofs.Facts.{CommonFits, FlowFits, common-fits, flow-fits, passes, totals-fit}
-use Rattle.fq_rules.specs.Arrival.{bytesFull, slotsFull, verdictOf}
-use Rattle.fq_rules.specs.Departure.{headSize, headWordRefused}
-use Rattle.fq_rules.specs.Early.{beforeChoosing, beforeVerdict}
+use Rattle.fq_rules.specs.Arrival.{beforeVerdict, bytesFull, slotsFull, verdictOf}
+use Rattle.fq_rules.specs.Departure.{beforeChoosing, headSize, headWordRefused}
 use Rattle.fq_rules.specs.Refusals.{clockRefused, tablesRefused}
 use Rattle.fq_rules.specs.Tick.{tickRefusal, tickRefusals}
 use Rattle.fq_rules.proofs.EachFlow.{ListsFit, bytes-of-one, each-fits, lists-fit}

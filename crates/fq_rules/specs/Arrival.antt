@@ -1,6 +1,6 @@
 -- 25: an arrival is document 01's with the PIE state and the bytes of its flow; rules 1 and 2 read all flows together.
 use mathlib.Core.Bool.{Bool, cond, not, _&&_}
-use mathlib.Core.List.{List, [], _∷_}
+use mathlib.Core.List.{List, [], _∷_, _++_}
 use Prim.Native.Nat.{ℕ, _+_}
 use lib.Dec.{ltb, eqb}
 use lib.ListN.{length, set}
@@ -50,15 +50,22 @@ verdictOf c f size ecn u =
 abbrev pub freedRefused : Common → (sizes : List ℕ) → Verdict → Bool
 freedRefused c sizes v = admitted v && linkRefused (c .settings .slots) sizes (c .store .freed) (c .store .spare)
 
-abbrev pub arrivalRefusals :
-    State → (handlesLength : ℕ) (sizes : List ℕ) (clock : ℕ) (key : List ℕ) (size : ℕ) (ecn : Bool) (u : ℕ) → List (ℕ × Bool)
-arrivalRefusals s handlesLength sizes clock key size ecn u =
+-- 29: those that are tested for before the verdict
+abbrev pub beforeVerdict : State → (handlesLength sizesLength clock size : ℕ) → List (ℕ × Bool)
+beforeVerdict s handlesLength sizesLength clock size =
     (2, stateRefused s)
-    ∷ (3, tablesRefused (s .common) handlesLength (length sizes))
+    ∷ (3, tablesRefused (s .common) handlesLength sizesLength)
     ∷ (4, clockRefused (s .common) clock)
     ∷ (7, sizeRefused size)
     ∷ (8, countsRefused (s .common))
-    ∷ (9, freedRefused (s .common) sizes (verdictOf (s .common) (flowAt (s .flows) (flowNumber s key)) size ecn u))
+    ∷ []
+
+-- 29
+abbrev pub arrivalRefusals :
+    State → (handlesLength : ℕ) (sizes : List ℕ) (clock : ℕ) (key : List ℕ) (size : ℕ) (ecn : Bool) (u : ℕ) → List (ℕ × Bool)
+arrivalRefusals s handlesLength sizes clock key size ecn u =
+    beforeVerdict s handlesLength (length sizes) clock size
+    ++ (9, freedRefused (s .common) sizes (verdictOf (s .common) (flowAt (s .flows) (flowNumber s key)) size ecn u))
     ∷ []
 
 unfoldable pub arrivalRefusal :
@@ -102,14 +109,13 @@ arrivedCommon c sizes clock size v =
 unfoldable pub arrivedSchedule : Schedule → (flow : ℕ) → Verdict → Schedule
 arrivedSchedule s flow v = cond (admitted v && not (isListed s flow)) (new.entered s flow) s
 
-unfoldable pub arrival :
-    State → (handles sizes : List ℕ) (clock : ℕ) (key : List ℕ) (size : ℕ) (ecn : Bool) (u : ℕ) → Reply
-arrival s handles sizes clock key size ecn u =
+-- an arrival that no test refuses
+abbrev pub acceptedArrival : State → (sizes : List ℕ) (clock : ℕ) (key : List ℕ) (size : ℕ) (ecn : Bool) (u : ℕ) → Reply
+acceptedArrival s sizes clock key size ecn u =
     let flow = flowNumber s key in
     let f = flowAt (s .flows) flow in
     let v = verdictOf (s .common) f size ecn u in
-    unlessRefused (arrivalRefusal s (length handles) sizes clock key size ecn u) s
-    (record {
+    record {
       answer = verdict v;
       state =
           record {
@@ -117,7 +123,12 @@ arrival s handles sizes clock key size ecn u =
             schedule = arrivedSchedule (s .schedule) flow v;
             flows = set (s .flows) flow (arrivedFlow (s .common .settings .target .0) f size (freePlace (s .common .store)) v);
           };
-    })
+    }
+
+unfoldable pub arrival :
+    State → (handles sizes : List ℕ) (clock : ℕ) (key : List ℕ) (size : ℕ) (ecn : Bool) (u : ℕ) → Reply
+arrival s handles sizes clock key size ecn u =
+    unlessRefused (arrivalRefusal s (length handles) sizes clock key size ecn u) s (acceptedArrival s sizes clock key size ecn u)
 
 -- the tables after an arrival that was so answered: only an admitted one writes
 abbrev pub arrivedHandles : State → Answer → (handles : List ℕ) (handle : ℕ) → List ℕ

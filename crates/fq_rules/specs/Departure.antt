@@ -1,6 +1,6 @@
 -- 27: a departure chooses a flow, and the packet at the head of its chain leaves.
 use mathlib.Core.Bool.{Bool, cond, _||_}
-use mathlib.Core.List.{List, [], _∷_}
+use mathlib.Core.List.{List, [], _∷_, _++_}
 use Prim.Native.Nat.{ℕ, _-_}
 use lib.ListN.{getD, length, set}
 use Rattle.units.specs.Kinds.{micros}
@@ -38,13 +38,20 @@ headSize f sizes = sizeAt sizes (f .head)
 abbrev pub headWordRefused : (slots : ℕ) → Flow → (sizes : List ℕ) → Bool
 headWordRefused slots f sizes = headRefused (backlogOf f) (headSize f sizes) || linkRefused slots sizes (f .head) (f .count)
 
-abbrev pub departureRefusals : State → (handlesLength : ℕ) (sizes : List ℕ) (clock : ℕ) → List (ℕ × Bool)
-departureRefusals s handlesLength sizes clock =
+-- 29: those that are tested for before the choosing
+abbrev pub beforeChoosing : State → (handlesLength sizesLength clock : ℕ) → List (ℕ × Bool)
+beforeChoosing s handlesLength sizesLength clock =
     (2, stateRefused s)
-    ∷ (3, tablesRefused (s .common) handlesLength (length sizes))
+    ∷ (3, tablesRefused (s .common) handlesLength sizesLength)
     ∷ (4, clockRefused (s .common) clock)
     ∷ (6, emptyRefused (s .common))
-    ∷ (9, headWordRefused (s .common .settings .slots) (servedFlow s) sizes)
+    ∷ []
+
+-- 29
+abbrev pub departureRefusals : State → (handlesLength : ℕ) (sizes : List ℕ) (clock : ℕ) → List (ℕ × Bool)
+departureRefusals s handlesLength sizes clock =
+    beforeChoosing s handlesLength (length sizes) clock
+    ++ (9, headWordRefused (s .common .settings .slots) (servedFlow s) sizes)
     ∷ []
 
 unfoldable pub departureRefusal : State → (handlesLength : ℕ) (sizes : List ℕ) (clock : ℕ) → ℕ
@@ -78,13 +85,13 @@ departedCommon c place clock size =
       verdicts = c .verdicts;
     }
 
-unfoldable pub departure : State → (handles sizes : List ℕ) (clock : ℕ) → Reply
-departure s handles sizes clock =
+-- a departure that no test refuses
+abbrev pub acceptedDeparture : State → (handles sizes : List ℕ) (clock : ℕ) → Reply
+acceptedDeparture s handles sizes clock =
     let c = choiceOf s in
     let f = servedFlow s in
     let size = headSize f sizes in
-    unlessRefused (departureRefusal s (length handles) sizes clock) s
-    (record {
+    record {
       answer = departed (c .flow) (headHandle f handles) size;
       state =
           record {
@@ -92,7 +99,11 @@ departure s handles sizes clock =
             schedule = charged (c .schedule) (c .flow) size;
             flows = set (s .flows) (c .flow) (departedFlow f sizes clock size);
           };
-    })
+    }
+
+unfoldable pub departure : State → (handles sizes : List ℕ) (clock : ℕ) → Reply
+departure s handles sizes clock =
+    unlessRefused (departureRefusal s (length handles) sizes clock) s (acceptedDeparture s handles sizes clock)
 
 -- the sizes after a departure that was so answered: an accepted one writes exactly one element
 abbrev pub departedSizes : State → Answer → (sizes : List ℕ) → List ℕ

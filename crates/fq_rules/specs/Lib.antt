@@ -2,13 +2,11 @@
 --
 --   Answer      what a call answers and returns
 --   Refusals    29: the test of each refusal number
---   Early       29: the refusals that are tested for first
 --   Arrival     25: a packet arrives
 --   Departure   26, 27: the packet that is served next leaves
 --   Tick        28: one tick for all flows
 pub mod Answer
 pub mod Refusals
-pub mod Early
 pub mod Arrival
 pub mod Departure
 pub mod Tick

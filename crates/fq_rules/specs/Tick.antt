@@ -37,10 +37,10 @@ tickedCommon c clock =
       verdicts = c .verdicts;
     }
 
-unfoldable pub tick : State → (clock : ℕ) → Reply
-tick s clock =
-    unlessRefused (tickRefusal s clock) s
-    (record {
+-- a tick that no test refuses
+abbrev pub acceptedTick : State → (clock : ℕ) → Reply
+acceptedTick s clock =
+    record {
       answer = ticked;
       state =
           record {
@@ -48,4 +48,7 @@ tick s clock =
             schedule = s .schedule;
             flows = map (tickedFlow (s .common .settings .target .0)) (s .flows);
           };
-    })
+    }
+
+unfoldable pub tick : State → (clock : ℕ) → Reply
+tick s clock = unlessRefused (tickRefusal s clock) s (acceptedTick s clock)

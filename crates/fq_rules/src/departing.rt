@@ -28,8 +28,7 @@ ghost use Rattle.fq_state.specs.State.{countsOf};
 ghost use Rattle.fq_state.specs.WellFormed.{flowConditions};
 ghost use Rattle.fq_state.specs.Words.{flowsOf, stateOf};
 ghost use Rattle.fq_rules.specs.Answer.{acceptedAnswer, departed, flowIn, handleIn, sizeIn};
-ghost use Rattle.fq_rules.specs.Departure.{departedCommon, departedFlow, departedSizes, departure, headWordRefused};
-ghost use Rattle.fq_rules.specs.Early.{beforeChoosing};
+ghost use Rattle.fq_rules.specs.Departure.{beforeChoosing, departedCommon, departedFlow, departedSizes, departure, headWordRefused};
 
 // Refusal 9: the word of the flow's head. A flow without a packet has none.
 fn wrong_word(f: Flow, slots: u64, sizes: &[u32]) -> bool

@@ -45,7 +45,7 @@ freshState settings clock = emptyState settings clock fullAllowance zeroDeficit
 abbrev pub zeroState : State
 zeroState = emptyState (settingsOf 0 0 0 0) 0 0 0
 
--- 1: target, buffer or slots out of range, or a start clock above 2^48
+-- 1: target, buffer, slots or salt out of range, or a start clock above 2^48
 abbrev pub setupRefused : Settings → (clock : ℕ) → Bool
 setupRefused settings clock = not (all (settingsConditions settings ++ leb clock latest ∷ []))
 

@@ -12,7 +12,8 @@ use Rattle.queue.specs.declared.State.{State}
 use Rattle.queue.proofs.Kept.{made-accepted}
 use Rattle.guarantees.specs.AllowanceLasts.{periods}
 use Rattle.guarantees.specs.Calls.{ByLimitsBefore, Entry, ringCalls, update}
-use Rattle.guarantees.specs.Grace.{FreshGrace, Grace}
+use Rattle.guarantees.specs.Grace.{Grace}
+use Rattle.guarantees.specs.FreshGrace.{FreshGrace}
 use Rattle.guarantees.proofs.AllowanceLasts.{allowance-lasts, by-limits}
 use Rattle.guarantees.proofs.RingSheds.{clockIn, ring-sheds, ringShedding, tells}
 

@@ -9,7 +9,9 @@ use Rattle.pie_guarantees.proofs.Spacing as proved
 use Rattle.queue.specs.Answer.{Answer, departed, made, refused, ticked, verdict}
 use Rattle.queue.specs.declared.State.{State}
 use Rattle.guarantees.specs.Calls.{Entry}
-use Rattle.guarantees.specs.Spacing.{EarlyAtLeastApart, EarlyAtMostApart, added, addedAt, addedBy, isEarlyAnswer}
+use Rattle.guarantees.specs.Spacing.{added, addedAt, addedBy, isEarlyAnswer}
+use Rattle.guarantees.specs.EarlyAtMostApart.{EarlyAtMostApart}
+use Rattle.guarantees.specs.EarlyAtLeastApart.{EarlyAtLeastApart}
 use Rattle.guarantees.proofs.RingSheds.{ring-sheds, ringShedding, tells}
 
 early-same : (a : Answer) → general.tellsEarly (tells a) ≡ isEarlyAnswer a

@@ -1,15 +1,13 @@
--- Question 2: could the burst allowance have run out early if the timer fired twice? A full allowance lasts 150,000 microseconds, whatever
--- ticks were tried or accepted in between: two instances of AllowanceLasts.
+-- Question 2: could the burst allowance have run out early if the timer fired twice? A full allowance lasts 150,000 microseconds,
+-- whatever ticks were tried or accepted in between: an instance of AllowanceLasts.
 use mathlib.Core.Path.{_≡_}
 use mathlib.Core.Bool.{true}
 use mathlib.Core.List.{List, _∷_, _++_, List·Memᴰ}
 use Prim.Native.Nat.{ℕ, _+_}
 use Rattle.pie.specs.Constants.{fullAllowance}
-use Rattle.queue.specs.declared.Settings.{Settings}
 use Rattle.queue.specs.declared.State.{State}
 use Rattle.queue.specs.State.{wellFormed}
-use Rattle.queue.specs.Answer.{made, ticked}
-use Rattle.queue.specs.Fresh.{fresh}
+use Rattle.queue.specs.Answer.{ticked}
 use Rattle.guarantees.specs.Calls.{ByLimitsBefore, Call, Entry, trace, update}
 
 -- from any well-formed state and over any list of calls: after an accepted tick that fills the allowance, at the clock t, each accepted
@@ -20,9 +18,3 @@ Grace =
     wellFormed start ≡ true → trace start calls ≡ before ++ e ∷ later →
     e .call ≡ update t → e .answer ≡ ticked → e .returned .pie .allowance .0 ≡ fullAllowance →
     (a : Entry) → List·Memᴰ a later → ByLimitsBefore (t + fullAllowance) a
-
--- after an accepted fresh call at the clock t, and over any list of calls from the state that it returned: likewise
-abbrev pub FreshGrace : Type 0
-FreshGrace =
-    (settings : Settings) (t : ℕ) (calls : List Call) → (fresh settings t) .answer ≡ made →
-    (a : Entry) → List·Memᴰ a (trace ((fresh settings t) .state) calls) → ByLimitsBefore (t + fullAllowance) a

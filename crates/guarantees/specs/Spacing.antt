@@ -1,19 +1,15 @@
--- How far early verdicts stand apart (Q-3): over any list of calls, refused ones and other kinds of call anywhere between, with any tables
--- lent to each. What is counted is the probability that each accepted arrival past rule 5 adds.
-use mathlib.Core.Path.{_≡_}
-use mathlib.Core.Bool.{Bool, true, false, not, cond, _&&_}
-use mathlib.Core.List.{List, [], _∷_, _++_, List·Memᴰ}
-use Prim.Native.Nat.{ℕ, _+_, _*_, _≤_, _<_}
-use Rattle.units.specs.Kinds.{whole}
-use Rattle.pie.specs.Constants.{mostAccumulated}
+-- What Q-3 counts between early verdicts: the probability that each accepted arrival past rule 5 adds. EarlyAtLeastApart and
+-- EarlyAtMostApart bound it.
+use mathlib.Core.Bool.{Bool, false, cond}
+use mathlib.Core.List.{List, [], _∷_}
+use Prim.Native.Nat.{ℕ, _+_}
 use Rattle.pie.specs.DropDecision.{spared}
 use Rattle.pie.specs.Verdicts.{isEarly}
 use Rattle.pie.specs.declared.Verdict.{Verdict}
 use Rattle.pie.specs.declared.Verdict.the-variants.{Enqueued, Marked, DroppedBytes, DroppedSlots, DroppedEarly}
 use Rattle.queue.specs.declared.State.{State}
-use Rattle.queue.specs.State.{wellFormed}
 use Rattle.queue.specs.Answer.{Answer, departed, made, refused, ticked, verdict}
-use Rattle.guarantees.specs.Calls.{Call, Entry, trace}
+use Rattle.guarantees.specs.Calls.{Entry}
 
 -- a mark or an early drop
 abbrev pub isEarlyAnswer : Answer → Bool
@@ -42,22 +38,3 @@ addedBy s ticked = 0
 abbrev pub added : List Entry → ℕ
 added [] = 0
 added (e ∷ rest) = addedBy (e .given) (e .answer) + added rest
-
--- the probabilities added after one early verdict, up to and with a later one, come to at least 0.85
-abbrev pub EarlyAtLeastApart : Type 0
-EarlyAtLeastApart =
-    (start : State) (calls : List Call) (before : List Entry) (first : Entry) (between : List Entry) (next : Entry) (later : List Entry) →
-    trace start calls ≡ before ++ first ∷ (between ++ next ∷ later) →
-    isEarlyAnswer (first .answer) ≡ true → isEarlyAnswer (next .answer) ≡ true →
-    17 * whole ≤ 20 * added (between ++ next ∷ [])
-
--- an inactive queue turns active: what it has accumulated is 0 then (Q-12)
-abbrev pub activates : Entry → Bool
-activates e = not (e .given .active) && e .returned .active
-
--- from any well-formed state: while no early verdict comes and the queue does not turn active, they come to less than 8.5
-abbrev pub EarlyAtMostApart : Type 0
-EarlyAtMostApart =
-    (start : State) (calls : List Call) (before between later : List Entry) → wellFormed start ≡ true →
-    trace start calls ≡ before ++ (between ++ later) →
-    ((a : Entry) → List·Memᴰ a between → (isEarlyAnswer (a .answer) ≡ false) × (activates a ≡ false)) → added between < mostAccumulated

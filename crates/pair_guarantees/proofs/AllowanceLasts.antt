@@ -4,7 +4,9 @@ use Rattle.pie_guarantees.proofs.AllowanceLasts as proved
 use Rattle.pair_state.specs.Fresh.{fresh}
 use Rattle.pair_state.specs.declared.Which.the-variants.{Intercom, Passengers}
 use Rattle.pair_state.proofs.FreshFormed.{made-accepted}
-use Rattle.pair_guarantees.specs.AllowanceLasts.{AllowanceLasts, FreshGrace, Grace}
+use Rattle.pair_guarantees.specs.AllowanceLasts.{AllowanceLasts}
+use Rattle.pair_guarantees.specs.FreshGrace.{FreshGrace}
+use Rattle.pair_guarantees.specs.Grace.{Grace}
 use Rattle.pair_guarantees.specs.Shedding.{queueOf, tells}
 use Rattle.pair_guarantees.proofs.Sheds.{own-sheds}
 

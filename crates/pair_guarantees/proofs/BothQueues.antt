@@ -8,7 +8,8 @@ use Rattle.pair_state.specs.declared.Pair.{Pair}
 use Rattle.pair_state.specs.declared.State.{State}
 use Rattle.pair_state.specs.declared.Which.{Which}
 use Rattle.pair_state.specs.declared.Which.the-variants.{Intercom, Passengers}
-use Rattle.pair_guarantees.specs.BothQueues.{BothQueues, BothRecover, callsIn, ownEntries}
+use Rattle.pair_guarantees.specs.BothQueues.{BothQueues, callsIn, ownEntries}
+use Rattle.pair_guarantees.specs.BothRecover.{BothRecover}
 use Rattle.pair_guarantees.specs.Calls.{PairCall, ownCalls, pairCalls, reply}
 use Rattle.pair_guarantees.proofs.Recovery.{recovery}
 use Rattle.pair_guarantees.proofs.Replies.{acceptance, by-number}

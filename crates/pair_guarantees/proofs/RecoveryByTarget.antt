@@ -2,7 +2,8 @@
 use Rattle.pie_guarantees.proofs.RecoveryByTarget as proved
 use Rattle.pie_guarantees.proofs.ShorterRecovery as shorter
 use Rattle.pair_state.specs.Queues.{own}
-use Rattle.pair_guarantees.specs.RecoveryByTarget.{RecoveryByTarget, ShorterRecovery}
+use Rattle.pair_guarantees.specs.RecoveryByTarget.{RecoveryByTarget}
+use Rattle.pair_guarantees.specs.ShorterRecovery.{ShorterRecovery}
 use Rattle.pair_guarantees.specs.Shedding.{queueOf}
 use Rattle.pair_guarantees.proofs.Sheds.{formed-fits, own-formed, own-sheds}
 

@@ -3,7 +3,8 @@ use mathlib.Core.Path.{refl}
 use Rattle.pie_guarantees.proofs.Spacing as proved
 use Rattle.pair_state.specs.Queues.{own}
 use Rattle.pair_guarantees.specs.Shedding.{queueOf}
-use Rattle.pair_guarantees.specs.Spacing.{EarlyAtLeastApart, EarlyAtMostApart}
+use Rattle.pair_guarantees.specs.EarlyAtMostApart.{EarlyAtMostApart}
+use Rattle.pair_guarantees.specs.EarlyAtLeastApart.{EarlyAtLeastApart}
 use Rattle.pair_guarantees.proofs.Sheds.{own-formed, own-sheds}
 
 pub early-at-least-apart : EarlyAtLeastApart

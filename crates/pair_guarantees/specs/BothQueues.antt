@@ -1,18 +1,14 @@
--- A list of both queues' calls, in any order, is an instance of each queue's own: the entries of one queue are the trace of its own calls,
--- each given the shared record and the other state as they then stood. So every claim over a queue's own calls holds of them; demand 3 is
--- written out.
+-- A list of both queues' calls, in any order, is an instance of each queue's own: the entries of one queue are the trace of its own
+-- calls, each given the shared record and the other state as they then stood. So every claim over a queue's own calls holds of them.
 use mathlib.Core.Path.{_≡_}
 use mathlib.Core.Bool.{Bool, true, false, cond}
-use mathlib.Core.List.{List, [], _∷_, _++_, map}
+use mathlib.Core.List.{List, [], _∷_, map}
 use Rattle.calls.specs.Traces.{Entry, trace}
-use Rattle.pie_guarantees.specs.Recovery.{RecoveredAfter}
 use Rattle.pair_state.specs.Queues.{other, own}
-use Rattle.pair_state.specs.WellFormed.{wellFormed}
 use Rattle.pair_state.specs.declared.Pair.{Pair}
 use Rattle.pair_state.specs.declared.Which.{Which}
 use Rattle.pair_state.specs.declared.Which.the-variants.{Intercom, Passengers}
 use Rattle.pair_guarantees.specs.Calls.{OwnCall, PairCall, ownCalls, pairCalls}
-use Rattle.pair_guarantees.specs.Shedding.{queueOf}
 
 abbrev pub same : (w x : Which) → Bool
 same Intercom Intercom = true
@@ -43,11 +39,3 @@ abbrev pub BothQueues : Type 0
 BothQueues =
     (w : Which) (p : Pair) (calls : List PairCall) →
     let entries = ownEntries w (trace pairCalls p calls) in entries ≡ trace (ownCalls w) (own w p) (callsIn w entries)
-
--- demand 3 for each queue in a list of both queues' calls, wherever its entries are cut
-abbrev pub BothRecover : Type 0
-BothRecover =
-    (w : Which) (p : Pair) (calls : List PairCall) →
-    (before : List (Entry (ownCalls w))) (e : Entry (ownCalls w)) (later : List (Entry (ownCalls w))) → wellFormed p ≡ true →
-    ownEntries w (trace pairCalls p calls) ≡ before ++ e ∷ later →
-    RecoveredAfter (queueOf w) 1000 (own w p .backlog .count) before e later

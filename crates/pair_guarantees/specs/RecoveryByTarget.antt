@@ -1,8 +1,7 @@
 -- Demand 3 and question 4 by the target (Q-13), for each of two queues: as many ticks on an empty queue as `ticksToRecover` says of the
--- queue's own target suffice for all that demand 3 says; 300 suffice at a target of 15,000 or more.
+-- queue's own target suffice for all that demand 3 says.
 use mathlib.Core.Path.{_≡_}
 use mathlib.Core.Bool.{true}
-use Prim.Native.Nat.{_≤_}
 use Rattle.pie_guarantees.specs.Recovery.{RecoversAfter}
 use Rattle.pie_guarantees.specs.TicksToRecover.{ticksToRecover}
 use Rattle.pair_state.specs.Queues.{own}
@@ -14,7 +13,3 @@ use Rattle.pair_guarantees.specs.Shedding.{queueOf}
 abbrev pub RecoveryByTarget : Type 0
 RecoveryByTarget =
     (w : Which) (p : Pair) → wellFormed p ≡ true → RecoversAfter (queueOf w) (ticksToRecover (own w p .settings .target .0)) (own w p)
-
-abbrev pub ShorterRecovery : Type 0
-ShorterRecovery =
-    (w : Which) (p : Pair) → wellFormed p ≡ true → 15000 ≤ own w p .settings .target .0 → RecoversAfter (queueOf w) 300 (own w p)

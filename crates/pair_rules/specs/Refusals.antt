@@ -1,4 +1,5 @@
--- The refusals (docs/SHARED-TABLES.md, part 2): the test of each number. Which number is given is firstRefusal (crate refusals).
+-- The refusals (docs/SHARED-TABLES.md, section 4): the test of each number but 1 (crate pair_state), 7 (crate refusals) and 9 (Arrival,
+-- Departure). Which number is given is firstRefusal (crate refusals).
 use mathlib.Core.Bool.{Bool, not, _&&_, _||_}
 use Prim.Native.Nat.{ℕ, _+_}
 use lib.Dec.{ltb, eqb}

@@ -15,7 +15,8 @@ use Rattle.pie.specs.declared.Verdict.the-variants.{Enqueued}
 use Rattle.laws.proofs.Choice.{at-cond}
 use Rattle.calls.specs.Traces.{Entry, entry, trace}
 use Rattle.calls.proofs.Traces.{Cut, along, cut}
-use Rattle.pie_guarantees.specs.AllowanceLasts.{AllowanceLasts, ByLimitsBefore, Grace, lastsUntil, periods}
+use Rattle.pie_guarantees.specs.AllowanceLasts.{AllowanceLasts, ByLimitsBefore, lastsUntil, periods}
+use Rattle.pie_guarantees.specs.Grace.{Grace}
 use Rattle.pie_guarantees.specs.Shedding.{Begun, InRange, Shedding, Sheds, Ticked, decided, decision, limited, ticked}
 use Rattle.pie_guarantees.proofs.AtTold.{active-ticked, at-told, inactive-ticked}
 

@@ -18,7 +18,9 @@ use Rattle.laws.proofs.Choice.{at-cond, either}
 use Rattle.calls.specs.Traces.{Entry, entry, trace}
 use Rattle.calls.proofs.Traces.{cut, nil-not-cons, same-head, same-rest}
 use Rattle.pie_guarantees.specs.Shedding.{Arrived, Shedding, Sheds, Ticked, Told, accumulatedWith, decided, decision, limited}
-use Rattle.pie_guarantees.specs.Spacing.{EarlyAtLeastApart, EarlyAtMostApart, activates, added, addedAt, addedBy, tellsEarly}
+use Rattle.pie_guarantees.specs.Spacing.{added, addedAt, addedBy, tellsEarly}
+use Rattle.pie_guarantees.specs.EarlyAtMostApart.{EarlyAtMostApart, activates}
+use Rattle.pie_guarantees.specs.EarlyAtLeastApart.{EarlyAtLeastApart}
 use Rattle.pie_guarantees.proofs.AtTold.{active-ticked, at-told, inactive-ticked}
 
 updated-accumulated : (pie : Pie) (calm : Bool) (target bytes : ℕ) → (updated pie calm target bytes) .accumulated ≡ pie .accumulated

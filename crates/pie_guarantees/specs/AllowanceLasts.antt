@@ -2,13 +2,13 @@
 -- t, lasts until t + 15,000 × ⌈A / 15,000⌉. Over any list of calls from that state, whatever ticks are tried or accepted, each accepted
 -- arrival with a clock below that is answered by rules 1 and 2 alone: what they let through, rule 3 enqueues.
 use mathlib.Core.Path.{_≡_}
-use mathlib.Core.List.{List, _∷_, _++_, List·Memᴰ}
+use mathlib.Core.List.{List, List·Memᴰ}
 use Prim.Native.Nat.{ℕ, _+_, _-_, _*_, _/_, _<_}
-use Rattle.pie.specs.Constants.{fullAllowance, period}
+use Rattle.pie.specs.Constants.{period}
 use Rattle.pie.specs.declared.Verdict.{Verdict}
 use Rattle.pie.specs.declared.Verdict.the-variants.{Enqueued}
 use Rattle.calls.specs.Traces.{Entry, trace}
-use Rattle.pie_guarantees.specs.Shedding.{Shedding, Sheds, decided, limited, ticked}
+use Rattle.pie_guarantees.specs.Shedding.{Shedding, Sheds, decided, limited}
 
 -- if the entry is an accepted arrival with a clock below `end`, rules 1 and 2 alone decide
 abbrev pub ByLimitsBefore : (k : Shedding) (end : ℕ) → Entry (k .kind) → Type 0
@@ -27,12 +27,3 @@ abbrev pub AllowanceLasts : Type 1
 AllowanceLasts =
     (k : Shedding) → Sheds k → (start : k .kind .State) (calls : List (k .kind .Call)) →
     (a : Entry (k .kind)) → List·Memᴰ a (trace (k .kind) start calls) → ByLimitsBefore k (lastsUntil k start) a
-
--- so a full allowance lasts 150,000 microseconds after an accepted tick that fills it
-abbrev pub Grace : Type 1
-Grace =
-    (k : Shedding) → Sheds k → (start : k .kind .State) (calls : List (k .kind .Call)) →
-    (before : List (Entry (k .kind))) (e : Entry (k .kind)) (later : List (Entry (k .kind))) →
-    trace (k .kind) start calls ≡ before ++ e ∷ later →
-    k .tells (e .answer) ≡ ticked → (k .pie (e .returned)) .allowance .0 ≡ fullAllowance →
-    (a : Entry (k .kind)) → List·Memᴰ a later → ByLimitsBefore k (k .clock (e .call) + fullAllowance) a

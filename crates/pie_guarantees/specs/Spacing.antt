@@ -1,17 +1,14 @@
--- How far early verdicts stand apart (Q-3), of any kind of queue that sheds load by PIE: over any list of calls, refused ones and other
--- kinds of call anywhere between. What is counted is the probability that each accepted arrival past rule 5 adds.
-use mathlib.Core.Path.{_≡_}
-use mathlib.Core.Bool.{Bool, true, false, not, cond, _&&_}
-use mathlib.Core.List.{List, [], _∷_, _++_, List·Memᴰ}
-use Prim.Native.Nat.{ℕ, _+_, _*_, _≤_, _<_}
-use Rattle.units.specs.Kinds.{whole}
-use Rattle.pie.specs.Constants.{mostAccumulated}
+-- What Q-3 counts between early verdicts, of any kind of queue that sheds load by PIE: the probability that each accepted arrival past
+-- rule 5 adds. EarlyAtLeastApart and EarlyAtMostApart bound it.
+use mathlib.Core.Bool.{Bool, false, cond}
+use mathlib.Core.List.{List, [], _∷_}
+use Prim.Native.Nat.{ℕ, _+_}
 use Rattle.pie.specs.DropDecision.{spared}
 use Rattle.pie.specs.Verdicts.{isEarly}
 use Rattle.pie.specs.declared.Verdict.{Verdict}
 use Rattle.pie.specs.declared.Verdict.the-variants.{Enqueued, Marked, DroppedBytes, DroppedSlots, DroppedEarly}
-use Rattle.calls.specs.Traces.{Entry, trace}
-use Rattle.pie_guarantees.specs.Shedding.{Shedding, Sheds, Told, decided, departed, nothing, ticked}
+use Rattle.calls.specs.Traces.{Entry}
+use Rattle.pie_guarantees.specs.Shedding.{Shedding, Told, decided, departed, nothing, ticked}
 
 -- a mark or an early drop
 abbrev pub tellsEarly : Told → Bool
@@ -38,24 +35,3 @@ addedBy k s ticked = 0
 abbrev pub added : (k : Shedding) → List (Entry (k .kind)) → ℕ
 added k [] = 0
 added k (e ∷ rest) = addedBy k (e .given) (k .tells (e .answer)) + added k rest
-
--- the probabilities added after one early verdict, up to and with a later one, come to at least 0.85
-abbrev pub EarlyAtLeastApart : Type 1
-EarlyAtLeastApart =
-    (k : Shedding) → Sheds k → (start : k .kind .State) (calls : List (k .kind .Call)) →
-    (before : List (Entry (k .kind))) (first : Entry (k .kind)) (between : List (Entry (k .kind))) (next : Entry (k .kind)) →
-    (later : List (Entry (k .kind))) → trace (k .kind) start calls ≡ before ++ first ∷ (between ++ next ∷ later) →
-    tellsEarly (k .tells (first .answer)) ≡ true → tellsEarly (k .tells (next .answer)) ≡ true →
-    17 * whole ≤ 20 * added k (between ++ next ∷ [])
-
--- an inactive queue turns active: what it has accumulated is 0 then (Q-12)
-abbrev pub activates : (k : Shedding) → Entry (k .kind) → Bool
-activates k e = not (k .active (e .given)) && k .active (e .returned)
-
--- from any well-formed state: while no early verdict comes and the queue does not turn active, they come to less than 8.5
-abbrev pub EarlyAtMostApart : Type 1
-EarlyAtMostApart =
-    (k : Shedding) → Sheds k → (start : k .kind .State) (calls : List (k .kind .Call)) →
-    (before between later : List (Entry (k .kind))) → k .Formed start → trace (k .kind) start calls ≡ before ++ (between ++ later) →
-    ((a : Entry (k .kind)) → List·Memᴰ a between → (tellsEarly (k .tells (a .answer)) ≡ false) × (activates k a ≡ false)) →
-    added k between < mostAccumulated

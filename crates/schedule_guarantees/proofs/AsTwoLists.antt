@@ -7,7 +7,9 @@ use borrow.Author.Tests.{eqb-true, not-false, not-true}
 use Rattle.schedule.specs.Choosing.{Look, after, chooseIn, look, moves, nobody, serves}
 use Rattle.schedule.specs.Entering.{entered, isListed}
 use Rattle.schedule.specs.Ring.{Schedule, entries, occurs}
-use Rattle.schedule_guarantees.specs.AsTwoLists.{AsTwoLists, ChoosesAsTwoLists, EntersAsTwoLists, asFound, asServed, twoLists}
+use Rattle.schedule_guarantees.specs.AsTwoLists.{AsTwoLists, asFound, twoLists}
+use Rattle.schedule_guarantees.specs.EntersAsTwoLists.{EntersAsTwoLists}
+use Rattle.schedule_guarantees.specs.ChoosesAsTwoLists.{ChoosesAsTwoLists, asServed}
 use Rattle.schedule_guarantees.specs.Kept.{Sound}
 use Rattle.schedule_guarantees.specs.TwoLists.{admittedTo, afterLook, listed, serveIn}
 use Rattle.schedule_guarantees.proofs.Facts.{fits-of, listed-entries}

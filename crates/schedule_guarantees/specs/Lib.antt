@@ -2,7 +2,9 @@
 -- proves it.
 --
 --   TwoLists          25 and 26 on two plain lists of flows
---   AsTwoLists        the ring's looks, its choosing and its entries are those of two plain lists
+--   AsTwoLists        the ring's looks are those at two plain lists
+--   ChoosesAsTwoLists  and so is its choosing
+--   EntersAsTwoLists  and so are its entries
 --   Kept              choosing, an arrival and a departure keep the lists well formed
 --   ChoosingEnds      choosing ends at a flow that may be served, within 2,879 moves
 --   LongestChoice     a choice of 2,879 moves
@@ -15,6 +17,8 @@
 --   TwiceAsMuch       a flow that empties and enters again is served twice as much
 pub mod TwoLists
 pub mod AsTwoLists
+pub mod ChoosesAsTwoLists
+pub mod EntersAsTwoLists
 pub mod Kept
 pub mod ChoosingEnds
 pub mod LongestChoice

@@ -9,7 +9,8 @@ use lib.ListN.{getD, length, length-map}
 use lib.Seq.{getD-set-same, getD-set-other}
 use Rattle.calls.specs.Packets.{Packet}
 use Rattle.laws.proofs.Tests.{or-neither}
-use Rattle.store_guarantees.specs.Alone.{Alone, Isolation, aloneAfter, aloneOutcome, aloneOutcomes, anyFull, isFull, own, ownOutcomes}
+use Rattle.store_guarantees.specs.Alone.{Alone, aloneAfter, aloneOutcome, aloneOutcomes, anyFull, isFull, own, ownOutcomes}
+use Rattle.store_guarantees.specs.Isolation.{Isolation}
 use Rattle.store_guarantees.specs.AsLists.{Refined, allHeld, listAfter, listOutcome}
 use Rattle.store_guarantees.specs.Chains.{contents, packetsIn}
 use Rattle.store_guarantees.specs.Requests.{Request, after, chainOf, empty, outcomeOf, put, take, taken}

@@ -1,10 +1,11 @@
--- A chain by itself: as long as none of its puts finds the slots used up, its answers depend on its own requests alone.
+-- A chain by itself: as long as none of its puts finds the slots used up, its answers are those of one list of packets to its own
+-- requests.
 use mathlib.Core.Path.{_≡_}
 use mathlib.Core.Bool.{Bool, true, false, cond, _||_}
 use mathlib.Core.List.{List, [], _∷_, _++_}
 use Prim.Native.Nat.{ℕ}
 use lib.Dec.{eqb}
-use lib.ListN.{getD, length}
+use lib.ListN.{length}
 use Rattle.calls.specs.Packets.{Packet}
 use Rattle.store_guarantees.specs.AsLists.{headOutcome, withoutHead}
 use Rattle.store_guarantees.specs.Chains.{Chains, packetsIn}
@@ -55,12 +56,3 @@ Alone =
     (i : ℕ) (h : Chains) (requests : List Request) → Sound h → AllProper (length (h .chains)) requests →
     anyFull (ownOutcomes i h requests) ≡ false →
     ownOutcomes i h requests ≡ aloneOutcomes (packetsIn h i) (own i requests)
-
--- two stores with their chains, and two lists of requests that are the same on chain i
-abbrev pub Isolation : Type 0
-Isolation =
-    (i : ℕ) (h h′ : Chains) (requests requests′ : List Request) → Sound h → Sound h′ →
-    AllProper (length (h .chains)) requests → AllProper (length (h′ .chains)) requests′ →
-    packetsIn h i ≡ packetsIn h′ i → own i requests ≡ own i requests′ →
-    anyFull (ownOutcomes i h requests) ≡ false → anyFull (ownOutcomes i h′ requests′) ≡ false →
-    ownOutcomes i h requests ≡ ownOutcomes i h′ requests′

@@ -7,7 +7,8 @@
 --   NeverLost         from fresh: no call is refused for a link
 --   FirstInFirstOut   from fresh: what entered a chain is what left it and then what it holds, in order
 --   AsLists           from fresh: the answers are those of plain lists of packets
---   Alone             a chain's answers depend on its own requests alone while it finds a free slot
+--   Alone             a chain's answers are those of one list of packets while it finds a free slot
+--   Isolation         so they depend on its own requests alone
 --   Example           two chains over three slots
 pub mod Chains
 pub mod Sound
@@ -17,4 +18,5 @@ pub mod NeverLost
 pub mod FirstInFirstOut
 pub mod AsLists
 pub mod Alone
+pub mod Isolation
 pub mod Example
