@@ -46,7 +46,7 @@
  * Random numbers
  *   Each arrival needs a number `u` of its own, uniform over all 32 bits: from getrandom, or from
  *   a good generator seeded by it. rand() will not do. Where it gives 31 bits, `u` is below 2^31:
- *   where u decides, rule 6 drops or marks twice as often, and always from a probability of 1/2.
+ *   where u decides, the queue drops or marks twice as often, and always from a probability of 1/2.
  *   Where it gives 15 bits, always from a probability of 1/131,072.
  *
  * Saving
@@ -59,9 +59,9 @@
  *   put the packets in again.
  *
  * After a refusal
- *   101, 103 to 107, 110 and 120 need only a right call; 111 to 114 are the log's and leave the
- *   queue as it is; 102, 108 and 109 ask for a fresh queue. The handles that are queued come out
- *   of the old one like this:
+ *   101, 103 to 107, 110 and 120 need only a right call, but for 104 beyond 2^48, which asks for
+ *   a fresh queue; 111 to 114 are the log's and leave the queue as it is; 102, 108 and 109 ask for
+ *   a fresh queue. The handles that are queued come out of the old one like this:
  *     108  The queue is sound: departures and ticks go on. Let it run empty, then start afresh.
  *     109  They stand in the table of handles, head first, at (first + i) % slots for i below
  *          `count`. Read them there; what damaged the sizes may have damaged them too.
@@ -79,7 +79,7 @@
 extern "C" {
 #endif
 
-/* Raised whenever the layout or the meaning of the state record changes. */
+/* Raised whenever the layout or the meaning of the state record (not the log's records) changes. */
 #define OBIKUTERU_RECORD_VERSION 3u
 
 /* Least time from one accepted tick to the next. */
@@ -164,18 +164,25 @@ uint32_t obikuteru_fresh(struct obikuteru_state *state, uint64_t target, uint64_
 /*
  * A packet of `size` bytes arrives. `ecn`: the packet is ECN-capable. `u`: a random number,
  * uniform over all 32-bit numbers and fresh for each arrival. Where the answer is ENQUEUED or
- * MARKED, one element of each table was written; otherwise the caller drops the packet.
+ * MARKED, one element of each table was written; otherwise the caller drops the packet. Answers a
+ * verdict, or 102, 103, 104, 107, 108.
  */
 uint32_t obikuteru_arrival(struct obikuteru_state *state, uint32_t *handles, size_t handles_len,
                            uint32_t *sizes, size_t sizes_len, uint64_t clock, uint32_t handle,
                            uint32_t size, bool ecn, uint32_t u);
 
-/* The head leaves: its handle and size are written to `packet`. The tables are only read. */
+/*
+ * The head leaves: its handle and size are written to `packet`. The tables are only read. Answers
+ * ACCEPTED, or 102, 103, 104, 106, 109.
+ */
 uint32_t obikuteru_departure(struct obikuteru_state *state, const uint32_t *handles,
                              size_t handles_len, const uint32_t *sizes, size_t sizes_len,
                              uint64_t clock, struct obikuteru_packet *packet);
 
-/* The periodic update of probability and allowance, due at `last` + OBIKUTERU_TICK_PERIOD. */
+/*
+ * The periodic update of probability and allowance, due at `last` + OBIKUTERU_TICK_PERIOD. Answers
+ * ACCEPTED, or 102, 104, 105.
+ */
 uint32_t obikuteru_tick(struct obikuteru_state *state, uint64_t clock);
 
 /* Whether a record, restored from elsewhere say, is one that the calls accept (not refusal 2). */
@@ -214,11 +221,12 @@ struct obikuteru_answer {
 
 /*
  * Runs a burst. Answers ACCEPTED, or REFUSED_CALL with nothing done where `calls_len` is not
- * 6 * `answers_len`; what each call was answered stands in `answers`.
+ * 6 * `answers_len`; what each call was answered stands in `answers`, and the burst is ACCEPTED also
+ * where every call in it was refused.
  * Calls are six 32-bit numbers each, in the order of struct obikuteru_call, the clock's low half
  * first; answers are one word each, code + 65,536 * size + 2^32 * handle. On a little-endian
- * machine the two structs stand so in memory: pass an array of n calls as (const uint32_t *)calls
- * and 6 * n, and an array of n answers, aligned to 8 bytes, as (uint64_t *)answers and n.
+ * machine the two structs stand so in memory: let an array of n calls share a union with one of
+ * 6 * n numbers, and an array of n answers one with n words, and pass those (examples/bursts.c).
  */
 uint32_t obikuteru_calls(struct obikuteru_state *state, uint32_t *handles, size_t handles_len,
                          uint32_t *sizes, size_t sizes_len, const uint32_t *calls,
@@ -324,7 +332,7 @@ struct obikuteru_part {
 /* Where the note stands. Answers ACCEPTED, or 111, 112; then the part is empty. */
 uint32_t obikuteru_log_note(const uint8_t *log, size_t log_len, struct obikuteru_part *note);
 
-/* Answers of a replay, beside the refusals 111, 112, 113 and 103. */
+/* Answers of a replay, beside the refusals, in this order: 111, 112, 113, 103. */
 #define OBIKUTERU_DISAGREES_VERDICT 1u
 #define OBIKUTERU_DISAGREES_PROBABILITY 2u
 #define OBIKUTERU_DISAGREES_BYTES 3u
@@ -521,8 +529,9 @@ uint32_t obikuteru_modem_calls(struct obikuteru_modem_state *state, uint64_t cou
  *     both structs.
  *   - After 108 let both queues run empty, then start afresh. After 109 the handles of a queue
  *     stand in the table at `head` and then, `count` of them in all, each at the link of the one
- *     before, sizes[place] >> 16; what damaged one link may have damaged others. After 102, as for
- *     the queue, only the caller's own books can say what is queued.
+ *     before, sizes[place] >> 16; what damaged one link may have damaged others. An arrival that
+ *     is refused by 109 met a damaged free slot: departures go on, so let both queues run empty and
+ *     start afresh. After 102, as for the queue, only the caller's own books can say what is queued.
  */
 struct obikuteru_shared {
     uint64_t slots;      /* slots of the tables, 1 to 65,536 */
@@ -582,7 +591,8 @@ uint32_t obikuteru_pair_fresh(struct obikuteru_shared *shared,
 
 /*
  * The library's own entries for a call on one queue: they take the called queue's record and then
- * the other one's, which is only read. Call them by the three functions below, which pick the two.
+ * the other one's, which is only read; `second` says that `own` is the passengers' (its reserve is
+ * reserve[1]). Call them by the three functions below, which pick the two.
  */
 uint32_t obikuteru_pair_arrival_of(struct obikuteru_shared *shared,
                                    struct obikuteru_pair_queue *own,
@@ -694,12 +704,13 @@ uint32_t obikuteru_pair_calls(struct obikuteru_shared *shared,
  *
  * What is said of the queue and of the pair's tables holds here too, but for this:
  *   - One clock and one tick serve all flows. A tick updates all 64.
- *   - Bytes and slots are shared: rule 1 reads the bytes of all flows, rule 2 the packets of all.
+ *   - Bytes and slots are shared: the bytes of all flows are held to the buffer, and the packets of
+ *     all to the slots.
  *   - A departure chooses the flow; the answer names it.
  *   - Every single call tests the whole record, 64 flows and both lists; a burst tests it once.
  *   - Save the record and both tables together, with OBIKUTERU_FQ_VERSION and its size.
- *   - After 108 let the flows run empty, then start afresh. After 109 the handles of a flow stand
- *     in the table as those of a pair's queue do.
+ *   - After 108, and after an arrival's 109, let the flows run empty, then start afresh. After a
+ *     departure's 109 the handles of a flow stand in the table as those of a pair's queue do.
  */
 struct obikuteru_flow {
     uint64_t probability; /* as in struct obikuteru_pair_queue, down to `tail` */
@@ -759,7 +770,8 @@ uint32_t obikuteru_fq_flow(const uint8_t key[13], uint32_t salt);
 
 /*
  * The library's own entries: they take the record in its parts, 19 words, the order, the flows'
- * 768 words and the deficits. Call them by the functions below.
+ * 768 words and the deficits; a packet is three numbers: flow, handle, size. Call them by the
+ * functions below.
  */
 uint32_t obikuteru_fq_fresh_of(uint64_t *common, uint64_t *order, uint64_t *flows,
                                uint32_t *deficits, uint64_t target, uint64_t buffer,
