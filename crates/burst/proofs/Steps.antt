@@ -13,8 +13,8 @@ use Rattle.queue.specs.Answer.{Reply}
 use Rattle.queue.specs.Arrival.{arrival, stored}
 use Rattle.queue.specs.Departure.{departure}
 use Rattle.queue.specs.Tick.{tick}
-use Rattle.capi.specs.Codes.{codeOf, wordsAfter}
-use Rattle.capi.specs.Words.{stateOf}
+use Rattle.words.specs.Codes.{codeOf, wordsAfter}
+use Rattle.words.specs.Words.{stateOf}
 use Rattle.steps.specs.Lent.{answerWord, lent}
 use Rattle.steps.proofs.Answers.{plain-arrival, plain-tick}
 use Rattle.burst.specs.Calls.{callAt}

@@ -18,7 +18,7 @@ ghost use Rattle.pie.specs.Constants.{mostVerdicts};
 ghost use Rattle.pie.specs.Verdicts.{total};
 ghost use Rattle.bursts.specs.Burst.{burst, done, fits, outcome};
 ghost use Rattle.queue.specs.State.{wellFormed};
-ghost use Rattle.capi.specs.Words.{stateOf};
+ghost use Rattle.words.specs.Words.{stateOf};
 ghost use Rattle.burst.specs.Calls.{callAt};
 ghost use Rattle.steps.specs.Lent.{Ready, answerWord, lent};
 ghost use Rattle.burst.specs.Burst.{after, answerTo, ringBursts};

@@ -11,9 +11,9 @@ use Rattle.pie.specs.declared.Verdict.{Verdict}
 use Rattle.pie.specs.declared.Verdict.the-variants.{Enqueued, Marked, DroppedBytes, DroppedSlots, DroppedEarly}
 use Rattle.pie.proofs.Counts.{place-lt}
 use Rattle.queue.specs.Fresh.{settingsOf}
-use Rattle.capi.specs.Codes.{codeOf}
-use Rattle.capi.specs.Words.{stateOf}
-use Rattle.capi.proofs.Words.{count-word}
+use Rattle.words.specs.Codes.{codeOf}
+use Rattle.words.specs.Words.{stateOf}
+use Rattle.words.proofs.Words.{count-word}
 use Rattle.guarantees.specs.Conservation.{Conserved, isVerdict, timesAnswered}
 use Rattle.guarantees.specs.Handed.{Request, answerOf, askArrival, askDeparture, askTick}
 use Rattle.guarantees.proofs.Conservation.{conservation}

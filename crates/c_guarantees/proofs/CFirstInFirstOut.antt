@@ -7,8 +7,8 @@ use Rattle.laws.proofs.Choice.{either}
 use Rattle.queue.specs.Answer.{Reply, made}
 use Rattle.queue.specs.Fresh.{fresh, settingsOf}
 use Rattle.queue.specs.Refusals.{settingsRefused}
-use Rattle.capi.specs.Codes.{codeOf}
-use Rattle.capi.specs.Words.{stateOf}
+use Rattle.words.specs.Codes.{codeOf}
+use Rattle.words.specs.Words.{stateOf}
 use Rattle.guarantees.specs.FirstInFirstOut.{InOrder}
 use Rattle.guarantees.specs.Handed.{Run, queued}
 use Rattle.guarantees.proofs.FirstInFirstOut.{first-in-first-out}

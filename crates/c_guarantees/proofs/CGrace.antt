@@ -2,7 +2,7 @@
 use mathlib.Core.Path.{_≡_, refl, ap, sym, _∙_}
 use mathlib.Core.List.{List, Memᴰ·append-right, Memᴰ·map, List·Memᴰ·head, List·Memᴰ·tail, map}
 use Prim.Native.Nat.{ℕ}
-use Rattle.capi.specs.Words.{stateOf}
+use Rattle.words.specs.Words.{stateOf}
 use Rattle.queue.specs.declared.State.{State}
 use Rattle.guarantees.proofs.Grace.{grace}
 use Rattle.c_guarantees.specs.CGrace.{CGrace}

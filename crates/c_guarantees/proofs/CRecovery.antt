@@ -7,8 +7,8 @@ use native.Mathlib.Omega.{arith}
 use Rattle.queue.specs.Activity.{begun}
 use Rattle.queue.specs.Arrival.{verdictOf}
 use Rattle.queue.specs.declared.State.{State}
-use Rattle.capi.specs.Codes.{codeOf}
-use Rattle.capi.specs.Words.{stateOf}
+use Rattle.words.specs.Codes.{codeOf}
+use Rattle.words.specs.Words.{stateOf}
 use Rattle.guarantees.specs.Calls.{Call, Entry, arrive, depart, reply, update}
 use Rattle.guarantees.specs.Recovery.{RecoversAfter, RecoveredAfter, Tally, noted, nothingYet, queuedBy, tally}
 use Rattle.guarantees.proofs.Recovery.{recovery}

@@ -1,5 +1,5 @@
 -- Demand 3 and question 4 for C calls, by the target: from the same over states.
-use Rattle.capi.specs.Words.{stateOf}
+use Rattle.words.specs.Words.{stateOf}
 use Rattle.guarantees.proofs.RecoveryByTarget.{recovery-by-target}
 use Rattle.c_guarantees.specs.CRecoveryByTarget.{CRecoveryByTarget}
 use Rattle.c_guarantees.proofs.CRecovery.{c-recovers}

@@ -7,8 +7,8 @@ use Rattle.queue.specs.Activity.{begun}
 use Rattle.queue.specs.Arrival.{arrivedState, verdictOf}
 use Rattle.queue.specs.Departure.{departedState}
 use Rattle.queue.specs.Tick.{tickedState}
-use Rattle.capi.specs.Codes.{wordsAfter}
-use Rattle.capi.specs.Words.{stateOf}
+use Rattle.words.specs.Codes.{wordsAfter}
+use Rattle.words.specs.Words.{stateOf}
 use Rattle.guarantees.specs.Calls.{Call, reply}
 use Rattle.guarantees.proofs.Replies.{at-reply}
 use Rattle.c_guarantees.specs.CCalls.{wordsLeft}

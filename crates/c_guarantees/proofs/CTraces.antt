@@ -13,8 +13,8 @@ use Rattle.queue.specs.Answer.{ticked, verdict}
 use Rattle.queue.specs.Activity.{begun}
 use Rattle.queue.specs.Arrival.{verdictOf}
 use Rattle.queue.specs.declared.State.{State}
-use Rattle.capi.specs.Codes.{codeOf}
-use Rattle.capi.specs.Words.{stateOf}
+use Rattle.words.specs.Codes.{codeOf}
+use Rattle.words.specs.Words.{stateOf}
 use Rattle.guarantees.specs.Calls.{ByLimitsBefore, Call, Entry, arrive, entry, limitsVerdict, reply, trace, update}
 use Rattle.guarantees.proofs.Replies.{at-one-reply}
 use Rattle.c_guarantees.specs.CCalls.{CEntry, CodeByLimitsBefore, cEntry, cTrace, limitsCode, wordsLeft}

@@ -10,7 +10,7 @@ use Rattle.pie.specs.declared.Verdict.{Verdict}
 use Rattle.pie.specs.declared.Verdict.the-variants.{Enqueued, Marked, DroppedBytes, DroppedSlots, DroppedEarly}
 use Rattle.pie.proofs.Counts.{place-lt}
 use Rattle.queue.specs.Answer.{Answer, departed, made, refused, ticked, verdict}
-use Rattle.capi.specs.Codes.{codeOf}
+use Rattle.words.specs.Codes.{codeOf}
 
 -- a refusal's number is none below 100
 pub refused-not : (number code : ℕ) → code < 100 → eqb (100 + number) code ≡ false

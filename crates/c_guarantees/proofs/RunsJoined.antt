@@ -13,8 +13,8 @@ use Rattle.queue.specs.Arrival.{verdictOf}
 use Rattle.queue.specs.Fresh.{fresh, settingsOf}
 use Rattle.queue.specs.Refusals.{settingsRefused}
 use Rattle.queue.specs.declared.Settings.{Settings}
-use Rattle.capi.specs.Codes.{codeOf}
-use Rattle.capi.specs.Words.{stateOf}
+use Rattle.words.specs.Codes.{codeOf}
+use Rattle.words.specs.Words.{stateOf}
 use Rattle.calls.specs.Packets.{Packet}
 use Rattle.guarantees.specs.Handed.{Request, Run, after, answerOf, askArrival, askDeparture, askTick, begin, departedBy}
 use Rattle.guarantees.specs.Handed.{run, step}

@@ -3,7 +3,7 @@ use mathlib.Core.Path.{_≡_, refl, ap}
 use mathlib.Core.List.{List, [], _∷_, map}
 use Prim.Native.Nat.{ℕ}
 use Rattle.queue.specs.declared.State.{State}
-use Rattle.capi.specs.Words.{stateOf}
+use Rattle.words.specs.Words.{stateOf}
 use Rattle.guarantees.specs.Calls.{Call, entry, reply, trace}
 use Rattle.c_guarantees.specs.CCalls.{cEntry, cTrace, codeGiven, packetWritten, wordsLeft}
 use Rattle.c_guarantees.specs.TracesJoined.{TraceLine, TracesJoined, lineOfStates, lineOfWords}

@@ -6,8 +6,8 @@ use mathlib.Core.List.{List, [], _∷_}
 use Prim.Native.Nat.{ℕ, _+_, _<_}
 use lib.Dec.{eqb, ltb}
 use Rattle.queue.specs.Answer.{Answer}
-use Rattle.capi.specs.Codes.{codeOf, packetOf, wordsAfter}
-use Rattle.capi.specs.Words.{stateOf}
+use Rattle.words.specs.Codes.{codeOf, packetOf, wordsAfter}
+use Rattle.words.specs.Words.{stateOf}
 use Rattle.guarantees.specs.Calls.{Call, arrive, depart, reply, update}
 use Rattle.c_guarantees.specs.Fields.{bufferIn, bytesIn, countIn, slotsIn}
 

@@ -8,7 +8,7 @@ use mathlib.Core.List.{List, _∷_, _++_, List·Memᴰ}
 use Prim.Native.Nat.{ℕ, _+_}
 use Rattle.pie.specs.Constants.{fullAllowance}
 use Rattle.queue.specs.State.{wellFormed}
-use Rattle.capi.specs.Words.{stateOf}
+use Rattle.words.specs.Words.{stateOf}
 use Rattle.guarantees.specs.Calls.{Call, update}
 use Rattle.c_guarantees.specs.CCalls.{CEntry, CodeByLimitsBefore, cTrace}
 use Rattle.c_guarantees.specs.Fields.{allowanceIn}

@@ -7,8 +7,8 @@ use lib.Dec.{eqb, ltb}
 use lib.ListN.{getD}
 use Rattle.queue.specs.Arrival.{stored}
 use Rattle.queue.specs.Fresh.{fresh, settingsOf}
-use Rattle.capi.specs.Codes.{codeOf}
-use Rattle.capi.specs.Words.{stateOf, stateWords}
+use Rattle.words.specs.Codes.{codeOf}
+use Rattle.words.specs.Words.{stateOf, stateWords}
 use Rattle.guarantees.specs.Calls.{Call}
 use Rattle.calls.specs.Packets.{Packet}
 use Rattle.calls.specs.Ring.{listed}

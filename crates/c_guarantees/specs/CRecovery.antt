@@ -8,7 +8,7 @@ use lib.Dec.{eqb, ltb}
 use Rattle.units.specs.Kinds.{none}
 use Rattle.pie.specs.Constants.{fullAllowance}
 use Rattle.queue.specs.State.{wellFormed}
-use Rattle.capi.specs.Words.{stateOf}
+use Rattle.words.specs.Words.{stateOf}
 use Rattle.guarantees.specs.Calls.{Call, arrive, depart, update}
 use Rattle.guarantees.specs.Recovery.{Tally, nothingYet, queuedBy}
 use Rattle.c_guarantees.specs.CCalls.{CEntry, CodeByLimitsBefore, cTrace}

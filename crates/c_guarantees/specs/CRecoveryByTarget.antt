@@ -6,7 +6,7 @@ use mathlib.Core.List.{List}
 use Prim.Native.Nat.{ℕ}
 use Rattle.pie_guarantees.specs.TicksToRecover.{ticksToRecover}
 use Rattle.queue.specs.State.{wellFormed}
-use Rattle.capi.specs.Words.{stateOf}
+use Rattle.words.specs.Words.{stateOf}
 use Rattle.c_guarantees.specs.CRecovery.{CRecoversAfter}
 use Rattle.c_guarantees.specs.Fields.{targetIn}
 

@@ -4,7 +4,7 @@ use mathlib.Core.List.{List}
 use Prim.Native.Nat.{ℕ}
 use lib.ListN.{length}
 use Rattle.queue.specs.declared.State.{State}
-use Rattle.capi.specs.Words.{stateOf, stateWords}
+use Rattle.words.specs.Words.{stateOf, stateWords}
 
 pub record Decoding : Type 0 where
   -- whatever words they are written over; a state of the library has five verdict counts

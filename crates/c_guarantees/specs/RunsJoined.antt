@@ -4,7 +4,7 @@ use mathlib.Core.Path.{_≡_}
 use mathlib.Core.List.{List, map}
 use Prim.Native.Nat.{ℕ}
 use Rattle.queue.specs.Fresh.{settingsOf}
-use Rattle.capi.specs.Codes.{codeOf}
+use Rattle.words.specs.Codes.{codeOf}
 use Rattle.guarantees.specs.Handed.{Request, Run, run}
 use Rattle.c_guarantees.specs.CHanded.{CQueue, Logged, admittedIn, finalQueue, freshQueue, handedOutIn, logOf, queueOf}
 

@@ -4,8 +4,8 @@ use mathlib.Core.Path.{_≡_}
 use mathlib.Core.List.{List, map}
 use Prim.Native.Nat.{ℕ}
 use Rattle.queue.specs.declared.State.{State}
-use Rattle.capi.specs.Codes.{codeOf}
-use Rattle.capi.specs.Words.{stateOf}
+use Rattle.words.specs.Codes.{codeOf}
+use Rattle.words.specs.Words.{stateOf}
 use Rattle.guarantees.specs.Calls.{Call, Entry, trace}
 use Rattle.c_guarantees.specs.CCalls.{CEntry, cTrace, packetFor}
 

@@ -1,3 +1,2 @@
 -- What the entries' proofs share.
-pub mod Codes
-pub mod Words
+pub mod Replies

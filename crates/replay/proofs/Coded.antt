@@ -14,8 +14,8 @@ use Rattle.queue.specs.Answer.{Answer, Reply, departed, handleIn, made, refused
 use Rattle.queue.specs.Arrival.{arrival, arrivalRefusal, stored}
 use Rattle.queue.specs.Departure.{departure, departureRefusal, headOf}
 use Rattle.queue.specs.Tick.{tick, tickRefusal}
-use Rattle.capi.specs.Codes.{codeOf, wordsAfter}
-use Rattle.capi.specs.Words.{stateOf}
+use Rattle.words.specs.Codes.{codeOf, wordsAfter}
+use Rattle.words.specs.Words.{stateOf}
 use Rattle.codec.specs.declared.Record.{Record}
 use Rattle.guarantees.proofs.Replies.{arrivalOf, departureOf, tickOf}
 use Rattle.steps.specs.Lent.{Lent, answerWord, leaves, lent, replyTo}

@@ -1,7 +1,7 @@
 -- What a log that was read whole holds, by the offset and the count that the reading gave.
 use mathlib.Core.Path.{_≡_, refl, sym, ap, _∙_}
 use mathlib.Core.Bool.{Bool, true, false, cond, not, _&&_}
-use mathlib.Core.List.{List, []}
+use mathlib.Core.List.{List}
 use Prim.Native.Nat.{ℕ, _+_, _*_, _≤_}
 use native.Mathlib.Omega.{arith}
 use lib.Dec.{eqb}
@@ -15,10 +15,10 @@ use Rattle.queue.specs.Refusals.{settingsRefused}
 use Rattle.queue.specs.declared.Settings.{Settings}
 use Rattle.queue.specs.declared.State.{State}
 use Rattle.queue.proofs.Kept.{fresh-well-formed}
-use Rattle.capi.specs.Words.{stateOf, stateWords}
+use Rattle.words.specs.Words.{stateOf, stateWords}
+use Rattle.words.proofs.Words.{back, words-long}
 use Rattle.codec.specs.declared.Header.{Header}
 use Rattle.steps.specs.Lent.{Ready, lent}
-use Rattle.steps.proofs.Kept.{back, words-long}
 use Rattle.log.specs.Answers.{Answer, given, refused}
 use Rattle.log.specs.Faults.{headerRefused}
 use Rattle.log.specs.Layout.{countIn, headerIn, noteIn, offsetIn, recordsFrom, recordsIn}
@@ -110,12 +110,12 @@ module _ (l handles sizes : List ℕ) where
     started : headerRefused h ≡ false
     started = rw e (k .started)
 
-    -- the words of the fresh state
-    module _ (w : List ℕ) (f : w ≡ stateWords [] ((fresh settings (h .clock)) .state)) where
+    -- the words of the fresh state, written over any
+    module _ (over w : List ℕ) (s : State) (g : s ≡ (fresh settings (h .clock)) .state) (f : w ≡ stateWords over s) where
       pub held : stateOf w ≡ (fresh settings (h .clock)) .state
       held =
-          let five = ap (λ (s : State). length (s .verdicts)) (fresh-state h started) in
-          rw f (back [] ((fresh settings (h .clock)) .state) five)
+          let five = ap (λ (s : State). length (s .verdicts)) (g ∙ fresh-state h started) in
+          rw f (back over s five) ∙ g
 
       -- they are ready for all records of the log
       pub fresh-ready : not (eqb (length handles) (h .slots) && eqb (length sizes) (h .slots)) ≡ false → n ≤ 4294967295 → Ready (lent w handles sizes) n
@@ -124,7 +124,7 @@ module _ (l handles sizes : List ℕ) where
           let same = held ∙ fresh-state h started in
           let slots : stateOf w .settings .slots ≡ h .slots = ap (λ (s : State). s .settings .slots) same in
           let none : total (stateOf w .verdicts) ≡ 0 = ap (λ (s : State). total (s .verdicts)) same in (
-            rw f (words-long [] ((fresh settings (h .clock)) .state)),
+            rw f (words-long over s),
             rw held (fresh-well-formed settings (h .clock) (fresh-made h started)),
             eqb-true _ _ (and-left (eqb (length handles) (h .slots)) _ both) ∙ sym slots,
             eqb-true _ _ (and-right (eqb (length handles) (h .slots)) _ both) ∙ sym slots,

@@ -1,9 +1,12 @@
 // A log over lent bytes and lent tables: read whole, then run from a fresh queue.
 use crate::Replayed;
 use crate::running::run;
-use capi::obikuteru_fresh;
 use log::Checked;
 use log::Refusal;
+use queue::State;
+use units::Bytes;
+use units::Micros;
+use words::encode;
 ghost use mathlib.Core.Path.{_≡_};
 ghost use Prim.Native.Nat.{_≤_};
 ghost use Rattle.log.specs.Answers.{given, refusalNumber};
@@ -57,14 +60,14 @@ fn replay_whole(
         return refused(3);
     }
     let mut w: [u64; 23] = [0; 23];
-    obikuteru_fresh(
-        &mut w,
-        h.target,
-        h.buffer as u64,
+    let fresh = State::fresh(
+        Micros(h.target),
+        Bytes(h.buffer as u64),
         slots,
         h.profile as u64,
-        h.clock,
+        Micros(h.clock),
     );
+    encode(&mut w, fresh.state);
     run(log, offset, count, &mut w, handles, sizes)
 }
 

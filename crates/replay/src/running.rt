@@ -5,7 +5,7 @@ use crate::comparing::compare;
 ghost use mathlib.Core.Path.{_≡_};
 ghost use Prim.Native.Nat.{_+_, _*_, _≤_};
 ghost use lib.ListN.{length};
-ghost use Rattle.capi.specs.Words.{stateOf};
+ghost use Rattle.words.specs.Words.{stateOf};
 ghost use Rattle.log.specs.Layout.{recordsFrom};
 ghost use Rattle.steps.specs.Lent.{Ready, lent};
 ghost use Rattle.replay.specs.Replay.{queueOf, replayFrom};

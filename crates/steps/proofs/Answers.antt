@@ -17,7 +17,7 @@ use Rattle.queue.specs.Arrival.{arrival, arrivalRefusal, arrivalRefusals, verdi
 use Rattle.queue.specs.Departure.{departure, departureRefusal, departureRefusals, headOf}
 use Rattle.queue.specs.Tick.{tick, tickRefusal, tickRefusals}
 use Rattle.queue.proofs.WhenAccepted.{departure-accepted}
-use Rattle.capi.specs.Codes.{codeOf}
+use Rattle.words.specs.Codes.{codeOf}
 use Rattle.guarantees.proofs.Replies.{arrivalOf, departureOf, tickOf}
 use Rattle.steps.specs.Lent.{answerWord}
 

@@ -1,11 +1,9 @@
 -- A call leaves a queue that is ready for one arrival less.
 use mathlib.Core.Path.{_≡_, refl, sym, ap, _∙_}
-use mathlib.Core.Bool.{Bool, true, false, cond, not}
 use mathlib.Core.List.{List}
 use Prim.Native.Nat.{ℕ, suc, _+_, _≤_}
 use native.Mathlib.Omega.{arith}
-use lib.Dec.{eqb}
-use lib.ListN.{getD, length, length-set}
+use lib.ListN.{length, length-set}
 use Rattle.laws.proofs.Choice.{at-cond}
 use Rattle.pie.specs.Verdicts.{total}
 use Rattle.pie.proofs.Counts.{length-raised, total-raised}
@@ -16,32 +14,13 @@ use Rattle.queue.specs.Answer.{Answer, Reply, admits}
 use Rattle.queue.specs.Arrival.{arrivedState, stored, tailPlace, verdictOf}
 use Rattle.queue.specs.Departure.{departedState}
 use Rattle.queue.specs.Tick.{tickedState}
-use Rattle.capi.specs.Codes.{wordsAfter}
-use Rattle.capi.proofs.Words.{written-out}
-use Rattle.capi.specs.Words.{flagWord, isSet, stateOf, stateWords}
+use Rattle.words.specs.Codes.{wordsAfter}
+use Rattle.words.proofs.Words.{back, five-counts, words-long}
+use Rattle.words.specs.Words.{stateOf, stateWords}
 use Rattle.guarantees.specs.Calls.{Call, arrive, depart, reply, update}
 use Rattle.guarantees.specs.Handed.{Request, after, askArrival, askDeparture, askTick, callOf}
 use Rattle.guarantees.proofs.Replies.{acceptance, at-one-reply, reply-well-formed}
 use Rattle.steps.specs.Lent.{Lent, Ready, leaves, queueOf, replyTo}
-
-flag-says : (word : ℕ) (said : Bool) → isSet (flagWord word said) ≡ said
-flag-says word said = go (eqb word 0) refl said
-  where
-    go : (b : Bool) → eqb word 0 ≡ b → (said : Bool) → isSet (cond (not b) (cond said word 0) (cond said 1 0)) ≡ said
-    go true e true = refl
-    go true e false = refl
-    go false e true = rw e
-    go false e false = refl
-
--- the words of a state hold that state
-pub back : (w : List ℕ) (s : State) → length (s .verdicts) ≡ 5 → stateOf (stateWords w s) ≡ s
-unfolding stateOf stateWords
-back w s h =
-    rw (flag-says (getD w 10 0) (s .pie .rate .measuring), flag-says (getD w 22 0) (s .active), ← (written-out 5 (s .verdicts) h))
-
-five : (w : List ℕ) → length (stateOf w .verdicts) ≡ 5
-unfolding stateOf
-five w = refl
 
 abbrev Replied : (w : List ℕ) → Reply → Type 0
 Replied w r =
@@ -49,10 +28,6 @@ Replied w r =
     × (stateOf (wordsAfter r w) ≡ r .state)
     × (r .state .settings ≡ stateOf w .settings)
     × (total (r .state .verdicts) ≤ total (stateOf w .verdicts) + 1)
-
-pub words-long : (w : List ℕ) (s : State) → length (stateWords w s) ≡ 23
-unfolding stateWords
-words-long w s = refl
 
 long : (w : List ℕ) (s : State) → length w ≡ 23 → length (stateWords w s) ≡ length w
 long w s h = words-long w s ∙ sym h
@@ -62,9 +37,9 @@ unfolding arrivedState begun departedState tickedState
 accepted-replied w l (arrive handles sizes clock handle size ecn u) =
     let s = stateOf w in
     let v = verdictOf (begun s) size ecn u in
-    (long w _ l, back w (arrivedState (begun s) clock size v) (length-raised (s .verdicts) v ∙ five w), refl, total-raised (s .verdicts) v)
-accepted-replied w l (depart handles sizes clock) = (long w _ l, back w _ (five w), refl, omega arith)
-accepted-replied w l (update clock) = (long w _ l, back w _ (five w), refl, omega arith)
+    (long w _ l, back w (arrivedState (begun s) clock size v) (length-raised (s .verdicts) v ∙ five-counts w), refl, total-raised (s .verdicts) v)
+accepted-replied w l (depart handles sizes clock) = (long w _ l, back w _ (five-counts w), refl, omega arith)
+accepted-replied w l (update clock) = (long w _ l, back w _ (five-counts w), refl, omega arith)
 
 replied : (w : List ℕ) → length w ≡ 23 → (c : Call) → Replied w (reply (stateOf w) c)
 replied w l c = at-one-reply (Replied w) (stateOf w) c (λ n. (refl, refl, refl, omega arith)) (λ a. accepted-replied w l c)

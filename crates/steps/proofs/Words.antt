@@ -21,8 +21,8 @@ use Rattle.queue.specs.Activity.{begun}
 use Rattle.queue.specs.Arrival.{arrivedState}
 use Rattle.queue.specs.Departure.{departedState}
 use Rattle.queue.specs.Tick.{tickedState}
-use Rattle.capi.proofs.Words.{flag-kept, flag-off, listed, written-out}
-use Rattle.capi.specs.Words.{isSet, pieOf, rateOf, restartedWords, stateOf, stateWords}
+use Rattle.words.proofs.Words.{flag-kept, flag-off, listed, written-out}
+use Rattle.words.specs.Words.{isSet, pieOf, rateOf, restartedWords, stateOf, stateWords}
 use Rattle.steps.specs.Words.{decidedWords, rateWords}
 
 -- what holds of any twenty-three words written out holds of twenty-three words

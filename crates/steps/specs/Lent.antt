@@ -9,8 +9,8 @@ use Rattle.pie.specs.Verdicts.{total}
 use Rattle.bursts.specs.Numbers.{wordOf}
 use Rattle.queue.specs.Answer.{Answer, Reply, handleIn, sizeIn}
 use Rattle.queue.specs.State.{wellFormed}
-use Rattle.capi.specs.Codes.{codeOf, wordsAfter}
-use Rattle.capi.specs.Words.{stateOf}
+use Rattle.words.specs.Codes.{codeOf, wordsAfter}
+use Rattle.words.specs.Words.{stateOf}
 use Rattle.guarantees.specs.Calls.{reply}
 use Rattle.guarantees.specs.Handed.{Queue, Request, callOf, returned}
 

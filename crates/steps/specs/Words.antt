@@ -9,7 +9,7 @@ use Rattle.pie.specs.declared.Rate.{Rate}
 use Rattle.pie.specs.declared.Verdict.{Verdict}
 use Rattle.queue.specs.Arrival.{arrivedPie}
 use Rattle.queue.specs.declared.State.{State}
-use Rattle.capi.specs.Words.{pieOf, stateOf, stateWords}
+use Rattle.words.specs.Words.{pieOf, stateOf, stateWords}
 
 -- the accumulated probability past rule 5 (Q-3): an early verdict sets it to 0
 abbrev pub drawnWords : (words : List ℕ) → Verdict → List ℕ

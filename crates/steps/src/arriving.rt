@@ -1,11 +1,11 @@
 // An arrival at a queue that is ready for it.
 use bursts::wide;
-use pie::FULL_ALLOWANCE;
 use pie::LARGEST;
 use pie::LATEST;
 use pie::MOST_ACCUMULATED;
 use ring::place;
 use units::Prob;
+use words::write_restart;
 ghost use mathlib.Core.Path.{_≡_};
 ghost use mathlib.Core.Bool.{true};
 ghost use Prim.Native.Nat.{_≤_, _<_};
@@ -17,8 +17,8 @@ ghost use Rattle.pie.specs.Verdicts.{placeOf};
 ghost use Rattle.queue.specs.Answer.{verdict};
 ghost use Rattle.queue.specs.Arrival.{arrival, arrivedState, stored, verdictOf};
 ghost use Rattle.queue.specs.State.{wellFormed};
-ghost use Rattle.capi.specs.Codes.{codeOf, wordsAfter};
-ghost use Rattle.capi.specs.Words.{pieOf, restartedWords, stateOf, stateWords};
+ghost use Rattle.words.specs.Codes.{codeOf, wordsAfter};
+ghost use Rattle.words.specs.Words.{pieOf, restartedWords, stateOf, stateWords};
 ghost use Rattle.steps.specs.Lent.{Ready, lent};
 ghost use Rattle.steps.specs.Words.{decidedWords, drawnWords};
 
@@ -124,14 +124,7 @@ fn restart(w: &mut [u64; 23])
     ensures { λ _. ⌜ now (w .exit) ≡ restartedWords (set (now (w .entry)) 8 0) ⌝ }
 {
     w[8] = 0;
-    w[5] = 0;
-    w[6] = 0;
-    w[7] = FULL_ALLOWANCE;
-    w[9] = 0;
-    w[10] = 0;
-    w[11] = 0;
-    w[12] = 0;
-    w[22] = 1;
+    write_restart(w);
 }
 
 // A packet arrives. Whether the queue turns active (Q-12) is asked last, of the bytes that the packet found: no verdict depends on it.

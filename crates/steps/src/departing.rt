@@ -14,8 +14,8 @@ ghost use lib.ListN.{getD, length};
 ghost use Rattle.pie.specs.Constants.{largest, longest, threshold};
 ghost use Rattle.pie.specs.DepartureRate.{rateAfter};
 ghost use Rattle.queue.specs.Departure.{departure};
-ghost use Rattle.capi.specs.Codes.{wordsAfter};
-ghost use Rattle.capi.specs.Words.{rateOf, stateOf};
+ghost use Rattle.words.specs.Codes.{wordsAfter};
+ghost use Rattle.words.specs.Words.{rateOf, stateOf};
 ghost use Rattle.steps.specs.Lent.{Ready, answerWord, lent};
 ghost use Rattle.steps.specs.Words.{rateWords};
 

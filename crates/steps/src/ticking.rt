@@ -13,8 +13,8 @@ ghost use lib.ListN.{length};
 ghost use Rattle.queue.specs.Activity.{isCalm};
 ghost use Rattle.queue.specs.State.{wellFormed};
 ghost use Rattle.queue.specs.Tick.{tick, tickedState};
-ghost use Rattle.capi.specs.Codes.{codeOf, wordsAfter};
-ghost use Rattle.capi.specs.Words.{pieOf, stateOf, stateWords};
+ghost use Rattle.words.specs.Codes.{codeOf, wordsAfter};
+ghost use Rattle.words.specs.Words.{pieOf, stateOf, stateWords};
 
 // The algorithm's record in the words.
 fn pie_of(w: &[u64; 23]) -> Pie

@@ -14,7 +14,7 @@ use Rattle.pie.specs.Constants.{mostVerdicts}
 use Rattle.pie.specs.Verdicts.{total}
 use Rattle.queue.specs.State.{wellFormed}
 use Rattle.queue.proofs.Facts.{facts}
-use Rattle.capi.specs.Words.{stateOf}
+use Rattle.words.specs.Words.{stateOf}
 
 formed : (c : tie.Else1) → wellFormed (stateOf (now (c .before .before .before .before .args .w))) ≡ true
 formed c =

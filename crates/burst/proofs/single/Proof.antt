@@ -4,7 +4,7 @@ use Rattle.burst.proofs.single.Statement.{statement}
 use Rattle.burst.proofs.single.Tie as tie
 use mathlib.Core.Path.{_∙_}
 use denote.Ref.{now}
-use Rattle.capi.specs.Words.{stateOf}
+use Rattle.words.specs.Words.{stateOf}
 use Rattle.steps.proofs.Answers.{departure-small}
 use Rattle.burst.proofs.Steps.{arrival-step, departure-step, tick-step, unknown-step}
 

@@ -1,8 +1,8 @@
 -- `obikuteru_arrival`: the reply's number and words, and the tables as the queue left them.
 use mathlib.Core.Path.{ap, sym, _∙_}
 use Rattle.queue.specs.Answer.{Reply, arrivalAnswer}
-use Rattle.capi.proofs.Codes.{arrival-decided, arrival-refused}
-use Rattle.capi.proofs.Words.{count-lt, words-of}
+use Rattle.words.proofs.Codes.{arrival-decided, arrival-refused}
+use Rattle.capi.proofs.Replies.{count-lt, words-of}
 use borrow.Author.Needs.{needs}
 use Rattle.capi.proofs.obikuteru_arrival.Statement.{statement}
 use Rattle.capi.proofs.obikuteru_arrival.Tie as tie

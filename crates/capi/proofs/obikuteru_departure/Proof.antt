@@ -1,8 +1,8 @@
 -- `obikuteru_departure`: the reply's number, words and packet.
 use mathlib.Core.Path.{refl}
 use Rattle.queue.specs.Answer.{departed}
-use Rattle.capi.proofs.Codes.{accepted, refused}
-use Rattle.capi.proofs.Words.{departed-as}
+use Rattle.words.proofs.Codes.{accepted, refused}
+use Rattle.capi.proofs.Replies.{departed-as}
 use borrow.Author.Needs.{needs}
 use Rattle.capi.proofs.obikuteru_departure.Statement.{statement}
 use Rattle.capi.proofs.obikuteru_departure.Tie as tie

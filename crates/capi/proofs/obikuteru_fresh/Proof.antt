@@ -3,8 +3,8 @@ use mathlib.Core.Path.{refl, _∙_}
 use mathlib.Core.List.{[]}
 use lib.ListN.{replicate}
 use Rattle.queue.specs.Answer.{made}
-use Rattle.capi.proofs.Codes.{accepted, refused}
-use Rattle.capi.proofs.Words.{over-zeros}
+use Rattle.words.proofs.Codes.{accepted, refused}
+use Rattle.words.proofs.Words.{over-zeros}
 use borrow.Author.Needs.{needs}
 use Rattle.capi.proofs.obikuteru_fresh.Statement.{statement}
 use Rattle.capi.proofs.obikuteru_fresh.Tie as tie

@@ -1,7 +1,7 @@
 -- `obikuteru_tick`: the reply's number and words.
 use mathlib.Core.Path.{refl}
 use Rattle.queue.specs.Answer.{ticked}
-use Rattle.capi.proofs.Codes.{accepted, refused}
+use Rattle.words.proofs.Codes.{accepted, refused}
 use borrow.Author.Needs.{needs}
 use Rattle.capi.proofs.obikuteru_tick.Statement.{statement}
 use Rattle.capi.proofs.obikuteru_tick.Tie as tie

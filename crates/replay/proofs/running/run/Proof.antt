@@ -5,7 +5,7 @@ use Prim.Native.Nat.{_+_, _*_, _-_, _≤_}
 use native.Mathlib.Omega.{arith}
 use lib.ListN.{length}
 use denote.Ref.{now}
-use Rattle.capi.specs.Words.{stateOf}
+use Rattle.words.specs.Words.{stateOf}
 use Rattle.log.specs.Layout.{recordsFrom}
 use Rattle.steps.specs.Lent.{Lent, Ready, lent}
 use Rattle.steps.proofs.Kept.{leaves-long, ready-one}

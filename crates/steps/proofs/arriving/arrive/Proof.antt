@@ -16,7 +16,7 @@ use Rattle.pie.specs.declared.Verdict.{Verdict}
 use Rattle.refusals.specs.Tests.{sizeRefused}
 use Rattle.queue.specs.Arrival.{arrival, verdictOf}
 use Rattle.queue.proofs.Facts.{facts}
-use Rattle.capi.specs.Words.{stateOf}
+use Rattle.words.specs.Words.{stateOf}
 use Rattle.steps.proofs.Arrivals.{active-stays, light-stays, turns-active}
 use Rattle.steps.proofs.Replies.{arrival-late, arrival-made, arrival-wrong, arrivalMade}
 

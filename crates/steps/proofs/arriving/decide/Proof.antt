@@ -10,7 +10,7 @@ use lib.ListN.{getD}
 use denote.Ref.{now}
 use Rattle.pie.specs.DropDecision.{lightlyLoaded, spared}
 use Rattle.queue.proofs.Facts.{Facts, facts}
-use Rattle.capi.specs.Words.{pieOf, stateOf}
+use Rattle.words.specs.Words.{pieOf, stateOf}
 use Rattle.steps.proofs.Decisions.{bytes-decide, drawn-decides, slots-decide, spared-decide}
 
 known : (a : tie.Start) → Facts (stateOf (now (a .args .w)))

@@ -16,7 +16,7 @@ use Rattle.pie.specs.declared.Verdict.{Verdict}
 use Rattle.pie.proofs.Counts.{place-lt}
 use Rattle.queue.specs.Arrival.{tailPlace, verdictOf}
 use Rattle.queue.proofs.Facts.{Facts, facts}
-use Rattle.capi.specs.Words.{stateOf}
+use Rattle.words.specs.Words.{stateOf}
 use Rattle.steps.specs.Words.{decidedWords}
 use Rattle.steps.proofs.Arrivals.{admits-as, count-low, counted-ok, entered-ok, past, past-bytes}
 

@@ -17,7 +17,7 @@ use Rattle.refusals.specs.Tests.{headRefused}
 use Rattle.refusals.proofs.Fitting.{HeadFits, head-fits}
 use Rattle.queue.specs.Departure.{headOf}
 use Rattle.queue.proofs.Facts.{Facts, facts}
-use Rattle.capi.specs.Words.{stateOf}
+use Rattle.words.specs.Words.{stateOf}
 use Rattle.steps.proofs.Replies.{departure-empty, departure-late, departure-made, departure-wrong}
 use Rattle.steps.proofs.Words.{departed-words, left-long, left-rate}
 

@@ -8,7 +8,7 @@ use native.Mathlib.Omega.{arith}
 use denote.Ref.{now}
 use Rattle.queue.proofs.Activation.{plain-active}
 use Rattle.queue.proofs.Facts.{facts}
-use Rattle.capi.specs.Words.{stateOf}
+use Rattle.words.specs.Words.{stateOf}
 use Rattle.steps.proofs.Replies.{tick-early, tick-late, tick-made}
 use Rattle.steps.proofs.Words.{nextPie, ticked-words}
 

@@ -8,7 +8,7 @@ use native.Mathlib.Omega.{arith}
 use denote.Ref.{now}
 use Rattle.pie.proofs.Ranges.{updated-old-le}
 use Rattle.queue.proofs.Facts.{facts}
-use Rattle.capi.specs.Words.{stateOf}
+use Rattle.words.specs.Words.{stateOf}
 use Rattle.steps.proofs.Words.{idle-words, nextPie, stays-active, turns-inactive}
 
 -- the update's record, from the words

@@ -1,8 +1,8 @@
 -- `encode`: each word is its field.
-use Rattle.capi.specs.Words.{stateWords}
+use Rattle.words.specs.Words.{stateWords}
 use borrow.Author.Needs.{needs}
-use Rattle.capi.proofs.encode.Statement.{statement}
-use Rattle.capi.proofs.encode.Tie as tie
+use Rattle.words.proofs.writing.encode.Statement.{statement}
+use Rattle.words.proofs.writing.encode.Tie as tie
 
 element-copy-out-v0 : tie.Need-element-copy-out-v0
 element-copy-out-v0 c = search needs

@@ -1,5 +1,5 @@
 -- The number and the words that an entry gives, by what the queue's function answered.
-use mathlib.Core.Path.{_≡_, refl, sym}
+use mathlib.Core.Path.{_≡_, refl}
 use mathlib.Core.List.{List}
 use Prim.Native.Nat.{ℕ, _+_}
 use Rattle.pie.specs.declared.Verdict.{Verdict}
@@ -12,8 +12,8 @@ use Rattle.refusals.specs.declared.Refusal.{Refusal}
 use Rattle.queue.specs.declared.State.{State}
 use Rattle.queue.specs.Answer.{Answer, Reply, acceptedAnswer, arrivalAnswer}
 use Rattle.refusals.specs.Numbers.{numberOf}
-use Rattle.capi.specs.Codes.{codeOf, wordsAfter, wordsFor}
-use Rattle.capi.specs.Words.{stateWords}
+use Rattle.words.specs.Codes.{codeOf, wordsAfter, wordsFor}
+use Rattle.words.specs.Words.{stateWords}
 
 abbrev Given : Reply → (code : ℕ) (before after : List ℕ) → Type 0
 Given q n before after = (n ≡ codeOf (q .answer)) × (after ≡ wordsAfter q before)

@@ -4,11 +4,11 @@ use mathlib.Core.Bool.{cond}
 use mathlib.Core.Logic.{⊎-elim}
 use Prim.Native.Nat.{_+_, _≤_}
 use native.Mathlib.Omega.{arith}
-use Rattle.capi.specs.Words.{restartedWords}
-use Rattle.capi.proofs.Words.{count-left, past-writes}
+use Rattle.words.specs.Words.{restartedWords}
+use Rattle.words.proofs.Arrivals.{count-left, past-writes}
 use borrow.Author.Needs.{needs}
-use Rattle.capi.proofs.write_arrival.Statement.{statement}
-use Rattle.capi.proofs.write_arrival.Tie as tie
+use Rattle.words.proofs.writing.write_arrival.Statement.{statement}
+use Rattle.words.proofs.writing.write_arrival.Tie as tie
 
 write-restart-requires : tie.Need-write-restart-requires
 write-restart-requires c κs = search needs

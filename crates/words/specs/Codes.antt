@@ -3,7 +3,7 @@ use mathlib.Core.List.{List, [], _∷_}
 use Prim.Native.Nat.{ℕ, _+_}
 use Rattle.pie.specs.Verdicts.{placeOf}
 use Rattle.queue.specs.Answer.{Answer, Reply, departed, handleIn, made, refused, sizeIn, ticked, verdict}
-use Rattle.capi.specs.Words.{stateWords}
+use Rattle.words.specs.Words.{stateWords}
 
 -- 0 to 4 for a verdict, in the order of the counts; 100 and the number for a refusal; 0 for any other call that is accepted
 abbrev pub codeOf : Answer → ℕ

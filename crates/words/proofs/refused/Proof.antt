@@ -2,8 +2,8 @@
 use mathlib.Core.Path.{ap}
 use Prim.Native.Nat.{ℕ, _+_}
 use borrow.Author.Needs.{needs}
-use Rattle.capi.proofs.refused.Statement.{statement}
-use Rattle.capi.proofs.refused.Tie as tie
+use Rattle.words.proofs.refused.Statement.{statement}
+use Rattle.words.proofs.refused.Tie as tie
 
 number-requires : tie.Need-number-requires
 number-requires c κs = search needs

@@ -1,10 +1,10 @@
 -- `write_departure`: its words, with all of the rate's or with the counted bytes alone.
 use mathlib.Core.Path.{refl}
 use mathlib.Core.Logic.{⊎-elim}
-use Rattle.capi.proofs.Words.{counted-words, rate-words}
+use Rattle.words.proofs.Departures.{counted-words, rate-words}
 use borrow.Author.Needs.{needs}
-use Rattle.capi.proofs.write_departure.Statement.{statement}
-use Rattle.capi.proofs.write_departure.Tie as tie
+use Rattle.words.proofs.writing.write_departure.Statement.{statement}
+use Rattle.words.proofs.writing.write_departure.Tie as tie
 
 element-write-w : tie.Need-element-write-w
 element-write-w c = search needs

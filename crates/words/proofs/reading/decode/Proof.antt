@@ -1,9 +1,9 @@
 -- `decode`: each field is its word.
 use mathlib.Core.Path.{refl}
-use Rattle.capi.specs.Words.{stateOf}
+use Rattle.words.specs.Words.{stateOf}
 use borrow.Author.Needs.{needs}
-use Rattle.capi.proofs.decode.Statement.{statement}
-use Rattle.capi.proofs.decode.Tie as tie
+use Rattle.words.proofs.reading.decode.Statement.{statement}
+use Rattle.words.proofs.reading.decode.Tie as tie
 
 array-read-t10 : tie.Need-array-read-t10
 array-read-t10 c = search needs
