@@ -10,7 +10,7 @@ use Rattle.burst.specs.Burst.{after}
 
 pub ready-after : (q : Lent) (c : Call) (n : ℕ) → Ready q (suc n) → Ready (after q c) n
 ready-after q (asked r) n h = ready-kept q r n h
-ready-after q unknown n (l, formed, h, z, room) = (l, formed, h, z, omega arith)
+ready-after q unknown n (fits, room) = (fits, omega arith)
 
 pub after-long : (q : Lent) (c : Call) → (length (after q c .handles) ≡ length (q .handles)) × (length (after q c .sizes) ≡ length (q .sizes))
 after-long q (asked r) = leaves-long q r

@@ -124,9 +124,11 @@ module _ (l handles sizes : List ℕ) where
           let same = held ∙ fresh-state h started in
           let slots : stateOf w .settings .slots ≡ h .slots = ap (λ (s : State). s .settings .slots) same in
           let none : total (stateOf w .verdicts) ≡ 0 = ap (λ (s : State). total (s .verdicts)) same in (
-            rw f (words-long over s),
-            rw held (fresh-well-formed settings (h .clock) (fresh-made h started)),
-            eqb-true _ _ (and-left (eqb (length handles) (h .slots)) _ both) ∙ sym slots,
-            eqb-true _ _ (and-right (eqb (length handles) (h .slots)) _ both) ∙ sym slots,
+            (
+              rw f (words-long over s),
+              rw held (fresh-well-formed settings (h .clock) (fresh-made h started)),
+              eqb-true _ _ (and-left (eqb (length handles) (h .slots)) _ both) ∙ sym slots,
+              eqb-true _ _ (and-right (eqb (length handles) (h .slots)) _ both) ∙ sym slots,
+            ),
             omega (arith, none, most),
           )

@@ -79,18 +79,15 @@ leaves-queue q (askTick clock) l =
     ap (λ (s : State). record { state = s; handles = q .handles; sizes = q .sizes }) (leaves-state q (askTick clock) l)
 
 pub ready-kept : (q : Lent) (r : Request) (n : ℕ) → Ready q (suc n) → Ready (leaves q r) n
-ready-kept q r n (l, formed, h, z, room) =
+ready-kept q r n ((l, formed, h, z), room) =
     let c = callOf (queueOf q) r in
     let k = replied (q .words) l c in
     let slots : (reply (stateOf (q .words)) c) .state .settings .slots ≡ stateOf (q .words) .settings .slots = ap (λ (s : Settings). s .slots) (k .2) in
     rw (k .1) (
-      k .0 ∙ l,
-      reply-well-formed (stateOf (q .words)) formed c,
-      handles-long q r ∙ h ∙ sym slots,
-      sizes-long q r ∙ z ∙ sym slots,
+      (k .0 ∙ l, reply-well-formed (stateOf (q .words)) formed c, handles-long q r ∙ h ∙ sym slots, sizes-long q r ∙ z ∙ sym slots),
       omega (arith, k .3, room),
     )
 
 -- enough for one, where there is enough for more
 pub ready-one : (q : Lent) (n : ℕ) → 1 ≤ n → Ready q n → Ready q 1
-ready-one q n some (l, formed, h, z, room) = (l, formed, h, z, omega arith)
+ready-one q n some (fits, room) = (fits, omega arith)

@@ -40,11 +40,14 @@ leaves q r =
 abbrev pub answerWord : Answer → ℕ
 answerWord a = wordOf (codeOf a) (sizeIn a) (handleIn a)
 
--- twenty-three words of a well-formed state, tables that fit it, and room in its counts for so many arrivals
-abbrev pub Ready : Lent → (arrivals : ℕ) → Type 0
-Ready q arrivals =
+-- twenty-three words of a well-formed state, and tables that fit it
+abbrev pub Fitting : Lent → Type 0
+Fitting q =
     (length (q .words) ≡ 23)
     × (wellFormed (stateOf (q .words)) ≡ true)
     × (length (q .handles) ≡ stateOf (q .words) .settings .slots)
     × (length (q .sizes) ≡ stateOf (q .words) .settings .slots)
-    × (total (stateOf (q .words) .verdicts) + arrivals ≤ mostVerdicts)
+
+-- and room in its counts for so many arrivals
+abbrev pub Ready : Lent → (arrivals : ℕ) → Type 0
+Ready q arrivals = Fitting q × (total (stateOf (q .words) .verdicts) + arrivals ≤ mostVerdicts)

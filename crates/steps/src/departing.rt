@@ -1,4 +1,4 @@
-// A departure of a queue that is ready for it.
+// A departure of a queue whose record and tables fit.
 use bursts::wide;
 use bursts::word;
 use pie::Backlog;
@@ -16,7 +16,7 @@ ghost use Rattle.pie.specs.DepartureRate.{rateAfter};
 ghost use Rattle.queue.specs.Departure.{departure};
 ghost use Rattle.words.specs.Codes.{wordsAfter};
 ghost use Rattle.words.specs.Words.{rateOf, stateOf};
-ghost use Rattle.steps.specs.Lent.{Ready, answerWord, lent};
+ghost use Rattle.steps.specs.Lent.{Fitting, answerWord, lent};
 ghost use Rattle.steps.specs.Words.{rateWords};
 
 // (first + 1) modulo slots.
@@ -77,7 +77,7 @@ fn measure(w: &mut [u64; 23], clock: u64, size: u64, count: u64, left: u64)
 
 // The head leaves.
 pub fn depart(w: &mut [u64; 23], handles: &[u32], sizes: &[u32], clock: u64) -> u64
-    requires { ⌜ Ready (lent (now w) (now handles) (now sizes)) 1 ⌝ }
+    requires { ⌜ Fitting (lent (now w) (now handles) (now sizes)) ⌝ }
     ensures { λ r. ⌜ (let a = departure (stateOf (now (w .entry))) (now (handles .entry)) (now (sizes .entry)) clock in
         (r ≡ answerWord (a .answer)) × (now (w .exit) ≡ wordsAfter a (now (w .entry)))) ⌝ }
 {

@@ -79,7 +79,7 @@ returns c =
     let R = replayFrom 0 (queueOf (stateOf (now (a .args .w))) (now (a .args .handles)) (now (a .args .sizes)))
     (recordsFrom (a .args .count) log (a .args .offset)) in
     let e = reached R (a .args .count) (l .i) log (l .at) q (g .result) (l .inv .4) (c .before .before .before .before .before .before .before .before .before .before .before .before .before .before .before .loop-test .taken) (g .ensures) in
-    let left = left-queue given _ (requestOf (g .result)) (l .inv .5 .0) (k .ensures .2) in
+    let left = left-queue given _ (requestOf (g .result)) (l .inv .5 .0 .0) (k .ensures .2) in
     let w = round q q′ (k .ensures .0, k .ensures .1) left (c .before .before .before .compare .ensures) in
     let t = stopped (l .i) q q′ (g .result) rest (k .result .refusal) (k .result .verdict) (c .before .before .before .compare .result) w R
     (now (a .args .handles)) (now (a .args .sizes)) e (c .before .before .if1 .taken) in
@@ -116,7 +116,7 @@ loop-again c =
     let R = replayFrom 0 (queueOf (stateOf (now (a .args .w))) (now (a .args .handles)) (now (a .args .sizes)))
     (recordsFrom (a .args .count) log (a .args .offset)) in
     let e = reached R (a .args .count) (l .i) log (l .at) q (g .result) (l .inv .4) (c .before .before .before .before .before .before .before .before .before .before .before .before .before .loop-test .taken) (g .ensures) in
-    let left = left-queue given _ (requestOf (g .result)) (l .inv .5 .0) (k .ensures .2) in
+    let left = left-queue given _ (requestOf (g .result)) (l .inv .5 .0 .0) (k .ensures .2) in
     let w = round q q′ (k .ensures .0, k .ensures .1) left (c .before .compare .ensures) in
     let long = leaves-long given (requestOf (g .result)) in (
       omega (arith, c .before .before .before .before .before .before .before .before .before .before .before .before .before .loop-test .taken),

@@ -42,9 +42,9 @@ made : (c : tie.After-take) → let a = begun c in
 unfolding stateOf
 made c =
     let a = begun c in
-    let q = a .pre in
+    let q = a .pre .0 in
     arrival-made (stateOf (wordsAt a)) (now (a .args .handles)) (now (a .args .sizes)) (a .args .clock) (q .1) (q .2) (q .3) (a .args .size) (a .args .ecn) (a .args .u)
-    (c .before .before .before .before .before .before .before .if1 .left) (right-size (c .before .before .before .before .before)) (omega (arith, q .4))
+    (c .before .before .before .before .before .before .before .if1 .left) (right-size (c .before .before .before .before .before)) (omega (arith, a .pre .1))
 
 element-copy-out-wrong-clock : tie.Need-element-copy-out-wrong-clock
 element-copy-out-wrong-clock c = search needs
@@ -52,7 +52,7 @@ element-copy-out-wrong-clock c = search needs
 returns : tie.Need-returns
 unfolding stateOf
 returns c =
-    let q = c .before .before .before .before .pre in
+    let q = c .before .before .before .before .pre .0 in
     rw (arrival-late _ _ _ _ (q .1) (q .2) (q .3) _ _ _ (c .if1 .taken)) (refl, refl, refl, refl)
 
 wide-requires : tie.Need-wide-requires
@@ -61,7 +61,7 @@ wide-requires c κs = search needs
 returns-2 : tie.Need-returns-2
 unfolding stateOf
 returns-2 c =
-    let q = c .before .before .before .before .before .before .pre in
+    let q = c .before .before .before .before .before .before .pre .0 in
     rw (arrival-wrong _ _ _ _ (q .1) (q .2) (q .3) _ _ _ (c .before .before .if1 .left) (rw (c .before .wide .ensures) at (c .if2 .taken)))
     (refl, refl, refl, refl)
 
@@ -97,7 +97,7 @@ element-copy-out-loaded c = search needs
 
 mul-loaded : tie.Need-mul-loaded
 unfolding stateOf
-mul-loaded c = let f = facts _ (begun (c .before .before .before .before .before .before .before) .pre .1) in omega (arith, f .bytes-fit, f .buffer-high)
+mul-loaded c = let f = facts _ (begun (c .before .before .before .before .before .before .before) .pre .0 .1) in omega (arith, f .bytes-fit, f .buffer-high)
 
 restart-requires : tie.Need-restart-requires
 restart-requires c κs = search needs

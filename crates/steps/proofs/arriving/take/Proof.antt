@@ -27,7 +27,7 @@ abbrev ruled : tie.Start → Verdict
 ruled a = verdictOf (stateOf (wordsAt a)) (a .args .size) (a .args .ecn) (a .args .u)
 
 known : (a : tie.Start) → Facts (stateOf (wordsAt a))
-known a = facts _ (a .pre .0 .1)
+known a = facts _ (a .pre .0 .0 .1)
 
 -- where the call began
 abbrev begun : tie.After-decide → tie.Start
@@ -87,7 +87,7 @@ add-w : tie.Need-add-w
 add-w c =
     let v = c .before in
     let a = begun v in
-    omega (arith, count-low (ruled a) (v .decide .result) (ruled-place v) (wordsAt a) (v .decide .last .0) (ruled-words v) (a .args .clock) 0 (a .pre .0 .4))
+    omega (arith, count-low (ruled a) (v .decide .result) (ruled-place v) (wordsAt a) (v .decide .last .0) (ruled-words v) (a .args .clock) 0 (a .pre .0 .1))
 
 mul-w-2 : tie.Need-mul-w-2
 mul-w-2 c = omega (arith, place-low (c .before))
@@ -146,13 +146,13 @@ mul-handles : tie.Need-mul-handles
 mul-handles c = omega (arith, tail-low (c .before .before), known (begun (c .before .before .before .before .before .before .before .before)) .slots-high)
 
 slice-write-handles : tie.Need-slice-write-handles
-slice-write-handles c = omega (arith, tail-low (c .before .before), begun (c .before .before .before .before .before .before .before .before) .pre .0 .2)
+slice-write-handles c = omega (arith, tail-low (c .before .before), begun (c .before .before .before .before .before .before .before .before) .pre .0 .0 .2)
 
 mul-sizes : tie.Need-mul-sizes
 mul-sizes c = omega (arith, tail-low (c .before .before), known (begun (c .before .before .before .before .before .before .before .before)) .slots-high)
 
 slice-write-sizes : tie.Need-slice-write-sizes
-slice-write-sizes c = omega (arith, tail-low (c .before .before), begun (c .before .before .before .before .before .before .before .before) .pre .0 .3)
+slice-write-sizes c = omega (arith, tail-low (c .before .before), begun (c .before .before .before .before .before .before .before .before) .pre .0 .0 .3)
 
 same-length : tie.Need-same-length
 same-length c = search needs
@@ -168,7 +168,7 @@ returns c =
     let t = c .before .before .before .before .before .before .if1 .taken in
     let e = ruled-place v in
     let admits = admits-as (ruled a) (v .decide .result) e true t in
-    let words = entered-ok (ruled a) (v .decide .result) e (wordsAt a) (v .decide .last .0) (ruled-words v) (a .args .clock) (a .args .size) (a .pre .0 .0) t in
+    let words = entered-ok (ruled a) (v .decide .result) e (wordsAt a) (v .decide .last .0) (ruled-words v) (a .args .clock) (a .args .size) (a .pre .0 .0 .0) t in
     let place = tail-place (c .before .before) in
     (e, rw (v .before .before .before .wide .ensures) words, rw (admits, place), rw (admits, place))
 
@@ -180,7 +180,7 @@ returns-2 c =
     let t = c .if1 .left in
     let e = ruled-place v in
     let admits = admits-as (ruled a) (v .decide .result) e false t in
-    let words = counted-ok (ruled a) (v .decide .result) e (wordsAt a) (v .decide .last .0) (ruled-words v) (a .args .clock) (a .args .size) (a .pre .0 .0) t in
+    let words = counted-ok (ruled a) (v .decide .result) e (wordsAt a) (v .decide .last .0) (ruled-words v) (a .args .clock) (a .args .size) (a .pre .0 .0 .0) t in
     (e, words, rw admits, rw admits)
 
 pub take-spec : {M : Type 1} → statement M
