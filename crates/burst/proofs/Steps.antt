@@ -15,7 +15,8 @@ use Rattle.queue.specs.Departure.{departure}
 use Rattle.queue.specs.Tick.{tick}
 use Rattle.words.specs.Codes.{codeOf, wordsAfter}
 use Rattle.words.specs.Words.{stateOf}
-use Rattle.steps.specs.Lent.{answerWord, lent}
+use Rattle.bursts.specs.Answers.{answerWord}
+use Rattle.steps.specs.Lent.{lent}
 use Rattle.steps.proofs.Answers.{plain-arrival, plain-tick}
 use Rattle.burst.specs.Calls.{callAt}
 use Rattle.burst.specs.Burst.{ringBursts}

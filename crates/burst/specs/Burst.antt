@@ -1,7 +1,8 @@
 -- What the single entries do with a call on a ring, and its bursts.
 use Rattle.bursts.specs.Kind.{BurstKind}
 use Rattle.queue.specs.Answer.{Answer, refused}
-use Rattle.steps.specs.Lent.{Lent, answerWord, leaves, replyTo}
+use Rattle.bursts.specs.Answers.{answerWord}
+use Rattle.steps.specs.Lent.{Lent, leaves, replyTo}
 use Rattle.burst.specs.Calls.{Call, asked, callAt, unknown}
 
 -- the answer to a call; no entry takes an unknown one: refusal 20

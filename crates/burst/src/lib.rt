@@ -20,7 +20,8 @@ ghost use Rattle.bursts.specs.Burst.{burst, done, fits, outcome};
 ghost use Rattle.queue.specs.State.{wellFormed};
 ghost use Rattle.words.specs.Words.{stateOf};
 ghost use Rattle.burst.specs.Calls.{callAt};
-ghost use Rattle.steps.specs.Lent.{Ready, answerWord, lent};
+ghost use Rattle.bursts.specs.Answers.{answerWord};
+ghost use Rattle.steps.specs.Lent.{Ready, lent};
 ghost use Rattle.burst.specs.Burst.{after, answerTo, ringBursts};
 
 // What the words of a state are known to be.

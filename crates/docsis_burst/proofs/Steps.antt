@@ -25,7 +25,7 @@ use Rattle.docsis.specs.Answer.{ModemReply}
 use Rattle.docsis.specs.Calls.{arrival, departure, flowRefused, forFlow, tick}
 use Rattle.docsis.specs.Counts.{countsAfter, rowOf}
 use Rattle.docsis_guarantees.proofs.Replies.{arrivalOf, departureOf, tickOf}
-use Rattle.docsis_words.specs.Codes.{codeOf}
+use Rattle.words.specs.Codes.{codeOf}
 use Rattle.docsis_words.specs.Words.{stateOf, stateWords}
 use Rattle.docsis_burst.specs.Calls.{callAt}
 use Rattle.docsis_burst.specs.Burst.{Lent, answerWord, flowBursts, lent}

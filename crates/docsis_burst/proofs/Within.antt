@@ -20,7 +20,7 @@ use Rattle.docsis_flow.specs.declared.State.{State}
 use Rattle.docsis.specs.Calls.{arrival, departure, tick}
 use Rattle.docsis.specs.Counts.{countsAfter, rowOf}
 use Rattle.docsis_guarantees.proofs.Replies.{departureOf, tickOf}
-use Rattle.docsis_words.specs.Codes.{codeOf}
+use Rattle.words.specs.Codes.{codeOf}
 use Rattle.docsis_words.specs.Words.{stateOf, stateWords}
 use Rattle.docsis_burst.specs.Burst.{answerWord, flowBursts, lent}
 use Rattle.docsis_burst.proofs.Kept.{within}

@@ -19,7 +19,8 @@ use Rattle.docsis_flow.specs.Arrival.{arrivedState}
 use Rattle.docsis_flow.specs.Departure.{departedState}
 use Rattle.docsis_flow.specs.Tick.{tickedState}
 use Rattle.docsis_words.specs.Words.{arrivalWords, backlogOf, pieOf, stateOf, stateWords}
-use Rattle.docsis_words.proofs.Changed.{Same, listed, written-out}
+use Rattle.words.proofs.Written.{listed, written-out}
+use Rattle.docsis_words.proofs.Changed.{Same}
 use Rattle.docsis_burst.specs.Words.{pieWords}
 
 -- what holds of any sixteen words written out holds of sixteen words

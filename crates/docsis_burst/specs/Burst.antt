@@ -14,7 +14,7 @@ use Rattle.docsis.specs.Answer.{ModemReply}
 use Rattle.docsis.specs.Counts.{rowOf}
 use Rattle.docsis_guarantees.specs.Handed.{Request}
 use Rattle.docsis_guarantees.specs.Modem.{Flow, ask, flowAfter, modemReply}
-use Rattle.docsis_words.specs.Codes.{codeOf}
+use Rattle.words.specs.Codes.{codeOf}
 use Rattle.docsis_words.specs.Words.{stateOf, stateWords}
 use Rattle.docsis_burst.specs.Calls.{Call, asked, callAt, unknown}
 

@@ -23,7 +23,7 @@ ghost use Rattle.docsis_pie.specs.DropDecision.{afterDrop, cleared, drawn, draw
 ghost use Rattle.docsis_flow.specs.Arrival.{arrival, decisionOf, stored};
 ghost use Rattle.docsis_flow.specs.State.{formed};
 ghost use Rattle.docsis.specs.Counts.{countsAfter, rowOf};
-ghost use Rattle.docsis_words.specs.Codes.{codeOf};
+ghost use Rattle.words.specs.Codes.{codeOf};
 ghost use Rattle.docsis_words.specs.Words.{pieOf, stateOf, stateWords};
 ghost use Rattle.docsis_burst.specs.Burst.{Ready, lent};
 ghost use Rattle.docsis_burst.specs.Words.{pieWords};

@@ -17,7 +17,7 @@ ghost use Rattle.pie.specs.Constants.{mostVerdicts};
 ghost use Rattle.pie.specs.Verdicts.{total};
 ghost use Rattle.docsis_flow.specs.State.{formed};
 ghost use Rattle.docsis_flow.specs.Tick.{tick};
-ghost use Rattle.docsis_words.specs.Codes.{codeOf};
+ghost use Rattle.words.specs.Codes.{codeOf};
 ghost use Rattle.docsis_words.specs.Words.{stateOf, stateWords};
 
 // The promise is for every row that sums to at most 2^48; the call reads none. No rule of a tick reads the accumulated probability, and an

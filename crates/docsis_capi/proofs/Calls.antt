@@ -17,8 +17,7 @@ use Rattle.docsis_flow.specs.declared.State.{State}
 use Rattle.docsis_flow.proofs.WhenAccepted.{arrival-accepted}
 use Rattle.docsis.specs.Calls.{flowRefused, forFlow}
 use Rattle.docsis.specs.Counts.{countsAfter}
-use Rattle.docsis_words.specs.Codes.{placeIn}
-use Rattle.docsis_words.specs.Words.{arrivalWords, departureWords, raisedAt, stateOf, stateWords}
+use Rattle.docsis_words.specs.Words.{arrivalWords, departureWords, placeIn, raisedAt, stateOf, stateWords}
 use Rattle.docsis_words.proofs.Changed.{arrival-words, departure-words, words-taken}
 use Rattle.docsis_words.proofs.Raised.{raised-for}
 use Rattle.docsis_capi.proofs.Entries.{Gives, answer-taken, gives-accepted, gives-refused, state-taken, taken}

@@ -19,7 +19,7 @@ use Rattle.docsis_flow.specs.declared.State.{State}
 use Rattle.docsis.specs.Answer.{ModemReply}
 use Rattle.docsis.specs.Calls.{flowRefused, forFlow}
 use Rattle.docsis.specs.Counts.{countsAfter}
-use Rattle.docsis_words.specs.Codes.{codeOf, packetOf}
+use Rattle.words.specs.Codes.{codeOf, packetOf}
 use Rattle.docsis_words.specs.Words.{stateWords}
 
 -- the number, the words and the counts that say the reply

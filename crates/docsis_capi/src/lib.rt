@@ -23,8 +23,8 @@ ghost use Rattle.docsis_flow.specs.Fresh.{settingsOf};
 ghost use Rattle.docsis_flow.specs.State.{wellFormed};
 ghost use Rattle.docsis.specs.Calls.{arrival, departure, flowRefused, fresh, tick};
 ghost use Rattle.docsis.specs.Counts.{countsAfter, rowOf};
-ghost use Rattle.docsis_words.specs.Words.{arrivalWords, departureWords, stateOf, stateWords};
-ghost use Rattle.docsis_words.specs.Codes.{codeOf, packetOf, placeIn};
+ghost use Rattle.words.specs.Codes.{codeOf, packetOf};
+ghost use Rattle.docsis_words.specs.Words.{arrivalWords, departureWords, placeIn, stateOf, stateWords};
 
 // Flows are 0 to 15.
 const LAST_FLOW: u32 = 15;

@@ -1,15 +1,15 @@
 -- The words of the state that was decoded from them, and the words that an arrival changes.
 use mathlib.Core.Path.{_≡_, refl, ap, _∙_}
 use mathlib.Core.Bool.{cond}
-use mathlib.Core.List.{List, [], _∷_}
-use Prim.Native.Nat.{ℕ, zero, suc}
-use native.Mathlib.Omega.{arith}
+use mathlib.Core.List.{List}
+use Prim.Native.Nat.{ℕ}
 use lib.ListN.{getD, length}
 use lib.Dec.{eqb}
 use Rattle.units.specs.Kinds.{none}
 use Rattle.laws.proofs.Choice.{either}
 use Rattle.pie.specs.Verdicts.{isEarly}
 use Rattle.pie.specs.declared.Verdict.the-variants.{DroppedBytes, DroppedSlots}
+use Rattle.words.proofs.Written.{listed, written-out}
 use Rattle.docsis_pie.specs.Constants.{active, fullAllowance, quiescent}
 use Rattle.docsis_pie.specs.DropDecision.{afterDrop, cleared, decided, drawn, drawnWith, enqueuedWith, inAllowance, isInactive, isQuiescent}
 use Rattle.docsis_pie.specs.DropDecision.{scaledOf, staysInactive, summed, withAccumulated, withActivity, withAllowance, woken}
@@ -19,17 +19,6 @@ use Rattle.docsis_flow.specs.Arrival.{arrivedState, bytesFull, decisionOf, slot
 use Rattle.docsis_flow.specs.Departure.{departedState}
 use Rattle.docsis_flow.specs.declared.State.{State}
 use Rattle.docsis_words.specs.Words.{arrivalWords, departureWords, stateOf, stateWords}
-
--- f 0, f 1, ..: n of them
-abbrev pub listed : ℕ → (ℕ → ℕ) → List ℕ
-listed zero f = []
-listed (suc n) f = f 0 ∷ listed n (λ i. f (suc i))
-
-pub written-out : (n : ℕ) (w : List ℕ) → length w ≡ n → w ≡ listed n (λ i. getD w i 0)
-written-out zero [] h = refl
-written-out zero (x ∷ w) h = absurd (omega arith)
-written-out (suc n) [] h = absurd (omega arith)
-written-out (suc n) (x ∷ w) h = ap (λ (l : List ℕ). x ∷ l) (written-out n w (omega arith))
 
 words-kept : (w : List ℕ) → length w ≡ 16 → w ≡ stateWords (stateOf w)
 unfolding stateOf stateWords

@@ -1,3 +1,2 @@
--- A flow's state as words, and an answer as a number, as the modem's C interface has them.
+-- A flow's state as words, as the modem's C interface has them.
 pub mod Words
-pub mod Codes

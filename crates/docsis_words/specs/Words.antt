@@ -3,7 +3,9 @@ use mathlib.Core.List.{List, [], _∷_}
 use Prim.Native.Nat.{ℕ, _+_}
 use lib.ListN.{getD, set}
 use Rattle.units.specs.Kinds.{bytes, micros, prob}
+use Rattle.pie.specs.Verdicts.{placeOf}
 use Rattle.pie.specs.declared.Backlog.{Backlog}
+use Rattle.queue.specs.Answer.{Answer, departed, made, refused, ticked, verdict}
 use Rattle.docsis_pie.specs.Update.{phase}
 use Rattle.docsis_pie.specs.declared.DocsisPie.{DocsisPie}
 use Rattle.docsis_flow.specs.Fresh.{settingsOf}
@@ -65,6 +67,14 @@ arrivalWords w s =
 -- the words that a departure changes: clock, first place, count and bytes
 abbrev pub departureWords : (words : List ℕ) → State → List ℕ
 departureWords w s = set (set (set (set w 5 (s .clock .0)) 13 (s .first)) 14 (s .backlog .count)) 15 (s .backlog .bytes .0)
+
+-- the place of a verdict's count; 0 where the answer is no verdict
+abbrev pub placeIn : Answer → ℕ
+placeIn (refused number) = 0
+placeIn made = 0
+placeIn (verdict v) = placeOf v
+placeIn (departed handle size) = 0
+placeIn ticked = 0
 
 -- the counts with the one at this place of the flow's row raised by one
 abbrev pub raisedAt : (counts : List (List ℕ)) (flow place : ℕ) → List (List ℕ)

@@ -25,9 +25,10 @@ use Rattle.pair_rules.specs.Arrival.{arrival, arrivalRefusal, arrivedState, arr
 use Rattle.pair_rules.specs.Departure.{departedState, departure, departureRefusal}
 use Rattle.pair_rules.specs.Tick.{tick, tickRefusal, tickedState}
 use Rattle.pair_isolation.specs.Handed.{Queues, replyTo, returned}
-use Rattle.pair_words.specs.Codes.{ownAfter, sharedAfter}
-use Rattle.pair_words.specs.Words.{flagWord, isSet, pairOf, sharedOf, sharedWords, stateOf, stateWords}
-use Rattle.pair_words.proofs.Written.{written-out}
+use Rattle.pair_words.specs.After.{ownAfter, sharedAfter}
+use Rattle.words.specs.Flags.{flagWord, isSet}
+use Rattle.words.proofs.Written.{written-out}
+use Rattle.pair_words.specs.Words.{pairOf, sharedOf, sharedWords, stateOf, stateWords}
 use Rattle.pair_burst.specs.Calls.{Call, asked, unknown}
 use Rattle.pair_burst.specs.Burst.{Lent, Ready, after, lent, otherWords, ownWords, queuesOf, sharedLeft}
 use Rattle.pair_burst.proofs.Formed.{reply-formed}

@@ -22,7 +22,8 @@ use Rattle.pair_rules.specs.Answer.{unlessRefused}
 use Rattle.pair_rules.specs.Arrival.{arrival, arrivalRefusal, arrivedHandles, arrivedSizes}
 use Rattle.pair_rules.specs.Departure.{departedSizes, departure, departureRefusal, departureRefusals, headHandle, headSize}
 use Rattle.pair_rules.specs.Tick.{tick, tickRefusal}
-use Rattle.pair_words.specs.Codes.{codeOf, ownAfter, sharedAfter}
+use Rattle.words.specs.Codes.{codeOf}
+use Rattle.pair_words.specs.After.{ownAfter, sharedAfter}
 use Rattle.pair_words.specs.Words.{pairOf, whichOf}
 use Rattle.pair_burst.specs.Calls.{asked, callAt, requestAt}
 use Rattle.pair_burst.specs.Burst.{after, answerTo, answerWord, lent, pairBursts}

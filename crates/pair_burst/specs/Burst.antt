@@ -15,7 +15,8 @@ use Rattle.pair_state.specs.WellFormed.{wellFormed}
 use Rattle.pair_state.specs.declared.Which.{Which}
 use Rattle.pair_state.specs.declared.Which.the-variants.{Intercom, Passengers}
 use Rattle.pair_isolation.specs.Handed.{Queues, replyTo, returned}
-use Rattle.pair_words.specs.Codes.{codeOf, ownAfter, sharedAfter}
+use Rattle.words.specs.Codes.{codeOf}
+use Rattle.pair_words.specs.After.{ownAfter, sharedAfter}
 use Rattle.pair_words.specs.Words.{pairOf, sharedOf, stateOf}
 use Rattle.pair_burst.specs.Calls.{Call, asked, callAt, unknown}
 

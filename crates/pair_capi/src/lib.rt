@@ -10,13 +10,13 @@ use pair_steps::tick;
 use pair_words::encode;
 use pair_words::encode_shared;
 use pair_words::records_fit;
-use pair_words::refused;
 use pie::LARGEST;
 use pie::LATEST;
 use refusals::Accepted;
 use refusals::counts_full;
 use units::Bytes;
 use units::Micros;
+use words::refused;
 ghost use mathlib.Core.Path.{_≡_};
 ghost use mathlib.Core.Bool.{false};
 ghost use mathlib.Core.List.{[]};
@@ -26,7 +26,8 @@ ghost use Rattle.pair_state.specs.WellFormed.{wellFormed};
 ghost use Rattle.pair_rules.specs.Arrival.{arrival, arrivedHandles, arrivedSizes};
 ghost use Rattle.pair_rules.specs.Departure.{departedSizes, departure};
 ghost use Rattle.pair_rules.specs.Tick.{tick};
-ghost use Rattle.pair_words.specs.Codes.{codeOf, ownAfter, packetOf, sharedAfter};
+ghost use Rattle.words.specs.Codes.{codeOf, packetOf};
+ghost use Rattle.pair_words.specs.After.{ownAfter, sharedAfter};
 ghost use Rattle.pair_words.specs.Words.{pairOf, sharedWords, stateWords, whichOf};
 
 // What `obikuteru_pair_fresh` is told of a queue.

@@ -23,7 +23,8 @@ use Rattle.pair_rules.specs.Arrival.{arrival, arrivalRefusal, arrivedHandles, a
 use Rattle.pair_rules.specs.Departure.{departedSizes, departedState, departure, departureRefusal, headHandle, headSize, headWordRefused}
 use Rattle.pair_rules.specs.Refusals.{clockRefused, countsRefused, emptyRefused, tablesRefused, tooSoonRefused}
 use Rattle.pair_rules.specs.Tick.{tick, tickRefusal, tickedState}
-use Rattle.pair_words.specs.Codes.{codeOf, ownAfter, packetOf, sharedAfter}
+use Rattle.words.specs.Codes.{codeOf, packetOf}
+use Rattle.pair_words.specs.After.{ownAfter, sharedAfter}
 use Rattle.pair_words.specs.Words.{sharedWords, stateWords}
 
 -- refused by this number

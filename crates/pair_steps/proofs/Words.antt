@@ -23,8 +23,10 @@ use Rattle.pair_state.specs.Queues.{storing}
 use Rattle.pair_rules.specs.Arrival.{arrivedPie, arrivedState}
 use Rattle.pair_rules.specs.Departure.{departedState}
 use Rattle.pair_rules.specs.Tick.{tickedState}
-use Rattle.pair_words.specs.Words.{isSet, pieOf, rateOf, sharedOf, sharedWords, stateOf, stateWords}
-use Rattle.pair_words.proofs.Written.{flag-kept, listed, written-out}
+use Rattle.words.specs.Flags.{isSet}
+use Rattle.words.proofs.Flags.{flag-kept}
+use Rattle.words.proofs.Written.{listed, written-out}
+use Rattle.pair_words.specs.Words.{pieOf, rateOf, sharedOf, sharedWords, stateOf, stateWords}
 use Rattle.pair_steps.specs.Written.{enteredWords, rateWords, settledWords}
 
 -- what holds of any twenty-one words written out holds of twenty-one words

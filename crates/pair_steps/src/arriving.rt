@@ -22,7 +22,8 @@ ghost use Rattle.store.specs.Put.{freePlace, handlesAfterPut, sizesAfterPut, st
 ghost use Rattle.pair_state.specs.Queues.{storing};
 ghost use Rattle.pair_state.specs.WellFormed.{wellFormed};
 ghost use Rattle.pair_rules.specs.Arrival.{arrival, arrivedHandles, arrivedPie, arrivedSizes, verdictOf};
-ghost use Rattle.pair_words.specs.Codes.{codeOf, ownAfter, sharedAfter};
+ghost use Rattle.words.specs.Codes.{codeOf};
+ghost use Rattle.pair_words.specs.After.{ownAfter, sharedAfter};
 ghost use Rattle.pair_words.specs.Words.{endsOf, pairOf, sharedOf, sharedWords, stateOf, storeOf, whichOf};
 ghost use Rattle.pair_steps.specs.Written.{enteredWords, settledWords};
 

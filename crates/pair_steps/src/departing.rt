@@ -19,7 +19,8 @@ ghost use Rattle.pie.specs.Constants.{largest, longest, threshold};
 ghost use Rattle.pie.specs.DepartureRate.{rateAfter};
 ghost use Rattle.pair_state.specs.WellFormed.{wellFormed};
 ghost use Rattle.pair_rules.specs.Departure.{departedSizes, departure};
-ghost use Rattle.pair_words.specs.Codes.{codeOf, ownAfter, packetOf, sharedAfter};
+ghost use Rattle.words.specs.Codes.{codeOf, packetOf};
+ghost use Rattle.pair_words.specs.After.{ownAfter, sharedAfter};
 ghost use Rattle.pair_words.specs.Words.{pairOf, rateOf, sharedOf, whichOf};
 ghost use Rattle.pair_steps.specs.Written.{rateWords};
 

@@ -11,7 +11,8 @@ ghost use mathlib.Core.Bool.{true};
 ghost use lib.ListN.{length};
 ghost use Rattle.pair_state.specs.WellFormed.{wellFormed};
 ghost use Rattle.pair_rules.specs.Tick.{tick};
-ghost use Rattle.pair_words.specs.Codes.{codeOf, ownAfter};
+ghost use Rattle.words.specs.Codes.{codeOf};
+ghost use Rattle.pair_words.specs.After.{ownAfter};
 ghost use Rattle.pair_words.specs.Words.{pairOf, whichOf};
 
 pub fn tick(

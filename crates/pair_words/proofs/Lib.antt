@@ -1,2 +1,2 @@
 -- What the proofs of the calls on words share.
-pub mod Written
+pub mod Counts

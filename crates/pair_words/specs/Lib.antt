@@ -1,3 +1,3 @@
--- The records of two queues as words, and an answer as a number.
+-- The records of two queues as words, and the words after a call.
 pub mod Words
-pub mod Codes
+pub mod After

@@ -1,13 +1,13 @@
 -- The records as words: six in the order of struct obikuteru_shared, twenty-one in that of struct obikuteru_pair_queue.
-use mathlib.Core.Bool.{Bool, true, false, not, cond}
+use mathlib.Core.Bool.{Bool, true, false}
 use mathlib.Core.List.{List, [], _∷_}
 use Prim.Native.Nat.{ℕ}
-use lib.Dec.{eqb}
 use lib.ListN.{getD}
 use Rattle.units.specs.Kinds.{bytes, micros, prob}
 use Rattle.pie.specs.declared.Backlog.{Backlog}
 use Rattle.pie.specs.declared.Pie.{Pie}
 use Rattle.pie.specs.declared.Rate.{Rate}
+use Rattle.words.specs.Flags.{flagWord, isSet}
 use Rattle.store.specs.declared.Ends.{Ends}
 use Rattle.store.specs.declared.Store.{Store}
 use Rattle.pair_state.specs.Fresh.{settingsOf}
@@ -50,10 +50,6 @@ sharedWords s =
 
 -- ── a queue ──
 
--- a word that is not 0 says yes
-abbrev pub isSet : (word : ℕ) → Bool
-isSet word = not (eqb word 0)
-
 abbrev pub rateOf : (words : List ℕ) → Rate
 rateOf w =
     record {
@@ -91,10 +87,6 @@ stateOf w =
       ends = endsOf w;
       verdicts = getD w 16 0 ∷ getD w 17 0 ∷ getD w 18 0 ∷ getD w 19 0 ∷ getD w 20 0 ∷ [];
     }
-
--- the word of the flag `measuring`: left as it is where it says so already, else 1 or 0
-abbrev pub flagWord : (word : ℕ) (said : Bool) → ℕ
-flagWord word said = cond (isSet word) (cond said word 0) (cond said 1 0)
 
 -- the twenty-one words of a state, written over these
 unfoldable pub stateWords : (words : List ℕ) → State → List ℕ

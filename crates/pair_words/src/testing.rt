@@ -1,7 +1,7 @@
 // Whether the records that the words hold are well formed.
-use crate::words::decode;
-use crate::words::decode_shared;
-use crate::words::named;
+use crate::records::decode;
+use crate::records::decode_shared;
+use crate::records::named;
 ghost use mathlib.Core.Path.{_≡_};
 ghost use mathlib.Core.Bool.{true};
 ghost use lib.ListN.{length};

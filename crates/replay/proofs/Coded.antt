@@ -18,7 +18,8 @@ use Rattle.words.specs.Codes.{codeOf, wordsAfter}
 use Rattle.words.specs.Words.{stateOf}
 use Rattle.codec.specs.declared.Record.{Record}
 use Rattle.guarantees.proofs.Replies.{arrivalOf, departureOf, tickOf}
-use Rattle.steps.specs.Lent.{Lent, answerWord, leaves, lent, replyTo}
+use Rattle.bursts.specs.Answers.{answerWord}
+use Rattle.steps.specs.Lent.{Lent, leaves, lent, replyTo}
 use Rattle.steps.proofs.Answers.{departure-small}
 use Rattle.replay.specs.Agreement.{refusalIn, requestOf, verdictIn}
 use Rattle.replay.specs.declared.Called.{Called}

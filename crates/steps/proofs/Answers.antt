@@ -1,15 +1,11 @@
 -- The parts of an answer's word.
 use mathlib.Core.Path.{_≡_, refl}
-use mathlib.Core.Bool.{Bool, true, false, _&&_}
-use mathlib.Core.List.{List, [], _∷_}
+use mathlib.Core.Bool.{Bool}
+use mathlib.Core.List.{List}
 use Prim.Native.Nat.{ℕ, zero, suc, _≤_}
 use native.Mathlib.Omega.{arith}
-use lib.Dec.{leb}
 use lib.ListN.{length}
-use borrow.Author.Tests.{leb-true}
-use Rattle.laws.proofs.Tests.{and-left, and-right}
 use Rattle.pie.proofs.Counts.{place-lt}
-use Rattle.refusals.specs.Rows.{firstRefusal}
 use Rattle.queue.specs.declared.State.{State}
 use Rattle.queue.specs.Answer.{Reply, sizeIn, unlessRefused}
 use Rattle.queue.specs.Activity.{begun}
@@ -19,7 +15,8 @@ use Rattle.queue.specs.Tick.{tick, tickRefusal, tickRefusals}
 use Rattle.queue.proofs.WhenAccepted.{departure-accepted}
 use Rattle.words.specs.Codes.{codeOf}
 use Rattle.guarantees.proofs.Replies.{arrivalOf, departureOf, tickOf}
-use Rattle.steps.specs.Lent.{answerWord}
+use Rattle.bursts.specs.Answers.{answerWord}
+use Rattle.bursts.proofs.Answers.{first-low}
 
 -- ── the word of an answer that hands out nothing is its code ──
 
@@ -40,16 +37,6 @@ unfolding tick
 plain-tick s clock = plain-unless (tickRefusal s clock) s (tickOf s clock) (omega arith)
 
 -- ── the parts of a departure's answer are small ──
-
--- no number is above 9
-abbrev lows : List (ℕ × Bool) → Bool
-lows [] = true
-lows ((number, test) ∷ rows) = leb number 9 && lows rows
-
-first-low : (rows : List (ℕ × Bool)) → lows rows ≡ true → firstRefusal rows ≤ 9
-first-low [] e = omega arith
-first-low ((number, true) ∷ rows) e = leb-true number 9 (and-left (leb number 9) (lows rows) e)
-first-low ((number, false) ∷ rows) e = first-low rows (and-right (leb number 9) (lows rows) e)
 
 number-low : (s : State) (h z clock head : ℕ) → departureRefusal s h z clock head ≤ 9
 unfolding departureRefusal

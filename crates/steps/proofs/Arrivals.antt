@@ -16,7 +16,8 @@ use Rattle.pie.proofs.Counts.{count-le-total}
 use Rattle.queue.specs.Activity.{begun, turnsActive}
 use Rattle.queue.specs.Arrival.{arrivedState}
 use Rattle.queue.proofs.Activation.{begun-same}
-use Rattle.words.specs.Words.{isSet, restartedWords, stateOf, stateWords}
+use Rattle.words.specs.Flags.{isSet}
+use Rattle.words.specs.Words.{restartedWords, stateOf, stateWords}
 use Rattle.words.proofs.Words.{count-word}
 use Rattle.steps.specs.Words.{decidedWords}
 use Rattle.steps.proofs.Words.{active-kept, arrived-words, buffer-kept, countedWords, enteredWords, restarted-words}

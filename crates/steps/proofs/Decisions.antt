@@ -16,7 +16,8 @@ use Rattle.pie.specs.declared.Verdict.the-variants.{DroppedEarly, Enqueued, Mar
 use Rattle.queue.specs.Arrival.{verdictOf}
 use Rattle.queue.proofs.Activation.{decided-alike, inactive-zero}
 use Rattle.queue.proofs.Facts.{Facts}
-use Rattle.words.specs.Words.{isSet, pieOf, stateOf}
+use Rattle.words.specs.Flags.{isSet}
+use Rattle.words.specs.Words.{pieOf, stateOf}
 use Rattle.steps.specs.Words.{decidedWords, drawnWords}
 use Rattle.steps.proofs.Words.{undecided}
 

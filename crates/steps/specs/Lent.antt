@@ -6,10 +6,9 @@ use Prim.Native.Nat.{ℕ, _+_, _≤_}
 use lib.ListN.{length}
 use Rattle.pie.specs.Constants.{mostVerdicts}
 use Rattle.pie.specs.Verdicts.{total}
-use Rattle.bursts.specs.Numbers.{wordOf}
-use Rattle.queue.specs.Answer.{Answer, Reply, handleIn, sizeIn}
+use Rattle.queue.specs.Answer.{Reply}
 use Rattle.queue.specs.State.{wellFormed}
-use Rattle.words.specs.Codes.{codeOf, wordsAfter}
+use Rattle.words.specs.Codes.{wordsAfter}
 use Rattle.words.specs.Words.{stateOf}
 use Rattle.guarantees.specs.Calls.{reply}
 use Rattle.guarantees.specs.Handed.{Queue, Request, callOf, returned}
@@ -35,10 +34,6 @@ abbrev pub leaves : Lent → Request → Lent
 leaves q r =
     let next = returned (queueOf q) r (replyTo q r) in
     record { words = wordsAfter (replyTo q r) (q .words); handles = next .handles; sizes = next .sizes }
-
--- an answer as a word
-abbrev pub answerWord : Answer → ℕ
-answerWord a = wordOf (codeOf a) (sizeIn a) (handleIn a)
 
 -- twenty-three words of a well-formed state, and tables that fit it
 abbrev pub Fitting : Lent → Type 0

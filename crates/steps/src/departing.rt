@@ -16,7 +16,8 @@ ghost use Rattle.pie.specs.DepartureRate.{rateAfter};
 ghost use Rattle.queue.specs.Departure.{departure};
 ghost use Rattle.words.specs.Codes.{wordsAfter};
 ghost use Rattle.words.specs.Words.{rateOf, stateOf};
-ghost use Rattle.steps.specs.Lent.{Fitting, answerWord, lent};
+ghost use Rattle.bursts.specs.Answers.{answerWord};
+ghost use Rattle.steps.specs.Lent.{Fitting, lent};
 ghost use Rattle.steps.specs.Words.{rateWords};
 
 // (first + 1) modulo slots.

@@ -14,8 +14,10 @@ use Rattle.pie.specs.declared.Verdict.the-variants.{Enqueued, Marked, DroppedBy
 use Rattle.queue.specs.Activity.{aboveThird, begun}
 use Rattle.queue.specs.Arrival.{arrivedState}
 use Rattle.queue.specs.declared.State.{State}
-use Rattle.words.specs.Words.{arrivalWords, isSet, restartedWords, stateOf, stateWords}
-use Rattle.words.proofs.Words.{flag-kept, flag-off, listed, written-out}
+use Rattle.words.specs.Flags.{isSet}
+use Rattle.words.specs.Words.{arrivalWords, restartedWords, stateOf, stateWords}
+use Rattle.words.proofs.Flags.{flag-kept, flag-off}
+use Rattle.words.proofs.Written.{listed, written-out}
 
 or-no : (b : Bool) → (b || false) ≡ b
 or-no true = refl

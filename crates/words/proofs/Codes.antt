@@ -10,7 +10,7 @@ use Rattle.queue.specs.declared.ArrivalAnswer.{ArrivalAnswer}
 use Rattle.queue.specs.declared.ArrivalAnswer.the-variants.{Decided, Refused}
 use Rattle.refusals.specs.declared.Refusal.{Refusal}
 use Rattle.queue.specs.declared.State.{State}
-use Rattle.queue.specs.Answer.{Answer, Reply, acceptedAnswer, arrivalAnswer}
+use Rattle.queue.specs.Answer.{Answer, Reply, acceptedAnswer, arrivalAnswer, departed, made, ticked}
 use Rattle.refusals.specs.Numbers.{numberOf}
 use Rattle.words.specs.Codes.{codeOf, wordsAfter, wordsFor}
 use Rattle.words.specs.Words.{stateWords}
@@ -22,9 +22,21 @@ pub refused : {r : Accepted} {s : State} {q : Reply} {x : Refusal} {n : ℕ} (a 
     record { answer = acceptedAnswer r a; state = s } ≡ q → r ≡ No x → n ≡ 100 + numberOf x → Given q n w w
 refused a w e f h = rw (← e, f) (h, refl)
 
-pub accepted : {r : Accepted} {s : State} {q : Reply} (a : Answer) (w after : List ℕ) →
+accepted : {r : Accepted} {s : State} {q : Reply} (a : Answer) (w after : List ℕ) →
     record { answer = acceptedAnswer r a; state = s } ≡ q → r ≡ Yes → codeOf a ≡ 0 → wordsFor a w (stateWords w s) ≡ stateWords w s → after ≡ stateWords w s → Given q 0 w after
 accepted a w after e f c k h = rw (← e, f, c, k) (refl, h)
+
+pub fresh-made : {r : Accepted} {s : State} {q : Reply} (w after : List ℕ) →
+    record { answer = acceptedAnswer r made; state = s } ≡ q → r ≡ Yes → after ≡ stateWords w s → Given q 0 w after
+fresh-made w after e f h = accepted made w after e f refl refl h
+
+pub departure-made : {r : Accepted} {s : State} {q : Reply} (handle size : ℕ) (w after : List ℕ) →
+    record { answer = acceptedAnswer r (departed handle size); state = s } ≡ q → r ≡ Yes → after ≡ stateWords w s → Given q 0 w after
+departure-made handle size w after e f h = accepted (departed handle size) w after e f refl refl h
+
+pub tick-made : {r : Accepted} {s : State} {q : Reply} (w after : List ℕ) →
+    record { answer = acceptedAnswer r ticked; state = s } ≡ q → r ≡ Yes → after ≡ stateWords w s → Given q 0 w after
+tick-made w after e f h = accepted ticked w after e f refl refl h
 
 pub arrival-refused : {r : ArrivalAnswer} {s : State} {q : Reply} {x : Refusal} {n : ℕ} (w : List ℕ) →
     record { answer = arrivalAnswer r; state = s } ≡ q → r ≡ Refused x → n ≡ 100 + numberOf x → Given q n w w

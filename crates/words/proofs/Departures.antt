@@ -12,8 +12,10 @@ use Rattle.pie.specs.DepartureRate.{averageOf, rateAfter, resting, running, sam
 use Rattle.pie.specs.declared.Rate.{Rate}
 use Rattle.queue.specs.Departure.{departedState}
 use Rattle.queue.specs.declared.State.{State}
-use Rattle.words.specs.Words.{flagWord, isSet, stateOf, stateWords}
-use Rattle.words.proofs.Words.{flag-kept, listed, written-out}
+use Rattle.words.specs.Flags.{flagWord, isSet}
+use Rattle.words.specs.Words.{stateOf, stateWords}
+use Rattle.words.proofs.Flags.{flag-kept}
+use Rattle.words.proofs.Written.{listed, written-out}
 
 -- a rate that has counted bytes after a departure was counting before it: the others of its numbers stay
 rate-kept : (average : ℕ) (runs : Bool) (start counted clock size packets left : ℕ) →

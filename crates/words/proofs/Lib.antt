@@ -1,10 +1,14 @@
 -- Laws of the words and of the codes.
 --
---   Codes       the number and the words that an entry gives
---   Words       words written out, and the state that they hold
+--   Written     words, written out
+--   Flags       what a flag's word says
+--   Words       the state that the ring's words hold
 --   Arrivals    the words that an arrival changes
 --   Departures  the words that a departure changes
-pub mod Codes
+--   Codes       the number and the words that an entry gives
+pub mod Written
+pub mod Flags
 pub mod Words
 pub mod Arrivals
 pub mod Departures
+pub mod Codes

@@ -1,3 +1,8 @@
--- The ring's state as words, and an answer as a number.
+-- Words and numbers that are lent to C.
+--
+--   Flags  a flag as a word
+--   Words  the ring's state as words
+--   Codes  an answer as a number, and the words after it
+pub mod Flags
 pub mod Words
 pub mod Codes

@@ -1,8 +1,6 @@
 -- The state record as twenty-three words, in the order of struct obikuteru_state.
-use mathlib.Core.Bool.{Bool, not, cond}
 use mathlib.Core.List.{List, [], _∷_}
 use Prim.Native.Nat.{ℕ, _+_}
-use lib.Dec.{eqb}
 use lib.ListN.{getD, set}
 use Rattle.units.specs.Kinds.{bytes, micros, prob}
 use Rattle.pie.specs.Constants.{fullAllowance}
@@ -13,10 +11,7 @@ use Rattle.pie.specs.declared.Verdict.{Verdict}
 use Rattle.pie.specs.Verdicts.{placeOf}
 use Rattle.queue.specs.declared.State.{State}
 use Rattle.queue.specs.Fresh.{settingsOf}
-
--- a word that is not 0 says yes
-abbrev pub isSet : (word : ℕ) → Bool
-isSet word = not (eqb word 0)
+use Rattle.words.specs.Flags.{flagWord, isSet}
 
 abbrev pub rateOf : (words : List ℕ) → Rate
 rateOf w =
@@ -53,10 +48,6 @@ stateOf w =
       verdicts = getD w 16 0 ∷ getD w 17 0 ∷ getD w 18 0 ∷ getD w 19 0 ∷ getD w 20 0 ∷ [];
       active = isSet (getD w 22 0);
     }
-
--- the word of a flag, `measuring` or `active`: left as it is where it says so already, else 1 or 0
-abbrev pub flagWord : (word : ℕ) (said : Bool) → ℕ
-flagWord word said = cond (isSet word) (cond said word 0) (cond said 1 0)
 
 -- the twenty-three words of a state, written over these
 unfoldable pub stateWords : (words : List ℕ) → State → List ℕ

@@ -10,7 +10,8 @@ ghost use lib.ListN.{getD, length};
 ghost use Rattle.pie.specs.Constants.{mostVerdicts};
 ghost use Rattle.pie.specs.Verdicts.{placeOf};
 ghost use Rattle.queue.specs.Departure.{departedState};
-ghost use Rattle.words.specs.Words.{arrivalWords, flagWord, restartedWords, stateOf, stateWords};
+ghost use Rattle.words.specs.Flags.{flagWord};
+ghost use Rattle.words.specs.Words.{arrivalWords, restartedWords, stateOf, stateWords};
 
 // The word of a flag, left as it is where it says so already.
 fn flag(word: u64, said: bool) -> u64

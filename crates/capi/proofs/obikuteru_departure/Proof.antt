@@ -1,7 +1,6 @@
 -- `obikuteru_departure`: the reply's number, words and packet.
-use mathlib.Core.Path.{refl}
 use Rattle.queue.specs.Answer.{departed}
-use Rattle.words.proofs.Codes.{accepted, refused}
+use Rattle.words.proofs.Codes.{departure-made, refused}
 use Rattle.capi.proofs.Replies.{departed-as}
 use borrow.Author.Needs.{needs}
 use Rattle.capi.proofs.obikuteru_departure.Statement.{statement}
@@ -41,7 +40,7 @@ returns-2 c =
     let t = c .before .before .before .before .before .before in
     let d = t .departure .ensures in
     let k = c .write-departure .ensures in
-    let g = accepted (departed _ _) _ _ (d .0) (c .before .before .before .enum-told .given .1) refl refl (k .0) in
+    let g = departure-made _ _ _ _ (d .0) (c .before .before .before .enum-told .given .1) (k .0) in
     rw (← (t .before .decode .ensures .0)) (g .0, g .1, rw (k .1, d .1 .0, d .1 .1))
 
 pub obikuteru-departure-spec : {M : Type 1} → statement M

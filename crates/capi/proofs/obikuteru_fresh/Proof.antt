@@ -3,7 +3,7 @@ use mathlib.Core.Path.{refl, _∙_}
 use mathlib.Core.List.{[]}
 use lib.ListN.{replicate}
 use Rattle.queue.specs.Answer.{made}
-use Rattle.words.proofs.Codes.{accepted, refused}
+use Rattle.words.proofs.Codes.{fresh-made, refused}
 use Rattle.words.proofs.Words.{over-zeros}
 use borrow.Author.Needs.{needs}
 use Rattle.capi.proofs.obikuteru_fresh.Statement.{statement}
@@ -27,7 +27,7 @@ refused-requires c κs = search needs
 returns : tie.Need-returns
 returns c =
     let t = c .before .before .before .before .before in
-    let g = accepted made _ _ (t .fresh .ensures) (c .enum-told .given .1) refl refl (c .before .before .encode .ensures) in
+    let g = fresh-made _ _ (t .fresh .ensures) (c .enum-told .given .1) (c .before .before .encode .ensures) in
     (g .0, rw (← (t .fresh .ensures)) (c .before .before .encode .ensures ∙ over-zeros (replicate 23 0) _ refl refl))
 
 returns-2 : tie.Need-returns-2

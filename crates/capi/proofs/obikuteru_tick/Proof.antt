@@ -1,7 +1,6 @@
 -- `obikuteru_tick`: the reply's number and words.
-use mathlib.Core.Path.{refl}
 use Rattle.queue.specs.Answer.{ticked}
-use Rattle.words.proofs.Codes.{accepted, refused}
+use Rattle.words.proofs.Codes.{refused, tick-made}
 use borrow.Author.Needs.{needs}
 use Rattle.capi.proofs.obikuteru_tick.Statement.{statement}
 use Rattle.capi.proofs.obikuteru_tick.Tie as tie
@@ -33,7 +32,7 @@ returns-2 : tie.Need-returns-2
 returns-2 c =
     let t = c .before .before .before .before .before in
     rw (← (t .before .decode .ensures .0))
-    (accepted ticked _ _ (t .tick .ensures) (c .before .before .enum-told .given .1) refl refl (c .encode .ensures))
+    (tick-made _ _ (t .tick .ensures) (c .before .before .enum-told .given .1) (c .encode .ensures))
 
 pub obikuteru-tick-spec : {M : Type 1} → statement M
 obikuteru-tick-spec =

@@ -26,7 +26,7 @@ use Rattle.pair_rules.specs.Refusals.{countsRefused}
 use Rattle.pair_rules.proofs.Seen.{verdict-seen}
 use Rattle.pair_rules.proofs.WhenAccepted.{Known, admitted-room, known, room}
 use Rattle.pair_words.specs.Words.{sharedOf, stateOf, whichOf}
-use Rattle.pair_words.proofs.Written.{count-word}
+use Rattle.pair_words.proofs.Counts.{count-word}
 use Rattle.pair_steps.specs.Written.{enteredWords, settledWords}
 use Rattle.pair_steps.proofs.Replies.{Fit, Made, admitted-gives, dropped-gives, tables-fit}
 use Rattle.pair_steps.proofs.Replies.{arrival-late, arrival-lost, arrival-made, arrival-size}

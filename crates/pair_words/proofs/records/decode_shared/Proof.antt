@@ -2,8 +2,8 @@
 use mathlib.Core.Path.{refl}
 use Rattle.pair_words.specs.Words.{sharedOf}
 use borrow.Author.Needs.{needs}
-use Rattle.pair_words.proofs.words.decode_shared.Statement.{statement}
-use Rattle.pair_words.proofs.words.decode_shared.Tie as tie
+use Rattle.pair_words.proofs.records.decode_shared.Statement.{statement}
+use Rattle.pair_words.proofs.records.decode_shared.Tie as tie
 
 array-read-t7 : tie.Need-array-read-t7
 array-read-t7 c = search needs

@@ -2,8 +2,8 @@
 use mathlib.Core.Path.{refl}
 use Rattle.pair_words.specs.Words.{stateOf}
 use borrow.Author.Needs.{needs}
-use Rattle.pair_words.proofs.words.decode.Statement.{statement}
-use Rattle.pair_words.proofs.words.decode.Tie as tie
+use Rattle.pair_words.proofs.records.decode.Statement.{statement}
+use Rattle.pair_words.proofs.records.decode.Tie as tie
 
 array-read-t11 : tie.Need-array-read-t11
 array-read-t11 c = search needs

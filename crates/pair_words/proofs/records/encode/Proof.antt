@@ -4,8 +4,8 @@ use mathlib.Core.Bool.{Bool, true, false, cond}
 use mir.Val.{boolByte}
 use Rattle.pair_words.specs.Words.{stateWords}
 use borrow.Author.Needs.{needs}
-use Rattle.pair_words.proofs.words.encode.Statement.{statement}
-use Rattle.pair_words.proofs.words.encode.Tie as tie
+use Rattle.pair_words.proofs.records.encode.Statement.{statement}
+use Rattle.pair_words.proofs.records.encode.Tie as tie
 
 as-number : (t : Bool) → boolByte t ≡ cond t 1 0
 as-number true = refl

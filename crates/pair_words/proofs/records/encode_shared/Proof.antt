@@ -1,8 +1,8 @@
 -- `encode_shared`: each word is its field.
 use mathlib.Core.Path.{refl}
 use Rattle.pair_words.specs.Words.{sharedWords}
-use Rattle.pair_words.proofs.words.encode_shared.Statement.{statement}
-use Rattle.pair_words.proofs.words.encode_shared.Tie as tie
+use Rattle.pair_words.proofs.records.encode_shared.Statement.{statement}
+use Rattle.pair_words.proofs.records.encode_shared.Tie as tie
 
 returns : tie.Need-returns
 unfolding sharedWords

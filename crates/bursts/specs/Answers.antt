@@ -1,0 +1,8 @@
+-- The word of a queue's answer.
+use Prim.Native.Nat.{ℕ}
+use Rattle.queue.specs.Answer.{Answer, handleIn, sizeIn}
+use Rattle.words.specs.Codes.{codeOf}
+use Rattle.bursts.specs.Numbers.{wordOf}
+
+abbrev pub answerWord : Answer → ℕ
+answerWord a = wordOf (codeOf a) (sizeIn a) (handleIn a)
