@@ -3,6 +3,7 @@ use bursts::wide;
 use pie::LARGEST;
 use pie::LATEST;
 use pie::MOST_ACCUMULATED;
+use pie::SMALL_QUEUE;
 use ring::place;
 use units::Prob;
 use words::write_restart;
@@ -76,7 +77,7 @@ fn decide(w: &mut [u64; 23], size: u64, ecn: bool, u: u64) -> usize
             return 0;
         }
     }
-    let small = bytes <= 3_000;
+    let small = bytes <= SMALL_QUEUE;
     if small {
         return 0;
     }
