@@ -4,12 +4,11 @@ use pie::LARGEST;
 use pie::LATEST;
 use pie::MOST_ACCUMULATED;
 use pie::SMALL_QUEUE;
-use ring::place;
 use units::Prob;
 use words::write_restart;
 ghost use mathlib.Core.Path.{_≡_};
 ghost use mathlib.Core.Bool.{true};
-ghost use Prim.Native.Nat.{_≤_, _<_};
+ghost use Prim.Native.Nat.{_+_, _%_, _≤_, _<_};
 ghost use lib.ListN.{getD, length, set};
 ghost use Rattle.units.specs.Kinds.{whole};
 ghost use Rattle.pie.specs.Constants.{largest, mostAccumulated};
@@ -84,6 +83,18 @@ fn decide(w: &mut [u64; 23], size: u64, ecn: bool, u: u64) -> usize
     draw(w, ecn, u)
 }
 
+// Where the packet behind `count` from `first` on stands: `ring::place`, without a jump (docs/PERFORMANCE.md).
+fn tail_place(first: u64, count: u64, slots: u64) -> u64
+    requires { ⌜ (first < slots) × (count ≤ slots) × (slots ≤ 65536) ⌝ }
+    ensures { λ r. ⌜ r ≡ (first + count) % slots ⌝ }
+{
+    let left = slots - count;
+    if first < left {
+        return first + count;
+    }
+    first - left
+}
+
 // The rules on the state as it is given, their verdict's count, and an admitted packet at the tail. Gives the place of the verdict.
 fn take(
     w: &mut [u64; 23],
@@ -111,7 +122,7 @@ fn take(
     w[row] = w[row] + 1;
     let admits = v < 2;
     if admits {
-        let tail = place(w[15], w[13], w[2]) as usize;
+        let tail = tail_place(w[15], w[13], w[2]) as usize;
         w[13] = w[13] + 1;
         w[14] = w[14] + bytes;
         handles[tail] = handle;

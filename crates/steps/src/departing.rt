@@ -20,14 +20,14 @@ ghost use Rattle.bursts.specs.Answers.{answerWord};
 ghost use Rattle.steps.specs.Lent.{Fitting, lent};
 ghost use Rattle.steps.specs.Words.{rateWords};
 
-// (first + 1) modulo slots.
+// (first + 1) modulo slots, without a jump (docs/PERFORMANCE.md).
 fn following(first: u64, slots: u64) -> u64
     requires { ⌜ (first < slots) × (slots ≤ 65536) ⌝ }
     ensures { λ r. ⌜ r ≡ (first + 1) % slots ⌝ }
 {
-    let next = first + 1;
-    if next < slots {
-        return next;
+    let last = slots - 1;
+    if first < last {
+        return first + 1;
     }
     0
 }

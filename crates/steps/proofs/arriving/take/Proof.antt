@@ -49,7 +49,7 @@ kept : (c : tie.After-decide) (count i : ℕ) → i < 16 → i ≢ 3 → i ≢ 8
 kept c count i = past (wordsAt (begun c)) (c .decide .last .0) _ (ruled-words c) (begun c .args .clock) (c .decide .result) count i
 
 -- the tail's place is one of the tables'
-tail-place : (c : tie.After-place) → c .place .result ≡ tailPlace (stateOf (wordsAt (begun (c .before .before .before .before .before .before))))
+tail-place : (c : tie.After-tail-place) → c .tail-place .result ≡ tailPlace (stateOf (wordsAt (begun (c .before .before .before .before .before .before))))
 unfolding stateOf
 tail-place c =
     let v = c .before .before .before .before .before .before in
@@ -57,9 +57,9 @@ tail-place c =
       kept v _ 15 (omega arith) (omega arith) (omega arith),
       kept v _ 13 (omega arith) (omega arith) (omega arith),
       kept v _ 2 (omega arith) (omega arith) (omega arith),
-    ) at (c .place .ensures)
+    ) at (c .tail-place .ensures)
 
-tail-low : (c : tie.After-place) → c .place .result < stateOf (wordsAt (begun (c .before .before .before .before .before .before))) .settings .slots
+tail-low : (c : tie.After-tail-place) → c .tail-place .result < stateOf (wordsAt (begun (c .before .before .before .before .before .before))) .settings .slots
 tail-low c = rw (tail-place c) (mod-lt _ (known (begun (c .before .before .before .before .before .before)) .slots-low))
 
 wide-requires : tie.Need-wide-requires
@@ -95,18 +95,18 @@ mul-w-2 c = omega (arith, place-low (c .before))
 element-write-w-2 : tie.Need-element-write-w-2
 element-write-w-2 c = omega (arith, place-low (c .before))
 
-element-copy-out-place : tie.Need-element-copy-out-place
-element-copy-out-place c = search needs
+element-copy-out-tail-place : tie.Need-element-copy-out-tail-place
+element-copy-out-tail-place c = search needs
 
-element-copy-out-place-2 : tie.Need-element-copy-out-place-2
-element-copy-out-place-2 c = search needs
+element-copy-out-tail-place-2 : tie.Need-element-copy-out-tail-place-2
+element-copy-out-tail-place-2 c = search needs
 
-element-copy-out-place-3 : tie.Need-element-copy-out-place-3
-element-copy-out-place-3 c = search needs
+element-copy-out-tail-place-3 : tie.Need-element-copy-out-tail-place-3
+element-copy-out-tail-place-3 c = search needs
 
-place-requires : tie.Need-place-requires
+tail-place-requires : tie.Need-tail-place-requires
 unfolding stateOf
-place-requires c κs =
+tail-place-requires c κs =
     let v = c .before .before .before .before .before in
     let f = known (begun v) in
     rw (
@@ -197,10 +197,10 @@ take-spec =
     add-w
     mul-w-2
     element-write-w-2
-    element-copy-out-place
-    element-copy-out-place-2
-    element-copy-out-place-3
-    place-requires
+    element-copy-out-tail-place
+    element-copy-out-tail-place-2
+    element-copy-out-tail-place-3
+    tail-place-requires
     element-copy-out-w-2
     add-w-2
     element-write-w-3
