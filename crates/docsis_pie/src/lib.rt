@@ -5,8 +5,8 @@ use units::Prob;
 
 mod constants;
 mod decision;
-mod delay;
 mod probability;
+mod queueing_delay;
 mod update;
 
 // Inactive, quiescent or active; in a lent record any number.
@@ -50,3 +50,7 @@ pub use constants::PERIOD;
 pub use constants::RESET_TIMEOUT;
 pub use constants::SMALL_QUEUE;
 pub use decision::scaled;
+pub use probability::next_prob;
+pub use queueing_delay::delay;
+pub use update::next_allowance;
+pub use update::quiet;

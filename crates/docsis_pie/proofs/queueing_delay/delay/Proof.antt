@@ -8,8 +8,8 @@ use Rattle.units.specs.Kinds.{bytes, micros}
 use Rattle.units.specs.declared.Bytes.{Bytes}
 use Rattle.pie.specs.Constants.{longest}
 use Rattle.docsis_pie.specs.Delay.{delayOf, fastOf}
-use Rattle.docsis_pie.proofs.delay.delay.Statement.{statement}
-use Rattle.docsis_pie.proofs.delay.delay.Tie as tie
+use Rattle.docsis_pie.proofs.queueing_delay.delay.Statement.{statement}
+use Rattle.docsis_pie.proofs.queueing_delay.delay.Tie as tie
 
 -- the sum of the two quotients
 abbrev sum : (queued fast peak sustained : ℕ) → ℕ

@@ -2,8 +2,8 @@
 use mathlib.Core.Path.{ap}
 use native.Mathlib.Omega.{arith}
 use Rattle.units.specs.Kinds.{bytes}
-use Rattle.docsis_pie.proofs.delay.fast.Statement.{statement}
-use Rattle.docsis_pie.proofs.delay.fast.Tie as tie
+use Rattle.docsis_pie.proofs.queueing_delay.fast.Statement.{statement}
+use Rattle.docsis_pie.proofs.queueing_delay.fast.Tie as tie
 
 returns : tie.Need-returns
 returns c = ap bytes (omega arith)

@@ -4,8 +4,8 @@ use mathlib.Core.Path.{_≡_, ap, _∙_}
 use Prim.Native.Nat.{ℕ, _*_, _/_}
 use native.Mathlib.Nat.{div-div-eq-div-mul, mul-div-mul-right}
 use native.Mathlib.Omega.{arith}
-use Rattle.docsis_pie.proofs.delay.time.Statement.{statement}
-use Rattle.docsis_pie.proofs.delay.time.Tie as tie
+use Rattle.docsis_pie.proofs.queueing_delay.time.Statement.{statement}
+use Rattle.docsis_pie.proofs.queueing_delay.time.Tie as tie
 
 same : (n r : ℕ) → n * 8192000000 / r / 8192 ≡ n * 1000000 / r
 same n r =
