@@ -14,7 +14,7 @@ use Rattle.docsis_flow.specs.Arrival.{arrivedState, decisionOf}
 use Rattle.docsis_words.specs.Words.{stateOf, stateWords}
 use Rattle.docsis_words.proofs.Changed.{arrival-words}
 use Rattle.docsis_burst.specs.Words.{pieWords}
-use Rattle.docsis_burst.proofs.Words.{arrived-words, enteredWords, past-decision}
+use Rattle.docsis_burst.proofs.Words.{QueueSame, arrived-words, enteredWords, past-decision}
 
 -- enqueued and marked come first
 admitted-place : (v : Verdict) → ltb (placeOf v) 2 ≡ admitted v
@@ -29,9 +29,8 @@ admits-as d place e b t = sym (admitted-place (d .verdict)) ∙ ap (λ (n : ℕ)
 
 -- the words w after the rules have decided are d
 module _ (w d : List ℕ) (long : length w ≡ 16) where
-  -- the first place is read as it was
-  pub first-read : (q : DocsisPie) → d ≡ pieWords w q → (clock : ℕ) → getD (set d 5 clock) 13 0 ≡ getD w 13 0
-  first-read q k clock = rw k (past-decision clock q w long)
+  pub queue-same : (q : DocsisPie) → d ≡ pieWords w q → (clock : ℕ) → QueueSame w (set d 5 clock)
+  queue-same q k clock = rw k (past-decision clock q w long)
 
   module _ (clock size u place : ℕ) (e : place ≡ placeOf ((decisionOf (stateOf w) size u) .verdict))
       (k : d ≡ pieWords w ((decisionOf (stateOf w) size u) .pie)) where

@@ -4,96 +4,117 @@ use mathlib.Core.Bool.{Bool, true, false, cond, _||_}
 use mathlib.Core.List.{List}
 use Prim.Native.Nat.{ℕ, _+_, _≤_, min}
 use native.Mathlib.Omega.{arith}
-use lib.Dec.{eqb, ltb}
+use lib.Dec.{eqb, leb, ltb}
 use lib.ListN.{getD, length, set}
+use borrow.Author.Tests.{eq-eqb, eqb-true, le-ltb, leb-false, leb-true, lt-ltb, ltb-false, ltb-true, ne-eqb}
 use Rattle.laws.proofs.Choice.{either}
+use Rattle.laws.proofs.Tests.{or-neither}
 use Rattle.units.specs.Kinds.{none}
 use Rattle.pie.specs.Constants.{longest}
-use Rattle.pie.specs.Verdicts.{isEarly, placeOf}
+use Rattle.pie.specs.Verdicts.{placeOf}
 use Rattle.pie.specs.declared.Verdict.{Verdict}
 use Rattle.pie.specs.declared.Verdict.the-variants.{DroppedEarly, Enqueued}
-use Rattle.docsis_pie.specs.Constants.{high, mostProb}
+use Rattle.docsis_pie.specs.Constants.{high, low, mostProb}
 use Rattle.docsis_pie.specs.DropDecision.{afterDrop, cleared, decided, drawn, drawnWith, scaledOf, staysInactive, summed, withAccumulated}
-use Rattle.docsis_pie.specs.DropDecision.{early, isSmall, lightlyLoaded, sumIsHigh, sumIsLow, woken}
+use Rattle.docsis_pie.specs.DropDecision.{early, isSmall, lightlyLoaded, woken}
 use Rattle.docsis_pie.specs.declared.Decided.{Decided}
 use Rattle.docsis_pie.specs.declared.DocsisPie.{DocsisPie}
-use Rattle.docsis_pie.proofs.NeverEarly.{woken-accumulated}
+use Rattle.docsis_pie.proofs.NeverEarly.{low-enqueues, scaled-zero, woken-accumulated, zero-enqueues}
 use Rattle.docsis_flow.specs.Arrival.{decisionOf}
 use Rattle.docsis_words.specs.Words.{pieOf, stateOf}
 use Rattle.docsis_words.proofs.Changed.{Same, same-cleared, same-woken}
 use Rattle.docsis_burst.specs.Words.{pieWords}
-use Rattle.docsis_burst.proofs.Words.{pie-back, pie-buffer, pie-long, pie-same, pie-target, pie-twice, spent-words, sum-pie, sum-target, sum-twice, summed-words}
+use Rattle.docsis_burst.proofs.Words.{pie-back, pie-buffer, pie-long, pie-same, pie-target, pie-twice, spent-words, summed-words}
 
 -- ── rules 7 to 15 ──
 
--- rules 9 to 11 enqueue, in any order
-pub spares : (a : Bool) → false ≡ isEarly (cond a Enqueued Enqueued)
-spares true = refl
-spares false = refl
-
 -- rules 12 and 13, joined
-pub either-drops : (a b : Bool) → a || b ≡ isEarly (cond a DroppedEarly (cond b DroppedEarly Enqueued))
-either-drops true b = refl
-either-drops false true = refl
-either-drops false false = refl
+either-drops : (a b c : Bool) → a || b ≡ c → cond a DroppedEarly (cond b DroppedEarly Enqueued) ≡ cond c DroppedEarly Enqueued
+either-drops true b c e = rw (← e)
+either-drops false b c e = rw (← e)
 
--- the verdict is an early drop, or none
-drawn-place : (pie : DocsisPie) (target bytes scaled u : ℕ) →
-    let v = drawn pie target bytes scaled u in placeOf v ≡ cond (isEarly v) 4 0
-unfolding drawn
-drawn-place pie target bytes scaled u =
-    either P (lightlyLoaded pie target) Enqueued _ refl
-    (either P (isSmall bytes) Enqueued _ refl
-    (either P (sumIsLow pie) Enqueued _ refl
-    (either P (sumIsHigh pie) DroppedEarly _ refl
-    (either P (early scaled u) DroppedEarly Enqueued refl refl))))
+-- whether the sum is low, or high, is told before its limit
+limit-low : (sum : ℕ) → ltb (min sum high) low ≡ ltb sum low
+limit-low sum = go (ltb sum low) refl
   where
-    P : Verdict → Type 0
-    P v = placeOf v ≡ cond (isEarly v) 4 0
+    go : (b : Bool) → ltb sum low ≡ b → ltb (min sum high) low ≡ b
+    go true e = let h = ltb-true sum low e in lt-ltb (min sum high) low (omega arith)
+    go false e = let h = ltb-false sum low e in le-ltb (min sum high) low (omega arith)
 
-module _ (w : List ℕ) (long : length w ≡ 16) (bytes size u part sum : ℕ)
-    (ep : part ≡ scaledOf (getD w 7 0) size) (es : sum ≡ min (getD w 8 0 + part) high)
-    (drops : Bool) (ed : drops ≡ isEarly (drawn (pieOf (set w 8 sum)) (getD (set w 8 sum) 0 0) bytes part u)) where
-  abbrev drawnHere : Decided
-  drawnHere = let s = scaledOf (getD w 7 0) size in drawnWith (summed (pieOf w) s) (getD w 0 0) bytes s u
+limit-high : (sum : ℕ) → eqb (min sum high) high ≡ leb high sum
+limit-high sum = go (leb high sum) refl
+  where
+    go : (b : Bool) → leb high sum ≡ b → eqb (min sum high) high ≡ b
+    go true e = let h = leb-true high sum e in eq-eqb (min sum high) high (omega arith)
+    go false e = let h = leb-false high sum e in ne-eqb (min sum high) high (λ same. omega arith)
+
+module _ (w : List ℕ) (long : length w ≡ 16) (bytes size u : ℕ) where
+  abbrev part : ℕ
+  part = scaledOf (getD w 7 0) size
+
+  abbrev sum : ℕ
+  sum = getD w 8 0 + part
+
+  abbrev summedHere : DocsisPie
+  summedHere = summed (pieOf w) part
+
+  abbrev verdictHere : Verdict
+  verdictHere = drawn summedHere (getD w 0 0) bytes part u
+
+  abbrev light : Bool
+  light = lightlyLoaded (pieOf w) (getD w 0 0)
 
   -- a verdict's place, and the words after the rules
   abbrev Draws : (place : ℕ) (after : List ℕ) → Type 0
-  Draws place after = (place ≡ placeOf (drawnHere .verdict)) × (after ≡ pieWords w (drawnHere .pie))
+  Draws place after =
+      let d = drawnWith summedHere (getD w 0 0) bytes part u in (place ≡ placeOf (d .verdict)) × (after ≡ pieWords w (d .pie))
 
-  abbrev summedHere : DocsisPie
-  summedHere = summed (pieOf w) (scaledOf (getD w 7 0) size)
-
-  -- rule 8
-  summed-pie : pieOf (set w 8 sum) ≡ summedHere
-  summed-pie = rw (es, ep) (sum-pie (scaledOf (getD w 7 0) size) w long)
-
-  abbrev verdictHere : Verdict
-  verdictHere = drawn summedHere (getD w 0 0) bytes (scaledOf (getD w 7 0) size) u
-
-  drops-as : drops ≡ isEarly verdictHere
-  drops-as =
-      ed
-      ∙ ap (λ (q : DocsisPie). isEarly (drawn q (getD (set w 8 sum) 0 0) bytes part u)) summed-pie
-      ∙ ap (λ (t : ℕ). isEarly (drawn summedHere t bytes part u)) (sum-target sum w long)
-      ∙ ap (λ (s : ℕ). isEarly (drawn summedHere (getD w 0 0) bytes s u)) ep
-
-  placed : (b : Bool) → drops ≡ b → placeOf verdictHere ≡ cond b 4 0
-  placed b e =
-      drawn-place summedHere (getD w 0 0) bytes (scaledOf (getD w 7 0) size) u ∙ ap (λ (x : Bool). cond x 4 0) (sym drops-as ∙ e)
-
-  -- rule 15
-  pub early-draws : drops ≡ true → (after : List ℕ) → after ≡ pieWords (set w 8 sum) (afterDrop (pieOf (set w 8 sum))) → Draws 4 after
+  enqueues : verdictHere ≡ Enqueued → Draws 0 (set w 8 (min sum high))
   unfolding drawnWith
-  early-draws e after k =
-      rw (sym drops-as ∙ e) (
-        sym (placed true e),
-        k ∙ sum-twice sum (afterDrop (pieOf (set w 8 sum))) w long ∙ ap (λ (q : DocsisPie). pieWords w (afterDrop q)) summed-pie,
-      )
+  enqueues e = rw e (refl, summed-words part w long)
 
-  pub passed-draws : drops ≡ false → Draws 0 (set w 8 sum)
-  unfolding drawnWith
-  passed-draws e = rw (sym drops-as ∙ e) (sym (placed false e), rw (es, ep) (summed-words (scaledOf (getD w 7 0) size) w long))
+  -- a sum that is not above its limit
+  sums : min sum high ≡ sum → verdictHere ≡ Enqueued → Draws 0 (set w 8 sum)
+  sums same e = let d = enqueues e in (d .0, ap (λ (n : ℕ). set w 8 n) (sym same) ∙ d .1)
+
+  verdict-is : verdictHere
+      ≡ cond light Enqueued
+      (cond (isSmall bytes) Enqueued
+      (cond (ltb sum low) Enqueued
+      (cond (leb high sum) DroppedEarly
+      (cond (early part u) DroppedEarly
+      Enqueued))))
+  unfolding drawn
+  verdict-is = rw (limit-low sum, limit-high sum) refl
+
+  -- rule 9
+  pub light-draws : light ≡ true → Draws 0 (set w 8 (min sum high))
+  light-draws e = enqueues (rw e at verdict-is)
+
+  -- rule 11
+  pub low-draws : ltb sum low ≡ true → Draws 0 (set w 8 sum)
+  low-draws e =
+      let h = ltb-true sum low e in
+      sums (omega arith) (low-enqueues summedHere (getD w 0 0) bytes part u (limit-low sum ∙ e))
+
+  module _ (loaded : light ≡ false) (more : ltb sum low ≡ false) where
+    -- rule 10
+    pub small-draws : isSmall bytes ≡ true → Draws 0 (set w 8 (min sum high))
+    small-draws e = enqueues (rw (loaded, e) at verdict-is)
+
+    module _ (large : isSmall bytes ≡ false) where
+      drawn-last : (b : Bool) → leb high sum || early part u ≡ b → verdictHere ≡ cond b DroppedEarly Enqueued
+      drawn-last b e = rw (loaded, large, more) at verdict-is ∙ either-drops (leb high sum) (early part u) b e
+
+      -- rules 12, 13 and 15
+      pub early-draws : leb high sum || early part u ≡ true → (after : List ℕ) → after ≡ pieWords w (afterDrop (pieOf w)) → Draws 4 after
+      unfolding drawnWith
+      early-draws e after k = rw (drawn-last true e) (refl, k)
+
+      -- rule 14
+      pub passed-draws : leb high sum || early part u ≡ false → Draws 0 (set w 8 sum)
+      passed-draws e =
+          let h = leb-false high sum (or-neither (leb high sum) (early part u) e .0) in sums (omega arith) (drawn-last false e)
 
 -- ── rules 1 to 15 ──
 
@@ -103,6 +124,14 @@ stays-cleared pie buffer bytes =
 
 cleared-low : (pie : DocsisPie) → pie .accumulated .0 ≤ high → (cleared pie) .accumulated .0 ≤ high
 cleared-low pie h = either (λ q. q .accumulated .0 ≤ high) (eqb (pie .prob .0) none) (withAccumulated pie none) pie (omega arith) h
+
+-- rule 4, in the words
+module _ (w : List ℕ) (long : length w ≡ 16) where
+  pub none-cleared : eqb (getD w 7 0) none ≡ true → set w 8 0 ≡ pieWords w (cleared (pieOf w))
+  none-cleared e = rw e (spent-words w long)
+
+  pub some-cleared : eqb (getD w 7 0) none ≡ false → w ≡ pieWords w (cleared (pieOf w))
+  some-cleared e = rw e (pie-same w long)
 
 module _ (w : List ℕ) (long : length w ≡ 16) (size u : ℕ) where
   abbrev pub Decides : (place : ℕ) (after : List ℕ) → Type 0
@@ -196,6 +225,21 @@ module _ (w : List ℕ) (long : length w ≡ 16) (size u : ℕ) where
                     ∙ ap (λ (x : Decided). pieWords w (x .pie)) ruled-same,
               )
 
+          -- where p is 0, so is the sum
+          pub none-wakes : eqb (getD w 7 0) none ≡ true → Decides 0 d
+          unfolding stateOf decisionOf decided drawnWith
+          none-wakes z =
+              let p : getD w 7 0 ≡ none = eqb-true (getD w 7 0) none z in
+              let scaled = scaledOf (getD w 7 0) size in
+              let zero : (cleared (pieOf w)) .accumulated .0 ≡ 0 = rw z in
+              let same : min (awake .accumulated .0 + scaled) high ≡ awake .accumulated .0 =
+              omega (arith, woken-accumulated (cleared (pieOf w)), zero, scaled-zero (getD w 7 0) size p) in
+              rw (fit, free, spent, sym stays-as ∙ wakes, zero-enqueues (pieOf w) (getD w 0 0) (getD w 15 0) size u p) (
+                refl,
+                awake-words
+                    ∙ ap (λ (n : ℕ). set (set (set w 8 n) 10 (awake .allowance .0)) 12 (awake .phase .activity .0)) (sym same),
+              )
+
           -- what the rules are given
           pub awake-long : length d ≡ 16
           awake-long = rw awake-words (pie-long awake w long)
@@ -207,3 +251,11 @@ module _ (w : List ℕ) (long : length w ≡ 16) (size u : ℕ) where
               let old = ap (λ (q : DocsisPie). q .old .0) awake-pie ∙ same-awake .1 in
               let sum = ap (λ (q : DocsisPie). q .accumulated .0) awake-pie ∙ woken-accumulated (cleared (pieOf w)) in
               (rw prob p, rw sum (cleared-low (pieOf w) a), rw old o)
+
+        -- whether it wakes or not
+        pub none-decides : eqb (getD w 7 0) none ≡ true → Decides 0 d
+        none-decides z = go stays refl
+          where
+            go : (b : Bool) → stays ≡ b → Decides 0 d
+            go true e = stays-decide e
+            go false e = none-wakes e z

@@ -69,7 +69,7 @@ module _ (counts : List (List ℕ)) (flow : ℕ) (s : State) (row : List ℕ) wh
       uncounted-unless counts flow (flow-departure.departureRefusal s row (length handles) (length sizes) clock (headOf s sizes)) s
       (departureOf s handles sizes clock) refl
 
-  tick-uncounted : (clock credits : ℕ) → Uncounted counts flow (flow-tick.tick s row clock credits)
+  pub tick-uncounted : (clock credits : ℕ) → Uncounted counts flow (flow-tick.tick s row clock credits)
   unfolding flow-tick.tick countsAfter
   tick-uncounted clock credits = uncounted-unless counts flow (flow-tick.tickRefusal s row clock) s (tickOf s clock credits) refl
 

@@ -3,16 +3,15 @@ use mathlib.Core.Path.{_≡_, refl, subst⁻¹}
 use mathlib.Core.Bool.{Bool, true, false, cond}
 use mathlib.Core.List.{List}
 use Prim.Native.Nat.{ℕ, _+_, _-_, _%_, min}
-use native.Mathlib.Omega.{arith}
-use lib.Dec.{ltb}
 use lib.ListN.{getD, length, set}
-use borrow.Author.Tests.{ltb-false}
 use Rattle.units.specs.Kinds.{none}
 use Rattle.pie.specs.Backlog.{entered}
 use Rattle.pie.specs.Verdicts.{admitted}
-use Rattle.docsis_pie.specs.Constants.{active, fullAllowance, high, period, quiescent}
+use Rattle.docsis_pie.specs.Constants.{active, fullAllowance, high, quiescent}
+use Rattle.docsis_pie.specs.Delay.{delayOf}
 use Rattle.docsis_pie.specs.DropDecision.{summed, withAccumulated, withActivity, withAllowance}
-use Rattle.docsis_pie.specs.Update.{updated}
+use Rattle.docsis_pie.specs.Probability.{nextProb}
+use Rattle.docsis_pie.specs.Update.{isQuiet, nextAllowance, phase, phaseAfter, updated}
 use Rattle.docsis_pie.specs.declared.Decided.{Decided}
 use Rattle.docsis_pie.specs.declared.DocsisPie.{DocsisPie}
 use Rattle.docsis_flow.specs.Arrival.{arrivedState}
@@ -21,7 +20,7 @@ use Rattle.docsis_flow.specs.Tick.{tickedState}
 use Rattle.docsis_words.specs.Words.{arrivalWords, backlogOf, pieOf, stateOf, stateWords}
 use Rattle.words.proofs.Written.{listed, written-out}
 use Rattle.docsis_words.proofs.Changed.{Same}
-use Rattle.docsis_burst.specs.Words.{pieWords}
+use Rattle.docsis_burst.specs.Words.{phaseWords, pieWords}
 
 -- what holds of any sixteen words written out holds of sixteen words
 pub for-words : (P : List ℕ → Type 0) → ((f : ℕ → ℕ) → P (listed 16 f)) → (w : List ℕ) → length w ≡ 16 → P w
@@ -59,21 +58,6 @@ spent-words = for-words (λ w. set w 8 0 ≡ pieWords w (withAccumulated (pieOf 
 pub summed-words : (n : ℕ) (w : List ℕ) → length w ≡ 16 → set w 8 (min (getD w 8 0 + n) high) ≡ pieWords w (summed (pieOf w) n)
 summed-words n = for-words (λ w. set w 8 (min (getD w 8 0 + n) high) ≡ pieWords w (summed (pieOf w) n)) (λ f. refl)
 
-pub sum-pie : (n : ℕ) (w : List ℕ) → length w ≡ 16 → pieOf (set w 8 (min (getD w 8 0 + n) high)) ≡ summed (pieOf w) n
-sum-pie n = for-words (λ w. pieOf (set w 8 (min (getD w 8 0 + n) high)) ≡ summed (pieOf w) n) (λ f. refl)
-
-pub sum-twice : (n : ℕ) (q : DocsisPie) (w : List ℕ) → length w ≡ 16 → pieWords (set w 8 n) q ≡ pieWords w q
-sum-twice n q = for-words (λ w. pieWords (set w 8 n) q ≡ pieWords w q) (λ f. refl)
-
-pub sum-target : (n : ℕ) (w : List ℕ) → length w ≡ 16 → getD (set w 8 n) 0 0 ≡ getD w 0 0
-sum-target n = for-words (λ w. getD (set w 8 n) 0 0 ≡ getD w 0 0) (λ f. refl)
-
-pub sum-fits : (n : ℕ) (w : List ℕ) → length w ≡ 16 → (getD (set w 8 n) 7 0 ≡ getD w 7 0) × (getD (set w 8 n) 9 0 ≡ getD w 9 0)
-sum-fits n = for-words (λ w. (getD (set w 8 n) 7 0 ≡ getD w 7 0) × (getD (set w 8 n) 9 0 ≡ getD w 9 0)) (λ f. (refl, refl))
-
-pub sum-long : (n : ℕ) (w : List ℕ) → length w ≡ 16 → length (set w 8 n) ≡ 16
-sum-long n = for-words (λ w. length (set w 8 n) ≡ 16) (λ f. refl)
-
 -- rule 6
 pub woken-words : (w : List ℕ) → length w ≡ 16 → set w 12 quiescent ≡ pieWords w (withActivity (pieOf w) quiescent)
 woken-words = for-words (λ w. set w 12 quiescent ≡ pieWords w (withActivity (pieOf w) quiescent)) (λ f. refl)
@@ -109,35 +93,50 @@ arrived-words clock size d =
     go f true = refl
     go f false = refl
 
--- what the rules of a tick are given: none reads the accumulated probability
-abbrev tickGiven : List ℕ → (credits : ℕ) → DocsisPie
-tickGiven w credits =
-    updated (withAccumulated (pieOf w) none) (getD w 0 0) (getD w 15 0) credits (getD w 3 0) (getD w 4 0)
+-- ── a tick ──
 
--- both clocks, probability, old delay, reset time and activity
-abbrev tickWritten : List ℕ → (clock : ℕ) → DocsisPie → List ℕ
-tickWritten w clock next =
-    let early = set (set (set w 5 clock) 6 clock) 7 (next .prob .0) in
-    set (set (set early 9 (next .old .0)) 11 (next .phase .reset .0)) 12 (next .phase .activity .0)
+-- a phase that stays
+pub phase-same : (w : List ℕ) → length w ≡ 16 → w ≡ phaseWords w (pieOf w .phase)
+phase-same = for-words (λ w. w ≡ phaseWords w (pieOf w .phase)) (λ f. refl)
+
+-- an activity that stays
+pub activity-same : (to reset : ℕ) (w : List ℕ) → length w ≡ 16 → getD w 12 0 ≡ to → set w 11 reset ≡ phaseWords w (phase to reset)
+activity-same to reset = for-words (λ w. getD w 12 0 ≡ to → set w 11 reset ≡ phaseWords w (phase to reset)) (λ f e. rw (← e) refl)
+
+-- both clocks, probability, old delay and allowance
+abbrev pub tickWritten : List ℕ → (clock p delay allowance : ℕ) → List ℕ
+tickWritten w clock p delay allowance = set (set (set (set (set w 5 clock) 6 clock) 7 p) 9 delay) 10 allowance
+
+-- what is written before the phase leaves it
+pub tick-before : (clock p delay allowance : ℕ) (w : List ℕ) → length w ≡ 16 →
+    let v = tickWritten w clock p delay allowance in (length v ≡ 16) × (getD v 11 0 ≡ getD w 11 0)
+tick-before clock p delay allowance =
+    for-words
+    (λ w. let v = tickWritten w clock p delay allowance in (length v ≡ 16) × (getD v 11 0 ≡ getD w 11 0))
+    (λ f. (refl, refl))
 
 pub ticked-words : (clock credits : ℕ) (w : List ℕ) → length w ≡ 16 →
-    set (tickWritten w clock (tickGiven w credits)) 10 (tickGiven w credits .allowance .0) ≡ stateWords (tickedState (stateOf w) clock credits)
+    let target = getD w 0 0 in
+    let old = getD w 9 0 in
+    let delay = delayOf (getD w 15 0) credits (getD w 3 0) (getD w 4 0) in
+    let p = nextProb (getD w 7 0) (getD w 10 0) delay old target in
+    let allowance = nextAllowance (getD w 10 0) in
+    let v = tickWritten w clock p delay allowance in
+    phaseWords v (phaseAfter (isQuiet p allowance delay old target) (pieOf v .phase)) ≡ stateWords (tickedState (stateOf w) clock credits)
 unfolding stateOf stateWords tickedState updated
 ticked-words clock credits =
     for-words
     (λ w.
-    set (tickWritten w clock (tickGiven w credits)) 10 (tickGiven w credits .allowance .0)
-    ≡ stateWords (tickedState (stateOf w) clock credits))
+    let target = getD w 0 0 in
+    let old = getD w 9 0 in
+    let delay = delayOf (getD w 15 0) credits (getD w 3 0) (getD w 4 0) in
+    let p = nextProb (getD w 7 0) (getD w 10 0) delay old target in
+    let allowance = nextAllowance (getD w 10 0) in
+    let v = tickWritten w clock p delay allowance in
+    phaseWords v (phaseAfter (isQuiet p allowance delay old target) (pieOf v .phase)) ≡ stateWords (tickedState (stateOf w) clock credits))
     (λ f. refl)
 
--- an allowance of 0 stays
-pub idle-words : (clock credits : ℕ) (w : List ℕ) → length w ≡ 16 → ltb 0 (getD w 10 0) ≡ false →
-    tickWritten w clock (tickGiven w credits) ≡ stateWords (tickedState (stateOf w) clock credits)
-unfolding stateOf stateWords tickedState updated
-idle-words clock credits =
-    for-words
-    (λ w. ltb 0 (getD w 10 0) ≡ false → tickWritten w clock (tickGiven w credits) ≡ stateWords (tickedState (stateOf w) clock credits))
-    (λ f e. let n : f 10 - period ≡ f 10 = omega (arith, ltb-false 0 (f 10) e) in rw n)
+-- ── a departure ──
 
 -- clock, first place, count and bytes
 pub departed-words : (clock size : ℕ) (w : List ℕ) → length w ≡ 16 →
@@ -151,6 +150,11 @@ departed-words clock size =
     ≡ stateWords (departedState (stateOf w) clock size))
     (λ f. refl)
 
--- the first place is read after the clock is written
-pub past-decision : (clock : ℕ) (q : DocsisPie) (w : List ℕ) → length w ≡ 16 → getD (set (pieWords w q) 5 clock) 13 0 ≡ getD w 13 0
-past-decision clock q = for-words (λ w. getD (set (pieWords w q) 5 clock) 13 0 ≡ getD w 13 0) (λ f. refl)
+-- slots, first place, count and bytes are as they were
+abbrev pub QueueSame : (w next : List ℕ) → Type 0
+QueueSame w next =
+    (getD next 2 0 ≡ getD w 2 0) × (getD next 13 0 ≡ getD w 13 0) × (getD next 14 0 ≡ getD w 14 0) × (getD next 15 0 ≡ getD w 15 0)
+
+-- after the rules of an arrival, and with its clock
+pub past-decision : (clock : ℕ) (q : DocsisPie) (w : List ℕ) → length w ≡ 16 → QueueSame w (set (pieWords w q) 5 clock)
+past-decision clock q = for-words (λ w. QueueSame w (set (pieWords w q) 5 clock)) (λ f. (refl, refl, refl, refl))

@@ -9,17 +9,16 @@ use docsis_pie::scaled;
 use docsis_words::raise;
 use pie::LARGEST;
 use pie::LATEST;
-use ring::place;
 use units::Bytes;
 use units::Prob;
 ghost use mathlib.Core.Path.{_≡_};
 ghost use mathlib.Core.Bool.{cond, true};
-ghost use Prim.Native.Nat.{_+_, _≤_, _<_, _^_, min};
+ghost use Prim.Native.Nat.{_+_, _%_, _≤_, _<_, _^_, min};
 ghost use lib.ListN.{getD, length};
 ghost use Rattle.pie.specs.Constants.{largest, longest};
-ghost use Rattle.pie.specs.Verdicts.{isEarly, placeOf};
-ghost use Rattle.docsis_pie.specs.Constants.{high, low, mostProb};
-ghost use Rattle.docsis_pie.specs.DropDecision.{afterDrop, cleared, drawn, drawnWith, scaledOf, staysInactive, summed, woken};
+ghost use Rattle.pie.specs.Verdicts.{placeOf};
+ghost use Rattle.docsis_pie.specs.Constants.{high, mostProb};
+ghost use Rattle.docsis_pie.specs.DropDecision.{afterDrop, drawnWith, scaledOf, staysInactive, summed, woken};
 ghost use Rattle.docsis_flow.specs.Arrival.{arrival, decisionOf, stored};
 ghost use Rattle.docsis_flow.specs.State.{formed};
 ghost use Rattle.docsis.specs.Counts.{countsAfter, rowOf};
@@ -27,17 +26,6 @@ ghost use Rattle.words.specs.Codes.{codeOf};
 ghost use Rattle.docsis_words.specs.Words.{pieOf, stateOf, stateWords};
 ghost use Rattle.docsis_burst.specs.Burst.{Ready, lent};
 ghost use Rattle.docsis_burst.specs.Words.{pieWords};
-
-// Rule 4.
-fn clear(w: &mut [u64; 16])
-    requires { ⌜ length (now w) ≡ 16 ⌝ }
-    ensures { λ _. ⌜ now (w .exit) ≡ pieWords (now (w .entry)) (cleared (pieOf (now (w .entry)))) ⌝ }
-{
-    let none = w[7] == 0;
-    if none {
-        w[8] = 0;
-    }
-}
 
 // Rule 5: whether the flow stays inactive. Rule 6 where it does not.
 fn rests(w: &mut [u64; 16], bytes: u64) -> bool
@@ -58,11 +46,9 @@ fn rests(w: &mut [u64; 16], bytes: u64) -> bool
 }
 
 // Rule 8.
-fn add(accumulated: u64, part: u64) -> u64
-    requires { ⌜ (accumulated ≤ high) × (part ≤ low) ⌝ }
-    ensures { λ r. ⌜ r ≡ min (accumulated + part) high ⌝ }
+fn limit(sum: u64) -> u64
+    ensures { λ r. ⌜ r ≡ min sum high ⌝ }
 {
-    let sum = accumulated + part;
     if sum < HIGH {
         return sum;
     }
@@ -82,29 +68,8 @@ fn drop_early(w: &mut [u64; 16])
     }
 }
 
-// Rules 9 to 14, after rule 8: whether the packet is dropped early. Of rules 9 to 11, which all enqueue, the cheapest come first.
-fn drops(w: &[u64; 16], bytes: u64, part: u64, calls: &[u32], at: usize) -> bool
-    requires { ⌜ (getD (now w) 7 0 ≤ mostProb) × (getD (now w) 9 0 ≤ longest) × (at + 5 < length (now calls)) ⌝ }
-    ensures { λ r. ⌜ r
-        ≡ isEarly (drawn (pieOf (now (w .entry))) (getD (now (w .entry)) 0 0) bytes part (getD (now (calls .entry)) (at + 4) 0)) ⌝ }
-{
-    let small = bytes <= SMALL_QUEUE;
-    if small {
-        return false;
-    }
-    let sum = w[8];
-    let low = sum < LOW;
-    if low {
-        return false;
-    }
-    let lightly_loaded = (2 * w[9] < w[0]) & (5 * w[7] < Prob::WHOLE.0);
-    if lightly_loaded {
-        return false;
-    }
-    (sum == HIGH) | (wide(calls[at + 4]) < part)
-}
-
-// Rules 7 to 15: gives the place of the verdict.
+// Rules 7 to 15: gives the place of the verdict. Of rules 9 to 11, which all enqueue, those come first that only ticks change or that most
+// packets meet.
 fn draw(w: &mut [u64; 16], bytes: u64, size: u64, calls: &[u32], at: usize) -> usize
     requires { ⌜ (length (now w) ≡ 16) × (size ≤ largest) × (at + 5 < length (now calls)) ⌝ }
     requires { ⌜ (getD (now w) 7 0 ≤ mostProb) × (getD (now w) 8 0 ≤ high) × (getD (now w) 9 0 ≤ longest) ⌝ }
@@ -113,17 +78,34 @@ fn draw(w: &mut [u64; 16], bytes: u64, size: u64, calls: &[u32], at: usize) -> u
         let d = drawnWith (summed pie part) (getD (now (w .entry)) 0 0) bytes part (getD (now (calls .entry)) (at + 4) 0) in
         (r ≡ placeOf (d .verdict)) × (now (w .exit) ≡ pieWords (now (w .entry)) (d .pie))) ⌝ }
 {
-    let part = scaled(Prob(w[7]), Bytes(size)).0;
-    w[8] = add(w[8], part);
-    let early = drops(w, bytes, part, calls, at);
+    let p = w[7];
+    let part = scaled(Prob(p), Bytes(size)).0;
+    let sum = w[8] + part;
+    let lightly_loaded = (2 * w[9] < w[0]) & (5 * p < Prob::WHOLE.0);
+    if lightly_loaded {
+        w[8] = limit(sum);
+        return 0;
+    }
+    let low = sum < LOW;
+    if low {
+        w[8] = sum;
+        return 0;
+    }
+    let small = bytes <= SMALL_QUEUE;
+    if small {
+        w[8] = limit(sum);
+        return 0;
+    }
+    let early = (HIGH <= sum) | (wide(calls[at + 4]) < part);
     if early {
         drop_early(w);
         return 4;
     }
+    w[8] = sum;
     0
 }
 
-// Rules 1 to 15: gives the place of the verdict.
+// Rules 1 to 15: gives the place of the verdict. Where p is 0, rule 11 enqueues whatever the others say.
 fn decide(w: &mut [u64; 16], size: u64, calls: &[u32], at: usize) -> usize
     requires { ⌜ (length (now w) ≡ 16) × (formed (stateOf (now w)) ≡ true) × (size ≤ largest) × (at + 5 < length (now calls)) ⌝ }
     ensures { λ r. ⌜ (let d = decisionOf (stateOf (now (w .entry))) size (getD (now (calls .entry)) (at + 4) 0) in
@@ -144,12 +126,29 @@ fn decide(w: &mut [u64; 16], size: u64, calls: &[u32], at: usize) -> usize
     if in_allowance {
         return 0;
     }
-    clear(w);
+    let none = w[7] == 0;
+    if none {
+        w[8] = 0;
+        rests(w, bytes);
+        return 0;
+    }
     let stays = rests(w, bytes);
     if stays {
         return 0;
     }
     draw(w, bytes, size, calls, at)
+}
+
+// Where the packet behind `count` from `first` on stands: `ring::place`, without a jump (docs/PERFORMANCE.md).
+fn tail_place(first: u64, count: u64, slots: u64) -> u64
+    requires { ⌜ (first < slots) × (count ≤ slots) × (slots ≤ 65536) ⌝ }
+    ensures { λ r. ⌜ r ≡ (first + count) % slots ⌝ }
+{
+    let left = slots - count;
+    if first < left {
+        return first + count;
+    }
+    first - left
 }
 
 // A packet arrives.
@@ -185,17 +184,14 @@ pub(crate) fn arrive(
     if wrong_size {
         return 107;
     }
-    let slots = w[2];
-    let count = w[14];
-    let queued = w[15];
     let v = decide(w, bytes, calls, at);
     w[5] = clock;
     raise(counts, flow, v);
     let admits = v < 2;
     if admits {
-        let tail = place(w[13], count, slots) as usize;
-        w[14] = count + 1;
-        w[15] = queued + bytes;
+        let tail = tail_place(w[13], w[14], w[2]) as usize;
+        w[14] = w[14] + 1;
+        w[15] = w[15] + bytes;
         handles[tail] = calls[at + 2];
         sizes[tail] = size;
     }

@@ -14,14 +14,14 @@ ghost use Rattle.docsis_flow.specs.Departure.{departure};
 ghost use Rattle.docsis_words.specs.Words.{stateOf, stateWords};
 ghost use Rattle.docsis_burst.specs.Burst.{Fitting, answerWord};
 
-// (first + 1) modulo slots.
+// (first + 1) modulo slots, without a jump (docs/PERFORMANCE.md).
 fn following(first: u64, slots: u64) -> u64
     requires { ⌜ (first < slots) × (slots ≤ 65536) ⌝ }
     ensures { λ r. ⌜ r ≡ (first + 1) % slots ⌝ }
 {
-    let next = first + 1;
-    if next < slots {
-        return next;
+    let last = slots - 1;
+    if first < last {
+        return first + 1;
     }
     0
 }

@@ -119,32 +119,29 @@ returns-2 c =
     let e = c .before .obikuteru-modem-departure .ensures in
     departure-step (a .args .flow) w n h z k (a .args .at) (t .result) (t .ensures) (c .before .before .before .before .before .before .before .before .if1 .left) (c .before .before .before .before .before .before .before .if2 .taken) _ _ (rw (e .0, e .3) at (c .word .ensures)) (e .1) (e .2)
 
-add-obikuteru-modem-tick : tie.Need-add-obikuteru-modem-tick
-add-obikuteru-modem-tick c = search needs
+add-single-tick : tie.Need-add-single-tick
+add-single-tick c = search needs
 
-mul-obikuteru-modem-tick : tie.Need-mul-obikuteru-modem-tick
-mul-obikuteru-modem-tick c = search needs
+mul-single-tick : tie.Need-mul-single-tick
+mul-single-tick c = search needs
 
-shared-slice-read-obikuteru-modem-tick : tie.Need-shared-slice-read-obikuteru-modem-tick
-shared-slice-read-obikuteru-modem-tick c = search needs
+shared-slice-read-single-tick : tie.Need-shared-slice-read-single-tick
+shared-slice-read-single-tick c = search needs
 
-obikuteru-modem-tick-requires : tie.Need-obikuteru-modem-tick-requires
-obikuteru-modem-tick-requires c κs = search needs
-
-wide-requires-2 : tie.Need-wide-requires-2
-wide-requires-2 c κs = search needs
+single-tick-requires : tie.Need-single-tick-requires
+single-tick-requires c κs = search needs
 
 returns-3 : tie.Need-returns-3
 returns-3 c =
-    let a = c .before .before .before .before .before .before .before .before .before .before .before .before .before .before .before in
+    let a = c .before .before .before .before .before .before .before .before .before .before .before .before .before .before in
     let w = now (a .args .w) in
     let n = now (a .args .counts) in
     let h = now (a .args .handles) in
     let z = now (a .args .sizes) in
     let k = now (a .args .calls) in
-    let t = c .before .before .before .before .before .before .before .before .before .clock-of in
-    let e = c .before .obikuteru-modem-tick .ensures in
-    tick-step (a .args .flow) w n h z k (a .args .at) (t .result) (t .ensures) (c .before .before .before .before .before .before .before .if1 .left) (c .before .before .before .before .before .before .if2 .left) (c .before .before .before .before .before .if3 .taken) _ _ (c .wide2 .ensures ∙ e .0) (e .1) (e .2)
+    let t = c .before .before .before .before .before .before .before .before .clock-of in
+    let e = c .single-tick .ensures in
+    tick-step (a .args .flow) w n h z k (a .args .at) (t .result) (t .ensures) (c .before .before .before .before .before .before .if1 .left) (c .before .before .before .before .before .if2 .left) (c .before .before .before .before .if3 .taken) _ _ (e .0) (e .1) (e .2)
 
 returns-4 : tie.Need-returns-4
 returns-4 c =
@@ -185,10 +182,9 @@ single-spec =
     same-length-3
     same-length-4
     returns-2
-    add-obikuteru-modem-tick
-    mul-obikuteru-modem-tick
-    shared-slice-read-obikuteru-modem-tick
-    obikuteru-modem-tick-requires
-    wide-requires-2
+    add-single-tick
+    mul-single-tick
+    shared-slice-read-single-tick
+    single-tick-requires
     returns-3
     returns-4)

@@ -2,15 +2,14 @@
 use borrow.Author.Needs.{needs}
 use Rattle.docsis_burst.proofs.arriving.decide.Statement.{statement}
 use Rattle.docsis_burst.proofs.arriving.decide.Tie as tie
+use mathlib.Core.Path.{_∙_}
 use Prim.Native.Nat.{ℕ, _+_}
 use native.Mathlib.Omega.{arith}
-use lib.ListN.{getD}
+use lib.ListN.{getD, length-set}
 use denote.Ref.{now}
-use Rattle.docsis_pie.specs.DropDecision.{cleared}
 use Rattle.docsis_flow.proofs.Facts.{Facts, facts}
-use Rattle.docsis_words.specs.Words.{pieOf, stateOf}
-use Rattle.docsis_burst.proofs.Decisions.{allowance-decides, awake-fits, awake-long, bytes-decide, drawn-decides, slots-decide, stays-decide}
-use Rattle.docsis_burst.proofs.Words.{pie-long}
+use Rattle.docsis_words.specs.Words.{stateOf}
+use Rattle.docsis_burst.proofs.Decisions.{allowance-decides, awake-fits, awake-long, bytes-decide, drawn-decides, none-cleared, none-decides, slots-decide, some-cleared, stays-decide}
 
 known : (a : tie.Start) → Facts (stateOf (now (a .args .w)))
 known a = facts _ (a .pre .1)
@@ -54,42 +53,61 @@ returns-3 c =
     let a = c .before .before .before .before .before .before .before .before .before in
     allowance-decides (now (a .args .w)) (a .pre .0) (a .args .size) (uAt a) (c .before .before .before .before .before .if1 .left) (c .before .before .if2 .left) (c .if3 .taken)
 
-clear-requires : tie.Need-clear-requires
-clear-requires c κs = search needs
+element-copy-out-none : tie.Need-element-copy-out-none
+element-copy-out-none c = search needs
+
+element-write-w-3 : tie.Need-element-write-w-3
+element-write-w-3 c = search needs
 
 rests-requires : tie.Need-rests-requires
 unfolding stateOf
 rests-requires c κs =
     let a = c .before .before .before .before .before .before .before .before .before .before .before .before in
-    let f = known a in
-    (rw (c .before .clear .ensures) (pie-long (cleared (pieOf (now (a .args .w)))) (now (a .args .w)) (a .pre .0)), omega (arith, f .bytes-fit, f .buffer-high))
+    let f = known a in (length-set (now (a .args .w)) 8 0 ∙ a .pre .0, omega (arith, f .bytes-fit, f .buffer-high))
 
 returns-4 : tie.Need-returns-4
 returns-4 c =
+    let a = c .before .before .before .before .before .before .before .before .before .before .before .before .before in
+    let w = now (a .args .w) in
+    let r = c .rests .ensures in
+    let none = c .before .before .if4 .taken in
+    none-decides w (a .pre .0) (a .args .size) (uAt a) (c .before .before .before .before .before .before .before .before .before .if1 .left) (c .before .before .before .before .before .before .if2 .left) (c .before .before .before .before .if3 .left) _ _ _ (none-cleared w (a .pre .0) none) (r .0) (r .1) none
+
+rests-requires-2 : tie.Need-rests-requires-2
+unfolding stateOf
+rests-requires-2 c κs = let a = c .before .before .before .before .before .before .before .before .before .before .before .before in let f = known a in (a .pre .0, omega (arith, f .bytes-fit, f .buffer-high))
+
+returns-5 : tie.Need-returns-5
+returns-5 c =
     let a = c .before .before .before .before .before .before .before .before .before .before .before .before .before .before in
-    let r = c .before .rests .ensures in
-    stays-decide (now (a .args .w)) (a .pre .0) (a .args .size) (uAt a) (c .before .before .before .before .before .before .before .before .before .before .if1 .left) (c .before .before .before .before .before .before .before .if2 .left) (c .before .before .before .before .before .if3 .left) _ _ _ (c .before .before .before .clear .ensures) (r .0) (r .1) (c .if4 .taken)
+    let w = now (a .args .w) in
+    let r = c .before .rests2 .ensures in
+    let some = some-cleared w (a .pre .0) (c .before .before .before .if4 .left) in
+    stays-decide w (a .pre .0) (a .args .size) (uAt a) (c .before .before .before .before .before .before .before .before .before .before .if1 .left) (c .before .before .before .before .before .before .before .if2 .left) (c .before .before .before .before .before .if3 .left) _ _ _ some (r .0) (r .1) (c .if5 .taken)
 
 draw-requires : tie.Need-draw-requires
 unfolding stateOf
 draw-requires c κs =
     let a = c .before .before .before .before .before .before .before .before .before .before .before .before .before .before .before in
     let f = known a in
-    let r = c .before .before .rests .ensures in
-    let w = now (a .args .w) in (
+    let w = now (a .args .w) in
+    let r = c .before .before .rests2 .ensures in
+    let some = some-cleared w (a .pre .0) (c .before .before .before .before .if4 .left) in (
       (
-        awake-long w (a .pre .0) (a .args .size) (uAt a) (c .before .before .before .before .before .before .before .before .before .before .before .if1 .left) (c .before .before .before .before .before .before .before .before .if2 .left) (c .before .before .before .before .before .before .if3 .left) _ _ _ (c .before .before .before .before .clear .ensures) (r .0) (r .1) (c .before .if4 .left),
+        awake-long w (a .pre .0) (a .args .size) (uAt a) (c .before .before .before .before .before .before .before .before .before .before .before .if1 .left) (c .before .before .before .before .before .before .before .before .if2 .left) (c .before .before .before .before .before .before .if3 .left) _ _ _ some (r .0) (r .1) (c .before .if5 .left),
         a .pre .2,
         a .pre .3,
       ),
-      awake-fits w (a .pre .0) (a .args .size) (uAt a) (c .before .before .before .before .before .before .before .before .before .before .before .if1 .left) (c .before .before .before .before .before .before .before .before .if2 .left) (c .before .before .before .before .before .before .if3 .left) _ _ _ (c .before .before .before .before .clear .ensures) (r .0) (r .1) (c .before .if4 .left) (f .prob-high) (f .accumulated-high) (f .old-high),
+      awake-fits w (a .pre .0) (a .args .size) (uAt a) (c .before .before .before .before .before .before .before .before .before .before .before .if1 .left) (c .before .before .before .before .before .before .before .before .if2 .left) (c .before .before .before .before .before .before .if3 .left) _ _ _ some (r .0) (r .1) (c .before .if5 .left) (f .prob-high) (f .accumulated-high) (f .old-high),
     )
 
-returns-5 : tie.Need-returns-5
-returns-5 c =
+returns-6 : tie.Need-returns-6
+returns-6 c =
     let a = c .before .before .before .before .before .before .before .before .before .before .before .before .before .before .before .before in
-    let r = c .before .before .before .rests .ensures in
-    drawn-decides (now (a .args .w)) (a .pre .0) (a .args .size) (uAt a) (c .before .before .before .before .before .before .before .before .before .before .before .before .if1 .left) (c .before .before .before .before .before .before .before .before .before .if2 .left) (c .before .before .before .before .before .before .before .if3 .left) _ _ _ (c .before .before .before .before .before .clear .ensures) (r .0) (r .1) (c .before .before .if4 .left) _ _ (c .draw .ensures)
+    let w = now (a .args .w) in
+    let r = c .before .before .before .rests2 .ensures in
+    let some = some-cleared w (a .pre .0) (c .before .before .before .before .before .if4 .left) in
+    drawn-decides w (a .pre .0) (a .args .size) (uAt a) (c .before .before .before .before .before .before .before .before .before .before .before .before .if1 .left) (c .before .before .before .before .before .before .before .before .before .if2 .left) (c .before .before .before .before .before .before .before .if3 .left) _ _ _ some (r .0) (r .1) (c .before .before .if5 .left) _ _ (c .draw .ensures)
 
 pub decide-spec : {M : Type 1} → statement M
 decide-spec =
@@ -106,8 +124,11 @@ decide-spec =
     returns-2
     element-copy-out-in-allowance
     returns-3
-    clear-requires
+    element-copy-out-none
+    element-write-w-3
     rests-requires
     returns-4
+    rests-requires-2
+    returns-5
     draw-requires
-    returns-5)
+    returns-6)
