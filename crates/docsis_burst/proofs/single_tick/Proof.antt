@@ -12,7 +12,7 @@ use Rattle.docsis_flow.specs.State.{wellFormed}
 use Rattle.docsis_flow.proofs.Facts.{record-formed, row-fits}
 use Rattle.docsis.specs.Calls.{flowRefused, tick}
 use Rattle.docsis.specs.Counts.{rowOf}
-use Rattle.docsis_capi.specs.Words.{stateOf}
+use Rattle.docsis_words.specs.Words.{stateOf}
 use Rattle.docsis_burst.proofs.Kept.{within}
 use Rattle.docsis_burst.proofs.Within.{tick-uncounted}
 
