@@ -31,17 +31,12 @@ static uint32_t find(struct found *found, struct obikuteru_part *note)
     return answer;
 }
 
-/* Opens a file of the folder for writing, or says that it cannot be. */
+/* Opens a file of the folder for writing; null where that cannot be. */
 static FILE *create(const char *folder, const char *name)
 {
     char path[4096];
-    FILE *to;
 
-    if (snprintf(path, sizeof path, "%s/%s", folder, name) >= (int)sizeof path || (to = fopen(path, "w")) == NULL) {
-        say("the file '%s/%s' cannot be written.", folder, name);
-        return NULL;
-    }
-    return to;
+    return snprintf(path, sizeof path, "%s/%s", folder, name) < (int)sizeof path ? fopen(path, "w") : NULL;
 }
 
 static bool written(FILE *to)
@@ -49,6 +44,7 @@ static bool written(FILE *to)
     return ferror(to) == 0 && fclose(to) == 0;
 }
 
+/* Whether all parts are written whole. */
 static bool write_parts(const char *folder, const char *log, const struct found *found, struct obikuteru_part note)
 {
     FILE *head = create(folder, "head"), *questions = create(folder, "questions");
@@ -63,6 +59,19 @@ static bool write_parts(const char *folder, const char *log, const struct found 
     return written(head) & written(questions) & written(columns) & written(target);
 }
 
+/* What a refusal of the reader is for. */
+static const char *reason_of(uint32_t refusal)
+{
+    switch (refusal) {
+    case OBIKUTERU_REFUSED_LOG:
+        return "trailer or length";
+    case OBIKUTERU_REFUSED_HEADER:
+        return "settings";
+    default:
+        return "a record";
+    }
+}
+
 int main(int argc, char **argv)
 {
     struct found found = {0};
@@ -74,10 +83,11 @@ int main(int argc, char **argv)
     if (!read_log(argv[1], &file))
         return FAILED;
     if (obikuteru_refused(find(&found, &note)))
-        return say("'%s' is no log that the reader accepts: refusal %" PRIu32 ".", argv[1], found.answer - 100);
+        return say("'%s' is no log that the reader accepts: refusal %" PRIu32 " (%s).", argv[1], found.answer - 100,
+                   reason_of(found.answer));
     walk_log(&walk, file.bytes, file.length, found.answer == OBIKUTERU_ACCEPTED ? UINT64_MAX : found.replayed.record);
     name = strrchr(argv[1], '/');
     if (!write_parts(argv[2], name == NULL ? argv[1] : name + 1, &found, note))
-        return FAILED;
+        return say("the report's parts cannot be written.");
     return DONE;
 }
