@@ -94,6 +94,11 @@ static bool is_refused(const struct answer *answer)
     return strcmp(answer->word, "refused") == 0;
 }
 
+static void stop_refused_settings(void)
+{
+    exit(say("line 1 of the script is refused: its target, buffer or slots are out of range."));
+}
+
 /* The first line, and with it the log. */
 static void begin_log(const char *note)
 {
@@ -105,14 +110,14 @@ static void begin_log(const char *note)
         exit(say("the script is empty: its first line must be 'c target buffer slots'."));
     read_answer(&answer);
     if (is_refused(&answer))
-        exit(say("line 1 of the script is refused: its target, buffer or slots are out of range."));
+        stop_refused_settings();
     read_word(&script, word, sizeof word);
     settings.target = read_number(&script);
     settings.buffer = (uint32_t)read_number(&script);
     settings.slots = (uint32_t)read_number(&script);
     settings.profile = calm ? OBIKUTERU_CALM : OBIKUTERU_PLAIN;
-    if (calm)
-        start_calm_queue(&settings);
+    if (calm && !start_calm_queue(&settings))
+        stop_refused_settings();
     if (obikuteru_refused(obikuteru_log_begin(&log_state, &settings, (const uint8_t *)note, strlen(note),
                                               bytes, sizeof bytes)))
         exit(say("the note has more than 4,096 bytes."));

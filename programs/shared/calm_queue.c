@@ -5,9 +5,10 @@ enum { SLOTS_MOST = 4096 };
 static struct obikuteru_state queue;
 static uint32_t handles[SLOTS_MOST], sizes[SLOTS_MOST];
 
-void start_calm_queue(const struct obikuteru_settings *settings)
+bool start_calm_queue(const struct obikuteru_settings *settings)
 {
-    obikuteru_fresh(&queue, settings->target, settings->buffer, settings->slots, OBIKUTERU_CALM, settings->clock);
+    return !obikuteru_refused(
+        obikuteru_fresh(&queue, settings->target, settings->buffer, settings->slots, OBIKUTERU_CALM, settings->clock));
 }
 
 bool ask_calm_queue(struct obikuteru_record *record)

@@ -4,8 +4,8 @@
 
 #include <obikuteru.h>
 
-/* Starts it afresh; the settings are in range, and the slots at most a script's 4,096. */
-void start_calm_queue(const struct obikuteru_settings *settings);
+/* Starts it afresh, with slots of at most a script's 4,096; false where the settings are refused. */
+bool start_calm_queue(const struct obikuteru_settings *settings);
 
 /* Makes the record's call and writes its answer into the record; false where it is refused. */
 bool ask_calm_queue(struct obikuteru_record *record);
