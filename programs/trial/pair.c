@@ -12,8 +12,11 @@ static uint32_t handles[SLOTS], sizes[SLOTS];
 
 static void begin(uint64_t rate)
 {
+    uint32_t answer = obikuteru_pair_fresh(&shared, &queues[0], &queues[1], SLOTS, TARGET, INTERCOM_BUFFER, INTERCOM_RESERVE, 0, TARGET,
+                                           BUFFER, 0, 0);
+
     (void)rate;
-    obikuteru_pair_fresh(&shared, &queues[0], &queues[1], SLOTS, TARGET, INTERCOM_BUFFER, INTERCOM_RESERVE, 0, TARGET, BUFFER, 0, 0);
+    outcome.refused += obikuteru_refused(answer);
 }
 
 static bool arrival(uint64_t clock, int number, uint32_t u)

@@ -7,8 +7,8 @@ static uint32_t handles[SLOTS], sizes[SLOTS];
 
 static void begin_with(uint8_t profile)
 {
-    obikuteru_fresh(&state, TARGET, BUFFER, SLOTS, profile, 0);
-    begin_recording(TARGET, BUFFER, SLOTS, profile, "a trial with real senders");
+    outcome.refused += obikuteru_refused(obikuteru_fresh(&state, TARGET, BUFFER, SLOTS, profile, 0));
+    outcome.refused += !begin_recording(TARGET, BUFFER, SLOTS, profile, "a trial with real senders");
 }
 
 static void begin(uint64_t rate)
