@@ -135,7 +135,8 @@ void write_head(FILE *to, const char *log, const struct found *found, const uint
     write_replay(to, found);
     write_settings(to, &found->settings, note, note_length);
     write_counts(to, walk);
-    fputs("<h2>Over time</h2>\n<p>Each picture shows, for each of at most 900 equal stretches of time, the range of what the rules gave.</p>\n",
+    fputs("<h2>Over time</h2>\n"
+          "<p>Each picture shows, for each of at most 900 equal stretches of time, the range of what the rules gave.</p>\n",
           to);
 }
 
@@ -165,7 +166,9 @@ static void write_last_two(FILE *to, const struct walk *walk)
     uint64_t target = walk->state.target;
 
     question(to, "Do the queued bytes equal what went in less what came out?", "Conservation", "crates/guarantees/specs/Conservation.antt");
-    fprintf(to, "%" PRIu64 " bytes in less %" PRIu64 " bytes out are %" PRIu64 "; the queue holds %" PRIu64 " in %" PRIu64 " packets.</p>\n",
+    fprintf(to,
+            "%" PRIu64 " bytes in less %" PRIu64 " bytes out are %" PRIu64 "; the queue holds %" PRIu64 " in %" PRIu64
+            " packets.</p>\n",
             walk->bytes_in, walk->bytes_out, walk->bytes_in - walk->bytes_out, walk->state.bytes, walk->state.count);
     question(to, "Once a crowd has left, how long does the queue go on dropping?", "RecoveryByTarget",
              "crates/guarantees/specs/RecoveryByTarget.antt");
