@@ -20,7 +20,8 @@ use words::refused;
 ghost use mathlib.Core.Path.{_≡_};
 ghost use mathlib.Core.Bool.{false};
 ghost use mathlib.Core.List.{[]};
-ghost use Prim.Native.Nat.{_+_};
+ghost use Prim.Native.Nat.{_+_, _<_};
+ghost use lib.Dec.{eqb};
 ghost use Rattle.pair_state.specs.Fresh.{fresh, setupOf};
 ghost use Rattle.pair_state.specs.WellFormed.{wellFormed};
 ghost use Rattle.pair_rules.specs.Arrival.{arrival, arrivedHandles, arrivedSizes};
@@ -80,6 +81,13 @@ pub extern "C" fn obikuteru_pair_fresh(
     }
 }
 
+// The queue that `second` names: 0, the intercom; 1, the passengers.
+fn queue_of(second: bool) -> usize
+    ensures { λ r. ⌜ (r < 2) × (eqb r 1 ≡ second) ⌝ }
+{
+    second as usize
+}
+
 #[no_mangle]
 pub extern "C" fn obikuteru_pair_arrival_of(
     shared: &mut [u64; 6],
@@ -124,11 +132,12 @@ pub extern "C" fn obikuteru_pair_arrival_of(
         }
         return 108;
     }
+    let queue = queue_of(second);
     arrive(
         shared,
         own,
         other,
-        second,
+        queue,
         handles,
         sizes,
         clock,

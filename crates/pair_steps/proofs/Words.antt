@@ -16,17 +16,18 @@ use Rattle.pie.specs.Verdicts.{admitted, placeOf, raised}
 use Rattle.pie.specs.declared.Rate.{Rate}
 use Rattle.pie.specs.declared.Verdict.{Verdict}
 use Rattle.pie.specs.declared.Verdict.the-variants.{Enqueued, Marked, DroppedBytes, DroppedSlots, DroppedEarly}
-use Rattle.store.specs.Following.{followed}
+use Rattle.store.specs.Following.{followed, linkRefused}
+use Rattle.store.specs.Put.{endsAfterPut, freePlace, storeAfterPut}
 use Rattle.store.specs.Take.{storeAfterTake}
-use Rattle.store.specs.declared.Store.{Store}
+use Rattle.store.specs.Words.{linkAt}
 use Rattle.pair_state.specs.Queues.{storing}
 use Rattle.pair_rules.specs.Arrival.{arrivedPie, arrivedState}
 use Rattle.pair_rules.specs.Departure.{departedState}
 use Rattle.pair_rules.specs.Tick.{tickedState}
 use Rattle.words.specs.Flags.{isSet}
+use Rattle.pair_words.specs.Words.{pieOf, rateOf, sharedOf, sharedWords, stateOf, stateWords, storeOf}
 use Rattle.words.proofs.Flags.{flag-kept}
 use Rattle.words.proofs.Written.{listed, written-out}
-use Rattle.pair_words.specs.Words.{pieOf, rateOf, sharedOf, sharedWords, stateOf, stateWords}
 use Rattle.pair_steps.specs.Written.{enteredWords, rateWords, settledWords}
 
 -- what holds of any twenty-one words written out holds of twenty-one words
@@ -138,6 +139,27 @@ past-entered size place v = for-words (λ w. getD (enteredWords w size place) (1
     go DroppedSlots f = refl
     go DroppedEarly f = refl
 
+-- where the head stays
+pub same-head : (w : List ℕ) → length w ≡ 21 → w ≡ set w 14 (getD w 14 0)
+same-head = for-words (λ w. w ≡ set w 14 (getD w 14 0)) (λ f. refl)
+
+-- the other words of a packet that enters, after the head: count, bytes and tail
+abbrev pub queuedWords : (words : List ℕ) (count size place : ℕ) → List ℕ
+queuedWords w count size place = let counted = set w 12 (count + 1) in set (set counted 13 (getD counted 13 0 + size)) 15 place
+
+pub queued-words : (size place : ℕ) (w : List ℕ) → length w ≡ 21 →
+    queuedWords (set w 14 (cond (eqb (getD w 12 0) 0) place (getD w 14 0))) (getD w 12 0) size place ≡ enteredWords w size place
+unfolding endsAfterPut
+queued-words size place =
+    for-words
+    (λ w. queuedWords (set w 14 (cond (eqb (getD w 12 0) 0) place (getD w 14 0))) (getD w 12 0) size place ≡ enteredWords w size place)
+    (λ f. refl)
+
+-- the bytes stand beside head and count
+pub past-count : (w : List ℕ) (head count : ℕ) → getD (set (set w 14 head) 12 count) 13 0 ≡ getD w 13 0
+past-count w head count =
+    getD-set-other (set w 14 head) 12 13 count 0 (λ x. omega arith) ∙ getD-set-other w 14 13 head 0 (λ x. omega arith)
+
 abbrev pub settled : (w base : List ℕ) (clock : ℕ) → Verdict → List ℕ
 settled w base clock v = settledWords w clock (arrivedPie (stateOf base) v .accumulated .0) v
 
@@ -170,13 +192,41 @@ admitted-words clock size place v e =
     go DroppedSlots e f = absurd (false≢true e)
     go DroppedEarly e f = absurd (false≢true e)
 
--- the store's words: used, freed, spare
-pub stored-words : (store : Store) (w : List ℕ) → length w ≡ 6 →
-    set (set (set w 3 (store .used)) 4 (store .freed)) 5 (store .spare) ≡ sharedWords (storing (sharedOf w) store)
-unfolding sharedOf sharedWords
-stored-words store =
-    for-shared (λ w. set (set (set w 3 (store .used)) 4 (store .freed)) 5 (store .spare) ≡ sharedWords (storing (sharedOf w) store))
-    (λ f. refl)
+-- the store's words: used where no slot is spare
+pub fresh-words : (sizes w : List ℕ) → length w ≡ 6 → getD w 5 0 ≡ 0 →
+    set w 3 (getD w 3 0 + 1) ≡ sharedWords (storing (sharedOf w) (storeAfterPut (storeOf w) sizes))
+unfolding sharedOf sharedWords storeAfterPut
+fresh-words sizes =
+    for-shared
+    (λ w. getD w 5 0 ≡ 0 → set w 3 (getD w 3 0 + 1) ≡ sharedWords (storing (sharedOf w) (storeAfterPut (storeOf w) sizes)))
+    (λ f e. rw e)
+
+-- freed and spare where one is
+pub spare-words : (sizes w : List ℕ) → length w ≡ 6 → leb 1 (getD w 5 0) ≡ true →
+    set (set w 4 (followed sizes (getD w 4 0) (getD w 5 0))) 5 (getD w 5 0 - 1)
+    ≡ sharedWords (storing (sharedOf w) (storeAfterPut (storeOf w) sizes))
+unfolding sharedOf sharedWords storeAfterPut
+spare-words sizes =
+    for-shared
+    (λ w. leb 1 (getD w 5 0) ≡ true → set (set w 4 (followed sizes (getD w 4 0) (getD w 5 0))) 5 (getD w 5 0 - 1)
+    ≡ sharedWords (storing (sharedOf w) (storeAfterPut (storeOf w) sizes)))
+    (λ f e. rw e)
+
+-- the place where no slot is spare, and where one is
+pub fresh-place : (w : List ℕ) → getD w 5 0 ≡ 0 → freePlace (storeOf w) ≡ getD w 3 0
+fresh-place w e = rw e
+
+pub spare-place : (w : List ℕ) → leb 1 (getD w 5 0) ≡ true → freePlace (storeOf w) ≡ getD w 4 0
+spare-place w e = rw e
+
+-- a place in range that is followed leads out of range exactly where its link does
+pub link-test : (slots : ℕ) (sizes : List ℕ) (place count : ℕ) → place < slots →
+    leb slots (followed sizes place count) ≡ linkRefused slots sizes place count
+link-test slots sizes place count h = go (leb 2 count)
+  where
+    go : (b : Bool) → leb slots (cond b (linkAt sizes place) place) ≡ b && leb slots (linkAt sizes place)
+    go true = refl
+    go false = lt-leb slots place h
 
 -- a shared record and its words determine each other
 pub same-shared : (w : List ℕ) → length w ≡ 6 → w ≡ sharedWords (sharedOf w)

@@ -1,54 +1,143 @@
 // An arrival at records that are well formed, with tables that fit and room in the counts.
-use pair_rules::decide;
-use pair_words::decode;
-use pair_words::decode_shared;
-use pair_words::named;
 use pie::Decided;
 use pie::LARGEST;
 use pie::LATEST;
+use pie::MOST_ACCUMULATED;
 use pie::Verdict;
 use store::Ends;
-use store::Store;
-use store::leads_nowhere;
+use store::follow;
 use store::write_packet;
-use units::Bytes;
+use units::Prob;
 ghost use mathlib.Core.Path.{_≡_};
-ghost use mathlib.Core.Bool.{true};
-ghost use Prim.Native.Nat.{_+_, _≤_, _<_};
-ghost use lib.ListN.{getD, length};
-ghost use Rattle.pie.specs.Constants.{largest, mostVerdicts};
-ghost use Rattle.pie.specs.Verdicts.{placeOf, total};
+ghost use mathlib.Core.Bool.{cond, true, false, _&&_};
+ghost use Prim.Native.Nat.{_+_, _-_, _≤_, _<_};
+ghost use lib.Dec.{eqb, leb};
+ghost use lib.ListN.{getD, length, set};
+ghost use Rattle.units.specs.Kinds.{none, prob, whole};
+ghost use Rattle.pie.specs.Constants.{largest, mostAccumulated, mostVerdicts};
+ghost use Rattle.pie.specs.DropDecision.{drawn, sumOf};
+ghost use Rattle.pie.specs.Verdicts.{isEarly, placeOf, total};
+ghost use Rattle.store.specs.Following.{linkRefused};
 ghost use Rattle.store.specs.Put.{freePlace, handlesAfterPut, sizesAfterPut, storeAfterPut};
-ghost use Rattle.pair_state.specs.Queues.{storing};
+ghost use Rattle.pair_state.specs.Facing.{facing};
+ghost use Rattle.pair_state.specs.Queues.{commonSlots, storing};
 ghost use Rattle.pair_state.specs.WellFormed.{wellFormed};
 ghost use Rattle.pair_rules.specs.Arrival.{arrival, arrivedHandles, arrivedPie, arrivedSizes, verdictOf};
 ghost use Rattle.words.specs.Codes.{codeOf};
 ghost use Rattle.pair_words.specs.After.{ownAfter, sharedAfter};
-ghost use Rattle.pair_words.specs.Words.{endsOf, pairOf, sharedOf, sharedWords, stateOf, storeOf, whichOf};
+ghost use Rattle.pair_words.specs.Words.{endsOf, pairOf, pieOf, sharedOf, sharedWords, stateOf, storeOf, whichOf};
 ghost use Rattle.pair_steps.specs.Written.{enteredWords, settledWords};
+
+// Rule 2, by the counts of the called queue (0, the intercom; 1, the passengers) and of the other one.
+fn slots_full(shared: &[u64; 6], queue: usize, own: u64, other: u64) -> bool
+    requires { ⌜ (queue < 2) × (own ≤ 65536) × (other ≤ 65536) ⌝ }
+    requires { ⌜ (getD (now shared) 1 0 + getD (now shared) 2 0 ≤ getD (now shared) 0 0) × (getD (now shared) 0 0 ≤ 65536) ⌝ }
+    ensures { λ r. ⌜ (let s = facing (whichOf (eqb queue 1)) (sharedOf (now (shared .entry))) in
+        r ≡ (leb (s .reserves .intercom) own
+        && eqb ((own - s .reserves .intercom) + (other - s .reserves .passengers)) (commonSlots s))) ⌝ }
+{
+    let mine = 1 + queue;
+    let within = own < shared[mine];
+    if within {
+        return false;
+    }
+    let last = 2 - queue;
+    let theirs = shared[last];
+    let beyond = theirs < other;
+    if beyond {
+        return own + other == shared[0];
+    }
+    own + theirs == shared[0]
+}
+
+// A verdict that leaves the accumulated probability.
+fn undrawn(w: &[u64; 21], verdict: Verdict) -> Decided
+    ensures { λ r. ⌜ (r .verdict ≡ verdict) × (r .accumulated ≡ prob (getD (now (w .entry)) 7 0)) ⌝ }
+{
+    let accumulated = Prob(w[7]);
+    Decided {
+        verdict,
+        accumulated,
+    }
+}
+
+// Past rule 5: the probability accumulates, and its sum or u decides.
+fn draw(w: &[u64; 21], ecn: bool, u: u32) -> Decided
+    requires { ⌜ (getD (now w) 4 0 ≤ whole) × (getD (now w) 7 0 < mostAccumulated) ⌝ }
+    ensures { λ r. ⌜ r .verdict ≡ drawn (pieOf (now (w .entry))) ecn u ⌝ }
+    ensures { λ r. ⌜ r .accumulated ≡ prob (cond (isEarly (r .verdict)) none (sumOf (pieOf (now (w .entry))))) ⌝ }
+{
+    let p = w[4];
+    let sum = w[7] + p;
+    let low = 20 * sum < 17 * Prob::WHOLE.0;
+    if low {
+        return Decided {
+            verdict: Verdict::Enqueued,
+            accumulated: Prob(sum),
+        };
+    }
+    let early = (MOST_ACCUMULATED <= sum) | ((u as u64) < p);
+    if early {
+        let marks = ecn & (p < Prob::TENTH.0);
+        if marks {
+            return Decided {
+                verdict: Verdict::Marked,
+                accumulated: Prob::NONE,
+            };
+        }
+        return Decided {
+            verdict: Verdict::DroppedEarly,
+            accumulated: Prob::NONE,
+        };
+    }
+    Decided {
+        verdict: Verdict::Enqueued,
+        accumulated: Prob(sum),
+    }
+}
 
 // Rules 1 to 7.
 fn decided(
     shared: &[u64; 6],
     own: &[u64; 21],
     other: &[u64; 21],
-    second: bool,
+    queue: usize,
     size: u64,
     ecn: bool,
     u: u32,
 ) -> Decided
-    requires { ⌜ wellFormed (pairOf second (now shared) (now own) (now other)) ≡ true ⌝ }
+    requires { ⌜ queue < 2 ⌝ }
+    requires { ⌜ wellFormed (pairOf (eqb queue 1) (now shared) (now own) (now other)) ≡ true ⌝ }
     requires { ⌜ size ≤ largest ⌝ }
-    ensures { λ r. ⌜ r .verdict
-        ≡ verdictOf (pairOf second (now (shared .entry)) (now (own .entry)) (now (other .entry))) (whichOf second) size ecn u ⌝ }
+    ensures { λ r. ⌜ r .verdict ≡ verdictOf (pairOf (eqb queue 1) (now (shared .entry)) (now (own .entry)) (now (other .entry)))
+        (whichOf (eqb queue 1)) size ecn u ⌝ }
     ensures { λ r. ⌜ r .accumulated ≡ arrivedPie (stateOf (now (own .entry))) (r .verdict) .accumulated ⌝ }
 {
-    let which = named(second);
-    let s = decode_shared(*shared);
-    let seen = s.facing(which);
-    let o = decode(*own);
-    let t = decode(*other);
-    decide(seen, o, t, Bytes(size), ecn, u)
+    let bytes = own[13];
+    let bytes_full = own[1] < bytes + size;
+    if bytes_full {
+        return undrawn(own, Verdict::DroppedBytes);
+    }
+    let full = slots_full(shared, queue, own[12], other[12]);
+    if full {
+        return undrawn(own, Verdict::DroppedSlots);
+    }
+    let in_allowance = 0 < own[6];
+    if in_allowance {
+        return undrawn(own, Verdict::Enqueued);
+    }
+    let short = 2 * own[5] < own[0];
+    if short {
+        let light = 5 * own[4] < Prob::WHOLE.0;
+        if light {
+            return undrawn(own, Verdict::Enqueued);
+        }
+    }
+    let small = bytes <= 3_000;
+    if small {
+        return undrawn(own, Verdict::Enqueued);
+    }
+    draw(own, ecn, u)
 }
 
 // Writes clock, accumulated probability and the verdict's count. Gives the place of the verdict.
@@ -65,55 +154,130 @@ fn settle(w: &mut [u64; 21], clock: u64, accumulated: u64, v: Verdict) -> u32
     place as u32
 }
 
-// The packet takes a slot and goes to the tail.
+// The head of a queue that had `count` packets, with one more at `place`.
+fn lead(w: &mut [u64; 21], count: u64, place: u64)
+    requires { ⌜ length (now w) ≡ 21 ⌝ }
+    ensures { λ _. ⌜ now (w .exit) ≡ set (now (w .entry)) 14 (cond (eqb count 0) place (getD (now (w .entry)) 14 0)) ⌝ }
+{
+    let empty = count == 0;
+    if empty {
+        w[14] = place;
+    }
+}
+
+// The packet stands at the tail, at `place`, and its verdict is counted. Gives the place of the verdict.
 fn enter(
-    shared: &mut [u64; 6],
     own: &mut [u64; 21],
     handles: &mut [u32],
     sizes: &mut [u32],
+    clock: u64,
     handle: u32,
     size: u32,
-)
-    requires { ⌜ (length (now shared) ≡ 6) × (length (now sizes) ≤ 65536) × (size ≤ largest) ⌝ }
-    requires { ⌜ (freePlace (storeOf (now shared)) < length (now handles)) × (freePlace (storeOf (now shared)) < length (now sizes)) ⌝ }
-    requires { ⌜ (getD (now shared) 3 0 ≤ 65536) × (getD (now shared) 4 0 < length (now sizes)) ⌝ }
+    place: u64,
+    accumulated: u64,
+    v: Verdict,
+) -> u32
+    requires { ⌜ (length (now own) ≡ 21) × (length (now sizes) ≤ 65536) × (size ≤ largest) ⌝ }
+    requires { ⌜ (place < length (now handles)) × (place < length (now sizes)) ⌝ }
     requires { ⌜ (getD (now own) 12 0 ≤ 65536) × (getD (now own) 13 0 ≤ 16777216) × (getD (now own) 15 0 < length (now sizes)) ⌝ }
-    ensures { λ _. ⌜ now (shared .exit) ≡ sharedWords (storing (sharedOf (now (shared .entry)))
-        (storeAfterPut (storeOf (now (shared .entry))) (now (sizes .entry)))) ⌝ }
-    ensures { λ _. ⌜ now (own .exit) ≡ enteredWords (now (own .entry)) size (freePlace (storeOf (now (shared .entry)))) ⌝ }
-    ensures { λ _. ⌜ now (handles .exit) ≡ handlesAfterPut (now (handles .entry)) (freePlace (storeOf (now (shared .entry)))) handle ⌝ }
-    ensures { λ _. ⌜ now (sizes .exit) ≡ sizesAfterPut (endsOf (now (own .entry))) (getD (now (own .entry)) 12 0)
-        (now (sizes .entry)) (freePlace (storeOf (now (shared .entry)))) size ⌝ }
+    requires { ⌜ getD (now own) (16 + placeOf v) 0 < mostVerdicts ⌝ }
+    ensures { λ r. ⌜ r ≡ placeOf v ⌝ }
+    ensures { λ _. ⌜ now (own .exit) ≡ settledWords (enteredWords (now (own .entry)) size place) clock accumulated v ⌝ }
+    ensures { λ _. ⌜ now (handles .exit) ≡ handlesAfterPut (now (handles .entry)) place handle ⌝ }
+    ensures { λ _. ⌜ now (sizes .exit)
+        ≡ sizesAfterPut (endsOf (now (own .entry))) (getD (now (own .entry)) 12 0) (now (sizes .entry)) place size ⌝ }
 {
-    let store = Store {
-        used: shared[3],
-        freed: shared[4],
-        spare: shared[5],
-    };
     let ends = Ends {
         head: own[14],
         tail: own[15],
     };
     let count = own[12];
-    let place = store.free_place();
-    let next = store.put(sizes);
-    let put = ends.put(count, place);
     write_packet(handles, sizes, ends, count, place, handle, size);
-    shared[3] = next.used;
-    shared[4] = next.freed;
-    shared[5] = next.spare;
+    lead(own, count, place);
     own[12] = count + 1;
     own[13] = own[13] + size as u64;
-    own[14] = put.head;
-    own[15] = put.tail;
+    own[15] = place;
+    settle(own, clock, accumulated, v)
 }
 
-// A packet arrives.
+// A packet with a verdict that admits takes a slot, unless `freed` links to none (refusal 9).
+fn admit(
+    shared: &mut [u64; 6],
+    own: &mut [u64; 21],
+    handles: &mut [u32],
+    sizes: &mut [u32],
+    clock: u64,
+    handle: u32,
+    size: u32,
+    accumulated: u64,
+    v: Verdict,
+) -> u32
+    requires { ⌜ (length (now shared) ≡ 6) × (length (now own) ≡ 21) × (length (now sizes) ≡ getD (now shared) 0 0)
+        × (getD (now shared) 0 0 ≤ 65536) × (size ≤ largest) ⌝ }
+    requires { ⌜ (freePlace (storeOf (now shared)) < length (now handles)) × (freePlace (storeOf (now shared)) < length (now sizes)) ⌝ }
+    requires { ⌜ (getD (now shared) 3 0 ≤ 65536) × (getD (now shared) 4 0 < getD (now shared) 0 0) ⌝ }
+    requires { ⌜ (getD (now own) 12 0 ≤ 65536) × (getD (now own) 13 0 ≤ 16777216) × (getD (now own) 15 0 < length (now sizes)) ⌝ }
+    requires { ⌜ getD (now own) (16 + placeOf v) 0 < mostVerdicts ⌝ }
+    ensures { λ r. ⌜ (let sh = now (shared .entry) in
+        let z = now (sizes .entry) in
+        (linkRefused (getD sh 0 0) z (getD sh 4 0) (getD sh 5 0) ≡ true →
+        (r ≡ 109) × (now (shared .exit) ≡ sh) × (now (own .exit) ≡ now (own .entry)) × (now (handles .exit) ≡ now (handles .entry))
+        × (now (sizes .exit) ≡ z))) ⌝ }
+    ensures { λ r. ⌜ (let sh = now (shared .entry) in
+        let ow = now (own .entry) in
+        let z = now (sizes .entry) in
+        let place = freePlace (storeOf sh) in
+        (linkRefused (getD sh 0 0) z (getD sh 4 0) (getD sh 5 0) ≡ false →
+        (r ≡ placeOf v)
+        × (now (shared .exit) ≡ sharedWords (storing (sharedOf sh) (storeAfterPut (storeOf sh) z)))
+        × (now (own .exit) ≡ settledWords (enteredWords ow size place) clock accumulated v)
+        × (now (handles .exit) ≡ handlesAfterPut (now (handles .entry)) place handle)
+        × (now (sizes .exit) ≡ sizesAfterPut (endsOf ow) (getD ow 12 0) z place size))) ⌝ }
+{
+    let spare = shared[5];
+    let fresh = spare == 0;
+    if fresh {
+        let place = shared[3];
+        shared[3] = place + 1;
+        return enter(
+            own,
+            handles,
+            sizes,
+            clock,
+            handle,
+            size,
+            place,
+            accumulated,
+            v,
+        );
+    }
+    let place = shared[4];
+    let next = follow(sizes, place, spare);
+    let lost = shared[0] <= next;
+    if lost {
+        return 109;
+    }
+    shared[4] = next;
+    shared[5] = spare - 1;
+    enter(
+        own,
+        handles,
+        sizes,
+        clock,
+        handle,
+        size,
+        place,
+        accumulated,
+        v,
+    )
+}
+
+// A packet arrives at the queue 0, the intercom, or 1, the passengers.
 pub fn arrive(
     shared: &mut [u64; 6],
     own: &mut [u64; 21],
     other: &[u64; 21],
-    second: bool,
+    queue: usize,
     handles: &mut [u32],
     sizes: &mut [u32],
     clock: u64,
@@ -122,17 +286,17 @@ pub fn arrive(
     ecn: bool,
     u: u32,
 ) -> u32
-    requires { ⌜ (length (now shared) ≡ 6) × (length (now own) ≡ 21) ⌝ }
-    requires { ⌜ wellFormed (pairOf second (now shared) (now own) (now other)) ≡ true ⌝ }
+    requires { ⌜ (queue < 2) × (length (now shared) ≡ 6) × (length (now own) ≡ 21) ⌝ }
+    requires { ⌜ wellFormed (pairOf (eqb queue 1) (now shared) (now own) (now other)) ≡ true ⌝ }
     requires { ⌜ (length (now handles) ≡ sharedOf (now shared) .slots) × (length (now sizes) ≡ sharedOf (now shared) .slots) ⌝ }
     requires { ⌜ total (stateOf (now own) .verdicts) < mostVerdicts ⌝ }
-    ensures { λ r. ⌜ (let p = pairOf second (now (shared .entry)) (now (own .entry)) (now (other .entry)) in
-        let a = arrival p (whichOf second) (now (handles .entry)) (now (sizes .entry)) clock size ecn u in
+    ensures { λ r. ⌜ (let p = pairOf (eqb queue 1) (now (shared .entry)) (now (own .entry)) (now (other .entry)) in
+        let a = arrival p (whichOf (eqb queue 1)) (now (handles .entry)) (now (sizes .entry)) clock size ecn u in
         (r ≡ codeOf (a .answer))
         × (now (shared .exit) ≡ sharedAfter a (now (shared .entry)))
-        × (now (own .exit) ≡ ownAfter (whichOf second) a (now (own .entry)))
+        × (now (own .exit) ≡ ownAfter (whichOf (eqb queue 1)) a (now (own .entry)))
         × (now (handles .exit) ≡ arrivedHandles p (a .answer) (now (handles .entry)) handle)
-        × (now (sizes .exit) ≡ arrivedSizes p (whichOf second) (a .answer) (now (sizes .entry)) size)) ⌝ }
+        × (now (sizes .exit) ≡ arrivedSizes p (whichOf (eqb queue 1)) (a .answer) (now (sizes .entry)) size)) ⌝ }
 {
     let wrong_clock = (clock < own[2]) | (LATEST < clock);
     if wrong_clock {
@@ -143,17 +307,22 @@ pub fn arrive(
     if wrong_size {
         return 107;
     }
-    let found = decided(shared, own, other, second, bytes, ecn, u);
+    let found = decided(shared, own, other, queue, bytes, ecn, u);
     let v = found.verdict;
     let accumulated = found.accumulated.0;
     let admits = v.admits();
     if !admits {
         return settle(own, clock, accumulated, v);
     }
-    let lost = leads_nowhere(sizes, shared[4], shared[5], shared[0]);
-    if lost {
-        return 109;
-    }
-    enter(shared, own, handles, sizes, handle, size);
-    settle(own, clock, accumulated, v)
+    admit(
+        shared,
+        own,
+        handles,
+        sizes,
+        clock,
+        handle,
+        size,
+        accumulated,
+        v,
+    )
 }

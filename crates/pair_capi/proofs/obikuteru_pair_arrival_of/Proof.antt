@@ -57,20 +57,20 @@ returns-2 c =
     rw (arrival-tables (whichOf (a .second)) (sharedOf (now (a .shared))) (stateOf (now (a .own))) (stateOf (now (a .other)))
     (now (a .handles)) (now (a .sizes)) (a .clock) (a .size) (a .ecn) (a .u) (formed e1) (c .if2 .taken)) (refl, refl, refl, refl, refl)
 
-element-copy-out-t24 : tie.Need-element-copy-out-t24
-element-copy-out-t24 c = search needs
+element-copy-out-t25 : tie.Need-element-copy-out-t25
+element-copy-out-t25 c = search needs
 
-element-copy-out-t27 : tie.Need-element-copy-out-t27
-element-copy-out-t27 c = search needs
+element-copy-out-t28 : tie.Need-element-copy-out-t28
+element-copy-out-t28 c = search needs
 
-element-copy-out-t35 : tie.Need-element-copy-out-t35
-element-copy-out-t35 c = search needs
+element-copy-out-t36 : tie.Need-element-copy-out-t36
+element-copy-out-t36 c = search needs
 
-element-copy-out-t38 : tie.Need-element-copy-out-t38
-element-copy-out-t38 c = search needs
+element-copy-out-t39 : tie.Need-element-copy-out-t39
+element-copy-out-t39 c = search needs
 
-element-copy-out-t41 : tie.Need-element-copy-out-t41
-element-copy-out-t41 c = search needs
+element-copy-out-t42 : tie.Need-element-copy-out-t42
+element-copy-out-t42 c = search needs
 
 counts-full-requires : tie.Need-counts-full-requires
 unfolding stateOf
@@ -115,10 +115,14 @@ returns-5 c =
     (a .clock) (a .size) (a .ecn) (a .u) (e2 .if2 .left) (whichOf (a .second)) (formed e1) (e4 .if4 .left) (c .if5 .left)
     (sym (t3 .before .counts-full .ensures) ∙ t3 .if3 .taken)) (refl, refl, refl, refl, refl)
 
+queue-of-requires : tie.Need-queue-of-requires
+queue-of-requires c κs = search needs
+
 arrive-requires : tie.Need-arrive-requires
 unfolding sharedOf stateOf
 arrive-requires c κs =
-    let e3 = c .before .before .before .before in
+    let q = c .before .before .before .before in
+    let e3 = q .before in
     let e2 = e3 .before .before .before .before .before .before .before in
     let e1 = e2 .before .before in
     let a = at-start e1 .args in
@@ -130,8 +134,8 @@ arrive-requires c κs =
     let low : n ≤ mostVerdicts = counted e1 in
     let room : n ≢ mostVerdicts = eqb-false n mostVerdicts (sym (e3 .before .counts-full .ensures) ∙ e3 .if3 .left) in
     let long = e1 .before .records-fit .ensures .1 (not-false _ (e1 .if1 .left)) in (
-      (long .0, long .1),
-      (formed e1, ((eqb-true _ _ (and-left h z fit), eqb-true _ _ (and-right h z fit)), omega (arith, low, room))),
+      (q .queue-of .ensures .0, long .0, long .1),
+      (rw (q .queue-of .ensures .1) (formed e1), ((eqb-true _ _ (and-left h z fit), eqb-true _ _ (and-right h z fit)), omega (arith, low, room))),
     )
 
 same-length : tie.Need-same-length
@@ -141,7 +145,7 @@ same-length-2 : tie.Need-same-length-2
 same-length-2 c = search needs
 
 returns-6 : tie.Need-returns-6
-returns-6 c = search needs
+returns-6 c = rw (c .before .before .before .before .before .before .before .before .before .queue-of .ensures .1) at (c .before .before .before .before .arrive .ensures)
 
 pub obikuteru-pair-arrival-of-spec : {M : Type 1} → statement M
 obikuteru-pair-arrival-of-spec =
@@ -151,16 +155,17 @@ obikuteru-pair-arrival-of-spec =
     returns
     element-copy-out-slots
     returns-2
-    element-copy-out-t24
-    element-copy-out-t27
-    element-copy-out-t35
-    element-copy-out-t38
-    element-copy-out-t41
+    element-copy-out-t25
+    element-copy-out-t28
+    element-copy-out-t36
+    element-copy-out-t39
+    element-copy-out-t42
     counts-full-requires
     element-copy-out-wrong-clock
     returns-3
     returns-4
     returns-5
+    queue-of-requires
     arrive-requires
     same-length
     same-length-2

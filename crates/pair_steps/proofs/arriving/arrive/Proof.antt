@@ -2,10 +2,11 @@
 use borrow.Author.Needs.{needs}
 use borrow.Author.Tests.{ne-eqb, not-false, not-true}
 use mathlib.Core.Path.{_≡_, ap, refl, sym, _∙_}
-use mathlib.Core.Bool.{true, false}
+use mathlib.Core.Bool.{Bool, true, false}
 use mathlib.Core.List.{List}
 use Prim.Native.Nat.{ℕ, _+_, _<_}
 use native.Mathlib.Omega.{arith}
+use lib.Dec.{eqb}
 use lib.ListN.{getD, length}
 use denote.Ref.{now}
 use Rattle.units.specs.declared.Prob.{Prob}
@@ -14,6 +15,7 @@ use Rattle.pie.specs.Verdicts.{admitted, placeOf, total}
 use Rattle.pie.specs.declared.Verdict.{Verdict}
 use Rattle.pie.proofs.Counts.{count-le-total}
 use Rattle.refusals.proofs.Fitting.{size-in-range}
+use Rattle.store.specs.Following.{linkRefused}
 use Rattle.store.specs.Put.{freePlace}
 use Rattle.pair_state.specs.Facing.{facing}
 use Rattle.pair_state.specs.declared.Shared.{Shared}
@@ -30,7 +32,7 @@ use Rattle.pair_words.proofs.Counts.{count-word}
 use Rattle.pair_steps.specs.Written.{enteredWords, settledWords}
 use Rattle.pair_steps.proofs.Replies.{Fit, Made, admitted-gives, dropped-gives, tables-fit}
 use Rattle.pair_steps.proofs.Replies.{arrival-late, arrival-lost, arrival-made, arrival-size}
-use Rattle.pair_steps.proofs.Words.{admitted-words, dropped-words, past-entered, same-shared}
+use Rattle.pair_steps.proofs.Words.{admitted-words, dropped-words, same-shared}
 use Rattle.pair_steps.proofs.arriving.arrive.Statement.{statement}
 use Rattle.pair_steps.proofs.arriving.arrive.Tie as tie
 
@@ -46,7 +48,7 @@ abbrev other : tie.Start → State
 other a = stateOf (now (a .args .other))
 
 abbrev which : tie.Start → Which
-which a = whichOf (a .args .second)
+which a = whichOf (eqb (a .args .queue) 1)
 
 known-of : (a : tie.Start) → Known (shared a .slots) (shared a .store) (own a)
 known-of a =
@@ -65,15 +67,6 @@ at-start c = c .before .before .before .before
 
 abbrev start-of : tie.After-decided → tie.Start
 start-of d = at-start (d .before .before .before .before)
-
-abbrev at-three : tie.Then4 → tie.Else3
-at-three c = c .before .before .before .before .before .before
-
-abbrev three-of : tie.Else4 → tie.Else3
-three-of c = c .before .before .before .before .before .before
-
-abbrev entered-by : tie.After-enter → tie.Else3
-entered-by n = three-of (n .before .before .before .before .before)
 
 abbrev verdict-of : tie.After-decided → Verdict
 verdict-of d = d .decided .result .verdict
@@ -134,7 +127,8 @@ returns-2 c =
 
 decided-requires : tie.Need-decided-requires
 decided-requires c κs =
-    let e2 = c .before .before in (at-start (e2 .before) .pre .1 .0, size-in-range _ (e2 .if2 .left) .1)
+    let e2 = c .before .before in
+    let a = at-start (e2 .before) in (a .pre .0 .0, (a .pre .1 .0, size-in-range _ (e2 .if2 .left) .1))
 
 admits-requires : tie.Need-admits-requires
 admits-requires c κs = search needs
@@ -155,48 +149,15 @@ returns-3 c =
     dropped-gives (shared a) (own a) (other a) (now (a .args .handles)) (now (a .args .sizes)) (a .args .clock)
     (a .args .size) (a .args .ecn) (a .args .u) v (which a) (made d kept) dropped (a .args .handle) _ (now (a .args .shared)) ow _
     (c .settle .ensures .0)
-    (same-shared (now (a .args .shared)) (a .pre .0 .0))
+    (same-shared (now (a .args .shared)) (a .pre .0 .1))
     (c .settle .ensures .1
     ∙ ap (λ (q : Prob). settledWords ow (a .args .clock) (q .0) v) (d .decided .ensures .1)
-    ∙ dropped-words (a .args .clock) (a .args .size) (freePlace (shared a .store)) v dropped ow (a .pre .0 .1))
+    ∙ dropped-words (a .args .clock) (a .args .size) (freePlace (shared a .store)) v dropped ow (a .pre .0 .2))
 
-element-copy-out-leads-nowhere : tie.Need-element-copy-out-leads-nowhere
-element-copy-out-leads-nowhere c = search needs
-
-element-copy-out-leads-nowhere-2 : tie.Need-element-copy-out-leads-nowhere-2
-element-copy-out-leads-nowhere-2 c = search needs
-
-element-copy-out-leads-nowhere-3 : tie.Need-element-copy-out-leads-nowhere-3
-element-copy-out-leads-nowhere-3 c = search needs
-
-leads-nowhere-requires : tie.Need-leads-nowhere-requires
+admit-requires : tie.Need-admit-requires
 unfolding sharedOf stateOf
-leads-nowhere-requires c κs =
-    let a = start-of (c .before .before .before .before .before .before) in
-    let k = known-of a in omega (arith, k .freed-high, k .slots-high, a .pre .1 .1 .0 .1)
-
-same-length : tie.Need-same-length
-same-length c = search needs
-
-returns-4 : tie.Need-returns-4
-unfolding sharedOf stateOf
-returns-4 c =
-    let e3 = at-three c in
-    let d = e3 .before .before in
-    let e2 = d .before .before .before in
-    let a = start-of d in
-    let v = verdict-of d in
-    let lost : freedRefused (shared a) (now (a .args .sizes)) v ≡ true =
-    rw (admits-it e3, sym (c .before .leads-nowhere .ensures) ∙ c .if4 .taken) in
-    rw (arrival-lost (shared a) (own a) (other a) (now (a .args .handles)) (now (a .args .sizes)) (a .args .clock)
-    (a .args .size) (a .args .ecn) (a .args .u) (fit a) v (which a) (a .pre .1 .0) (e2 .before .if1 .left) (e2 .if2 .left) (room-left a)
-    (d .decided .ensures .0) lost) (refl, refl, refl, refl, refl)
-
-enter-requires : tie.Need-enter-requires
-unfolding sharedOf stateOf
-enter-requires c κs =
-    let e4 = c .before .before .before .before in
-    let e3 = three-of e4 in
+admit-requires c κs =
+    let e3 = c .before .before .before .before in
     let d = e3 .before .before in
     let a = start-of d in
     let k = known-of a in
@@ -204,62 +165,62 @@ enter-requires c κs =
     let size = size-in-range (a .args .size) (d .before .before .before .if2 .left) .1 in
     let h = a .pre .1 .1 .0 .0 in
     let z = a .pre .1 .1 .0 .1 in (
-      (a .pre .0 .0, omega (arith, k .slots-high, z), size),
+      (a .pre .0 .1, a .pre .0 .2, z, k .slots-high, size),
       (
         (omega (arith, place, h), omega (arith, place, z)),
         (
-          (omega (arith, k .used-high, k .slots-high), omega (arith, k .freed-high, z)),
+          (omega (arith, k .used-high, k .slots-high), k .freed-high),
           (
-            omega (arith, k .own .count-high, k .slots-high),
-            omega (arith, k .own .bytes-fit, k .own .buffer-high),
-            omega (arith, k .own .tail-high, z),
+            (
+              omega (arith, k .own .count-high, k .slots-high),
+              omega (arith, k .own .bytes-fit, k .own .buffer-high),
+              omega (arith, k .own .tail-high, z),
+            ),
+            count-low d,
           ),
         ),
       ),
     )
 
-settle-requires-2 : tie.Need-settle-requires-2
-unfolding sharedOf
-settle-requires-2 c κs =
-    let n = c .before .before .before .before .before in
-    let d = entered-by n .before .before in
-    let a = start-of d in
-    let at = 16 + placeOf (verdict-of d) in
-    let ow = now (a .args .own) in
-    let past = past-entered (a .args .size) (freePlace (shared a .store)) (verdict-of d) ow (a .pre .0 .1) in
-    omega (arith, ap (λ (l : List ℕ). getD l at 0) (n .enter .ensures .1 .0), past, count-low d)
+same-length : tie.Need-same-length
+same-length c = search needs
 
 same-length-2 : tie.Need-same-length-2
 same-length-2 c = search needs
 
-same-length-3 : tie.Need-same-length-3
-same-length-3 c = search needs
+either-way : {P : Type 0} (b : Bool) → (b ≡ true → P) → (b ≡ false → P) → P
+either-way true h k = h refl
+either-way false h k = k refl
 
-returns-5 : tie.Need-returns-5
+returns-4 : tie.Need-returns-4
 unfolding sharedOf stateOf
-returns-5 c =
-    let n = c .before .before .before .before .before .before in
-    let e4 = n .before .before .before .before .before in
-    let e3 = entered-by n in
+returns-4 c =
+    let e3 = c .before .before .before .before .before .before .before .before .before in
     let d = e3 .before .before in
+    let e2 = d .before .before .before in
     let a = start-of d in
     let v = verdict-of d in
     let ow = now (a .args .own) in
+    let z = now (a .args .sizes) in
     let place = freePlace (shared a .store) in
-    let link = sym (e4 .before .leads-nowhere .ensures) ∙ e4 .if4 .left in
-    let kept : freedRefused (shared a) (now (a .args .sizes)) v ≡ false = rw (admits-it e3, link) in
-    let g = n .enter .ensures in
-    admitted-gives (shared a) (own a) (other a) (now (a .args .handles)) (now (a .args .sizes)) (a .args .clock)
-    (a .args .size) (a .args .ecn) (a .args .u) v (which a) (made d kept) (admits-it e3) (a .args .handle) _
-    (now (a .args .shared)) _ ow _ _ _
-    (c .settle2 .ensures .0)
-    (g .0)
-    (c .settle2 .ensures .1
-    ∙ ap (λ (l : List ℕ). settledWords l (a .args .clock) (d .decided .result .accumulated .0) v) (g .1 .0)
+    let g = c .before .before .before .before .admit .ensures in
+    either-way (linkRefused (shared a .slots) z (shared a .store .freed) (shared a .store .spare))
+    (λ l.
+    let lost : freedRefused (shared a) z v ≡ true = rw (admits-it e3, l) in
+    rw (arrival-lost (shared a) (own a) (other a) (now (a .args .handles)) z (a .args .clock) (a .args .size) (a .args .ecn) (a .args .u)
+    (fit a) v (which a) (a .pre .1 .0) (e2 .before .if1 .left) (e2 .if2 .left) (room-left a) (d .decided .ensures .0) lost) (g .0 l))
+    (λ l.
+    let kept : freedRefused (shared a) z v ≡ false = rw (admits-it e3, l) in
+    let e = g .1 l in
+    admitted-gives (shared a) (own a) (other a) (now (a .args .handles)) z (a .args .clock) (a .args .size) (a .args .ecn) (a .args .u) v
+    (which a) (made d kept) (admits-it e3) (a .args .handle) _ (now (a .args .shared)) _ ow _ _ _
+    (e .0)
+    (e .1)
+    (e .2
     ∙ ap (λ (q : Prob). settledWords (enteredWords ow (a .args .size) place) (a .args .clock) (q .0) v) (d .decided .ensures .1)
-    ∙ admitted-words (a .args .clock) (a .args .size) place v (admits-it e3) ow (a .pre .0 .1))
-    (g .1 .1 .0)
-    (g .1 .1 .1)
+    ∙ admitted-words (a .args .clock) (a .args .size) place v (admits-it e3) ow (a .pre .0 .2))
+    (e .3)
+    (e .4))
 
 pub arrive-spec : {M : Type 1} → statement M
 arrive-spec =
@@ -272,14 +233,7 @@ arrive-spec =
     admits-requires
     settle-requires
     returns-3
-    element-copy-out-leads-nowhere
-    element-copy-out-leads-nowhere-2
-    element-copy-out-leads-nowhere-3
-    leads-nowhere-requires
+    admit-requires
     same-length
-    returns-4
-    enter-requires
-    settle-requires-2
     same-length-2
-    same-length-3
-    returns-5)
+    returns-4)

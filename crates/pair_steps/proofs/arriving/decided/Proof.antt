@@ -1,84 +1,172 @@
--- `decided`: the verdict on the records that the words hold, as the called queue sees them.
+-- `decided`: the first rule that holds.
 use borrow.Author.Needs.{needs}
 use mathlib.Core.Path.{_≡_, sym, _∙_}
-use mathlib.Core.Bool.{Bool, true}
+use mathlib.Core.Bool.{Bool, true, false, _&&_}
 use mathlib.Core.List.{List}
+use mathlib.Core.Logic.{_⊎_, inl, inr, ⊎-elim}
 use Prim.Native.Nat.{ℕ}
+use native.Mathlib.Omega.{arith}
+use lib.Dec.{eqb}
+use lib.ListN.{getD}
 use denote.Ref.{now}
-use Rattle.pair_state.specs.Facing.{facing}
-use Rattle.pair_state.specs.Queues.{paired}
-use Rattle.pair_state.specs.WellFormed.{wellFormed}
-use Rattle.pair_state.specs.declared.Shared.{Shared}
-use Rattle.pair_state.specs.declared.State.{State}
-use Rattle.pair_state.specs.declared.Which.{Which}
-use Rattle.pair_state.specs.declared.Which.the-variants.{Intercom}
-use Rattle.pair_state.proofs.Symmetry.{well-formed-seen}
-use Rattle.pair_rules.specs.Arrival.{verdictOf}
-use Rattle.pair_rules.proofs.Seen.{verdict-seen}
-use Rattle.pair_words.specs.Words.{pairOf, sharedOf, stateOf, whichOf}
+use Rattle.pie.specs.DropDecision.{lightlyLoaded, spared}
+use Rattle.pair_words.specs.Words.{pieOf, stateOf}
+use Rattle.pair_steps.proofs.Decisions.{Numbers, bytes-rule, drawn-rule, numbers, slots-rule, spared-rule}
 use Rattle.pair_steps.proofs.arriving.decided.Statement.{statement}
 use Rattle.pair_steps.proofs.arriving.decided.Tie as tie
 
-module _ (second : Bool) (sh ow ot : List ℕ) (w : Which) (s f : Shared) (o t : State) (ew : w ≡ whichOf second) (es : s ≡ sharedOf sh)
-    (ef : f ≡ facing w s) (eo : o ≡ stateOf ow) (et : t ≡ stateOf ot) where
-  seen-formed : wellFormed (pairOf second sh ow ot) ≡ true → wellFormed (paired Intercom f o t) ≡ true
-  seen-formed h = rw (ef, es, ew, eo, et) (sym (well-formed-seen (whichOf second) (sharedOf sh) (stateOf ow) (stateOf ot)) ∙ h)
+abbrev shared : tie.Start → List ℕ
+shared a = now (a .args .shared)
 
-  seen-verdict : (size : ℕ) (ecn : Bool) (u : ℕ) →
-      verdictOf (paired Intercom f o t) Intercom size ecn u ≡ verdictOf (pairOf second sh ow ot) (whichOf second) size ecn u
-  seen-verdict size ecn u =
-      rw (ef, es, ew, eo, et) (sym (verdict-seen (whichOf second) (sharedOf sh) (stateOf ow) (stateOf ot) size ecn u))
+abbrev own : tie.Start → List ℕ
+own a = now (a .args .own)
 
-named-requires : tie.Need-named-requires
-named-requires c κs = search needs
+abbrev other : tie.Start → List ℕ
+other a = now (a .args .other)
 
-decode-shared-requires : tie.Need-decode-shared-requires
-decode-shared-requires c κs = search needs
+abbrev second : tie.Start → Bool
+second a = eqb (a .args .queue) 1
 
-facing-requires : tie.Need-facing-requires
-facing-requires c κs = search needs
+known : (a : tie.Start) → Numbers (shared a) (own a) (other a)
+known a = numbers (second a) (shared a) (own a) (other a) (a .pre .1 .0)
 
-decode-requires : tie.Need-decode-requires
-decode-requires c κs = search needs
+not-light : (a b : Bool) → ((a ≡ true) × (b ≡ false)) ⊎ (a ≡ false) → a && b ≡ false
+not-light a b (inl (e, f)) = rw (e, f)
+not-light a b (inr e) = rw e
 
-decode-requires-2 : tie.Need-decode-requires-2
-decode-requires-2 c κs = search needs
+-- where a queue is not lightly loaded
+loaded : (c : tie.Joined4) →
+    let w = own (c .before .before .before .before .before .before .before .before .before .before .before .before) in lightlyLoaded (pieOf w) (getD w 0 0) ≡ false
+loaded c = ⊎-elim (λ t. not-light _ _ (inl (t .0 .taken, t .3 .left))) (λ e. not-light _ _ (inr (e .left))) (c .if4 .came)
 
-decide-requires : tie.Need-decide-requires
-decide-requires c κs =
-    let o = c .before .before in
-    let x = o .before .before in
-    let d = x .before in
-    let n = d .before .before in
-    let b = n .before in
-    let a = b .args in (
-      seen-formed (a .second) (now (a .shared)) (now (a .own)) (now (a .other)) _ _ _ _ _ (n .named .ensures) (d .decode-shared .ensures .0)
-          (x .facing .ensures) (o .decode .ensures .0) (c .decode2 .ensures .0) (b .pre .0),
-      b .pre .1,
-    )
+element-copy-out-bytes : tie.Need-element-copy-out-bytes
+element-copy-out-bytes c = search needs
+
+element-copy-out-bytes-full : tie.Need-element-copy-out-bytes-full
+element-copy-out-bytes-full c = search needs
+
+add-bytes-full : tie.Need-add-bytes-full
+unfolding stateOf
+add-bytes-full c =
+    let a = c .before .before in
+    let f = known a .own in omega (arith, f .bytes-fit, f .buffer-high, a .pre .1 .1)
+
+undrawn-requires : tie.Need-undrawn-requires
+undrawn-requires c κs = search needs
 
 returns : tie.Need-returns
 returns c =
-    let t = c .before in
-    let o = t .before .before in
-    let x = o .before .before in
-    let d = x .before in
-    let n = d .before .before in
-    let a = n .before .args in (
-      c .decide .ensures .0
-          ∙ seen-verdict (a .second) (now (a .shared)) (now (a .own)) (now (a .other)) _ _ _ _ _ (n .named .ensures)
-          (d .decode-shared .ensures .0) (x .facing .ensures) (o .decode .ensures .0) (t .decode2 .ensures .0) (a .size) (a .ecn) (a .u),
-      rw (o .decode .ensures .0) at (c .decide .ensures .1),
-    )
+    let a = c .before .before .before .before in
+    bytes-rule (second a) (shared a) (own a) (other a) (a .args .size) (a .args .ecn) (a .args .u) _ _ (c .undrawn .ensures .0)
+    (c .undrawn .ensures .1) (c .before .if1 .taken)
+
+element-copy-out-slots-full : tie.Need-element-copy-out-slots-full
+element-copy-out-slots-full c = search needs
+
+element-copy-out-slots-full-2 : tie.Need-element-copy-out-slots-full-2
+element-copy-out-slots-full-2 c = search needs
+
+slots-full-requires : tie.Need-slots-full-requires
+slots-full-requires c κs =
+    let a = c .before .before .before .before .before in
+    let k = known a in ((a .pre .0, k .own-count, k .other-count), (k .reserves-high, k .slots-high))
+
+undrawn-requires-2 : tie.Need-undrawn-requires-2
+undrawn-requires-2 c κs = search needs
+
+returns-2 : tie.Need-returns-2
+returns-2 c =
+    let a = c .before .before .before .before .before .before .before .before in
+    slots-rule (second a) (shared a) (own a) (other a) (a .args .size) (a .args .ecn) (a .args .u) (c .before .before .before .before .before .if1 .left) _ _
+    (c .undrawn2 .ensures .0) (c .undrawn2 .ensures .1) (sym (c .before .before .slots-full .ensures) ∙ c .before .if2 .taken)
+
+element-copy-out-in-allowance : tie.Need-element-copy-out-in-allowance
+element-copy-out-in-allowance c = search needs
+
+undrawn-requires-3 : tie.Need-undrawn-requires-3
+undrawn-requires-3 c κs = search needs
+
+returns-3 : tie.Need-returns-3
+returns-3 c =
+    let a = c .before .before .before .before .before .before .before .before .before .before in
+    spared-rule (second a) (shared a) (own a) (other a) (a .args .size) (a .args .ecn) (a .args .u) (c .before .before .before .before .before .before .before .if1 .left)
+    (sym (c .before .before .before .before .slots-full .ensures) ∙ c .before .before .before .if2 .left) _ _ (c .undrawn3 .ensures .0) (c .undrawn3 .ensures .1)
+    (simp (c .before .if3 .taken))
+
+element-copy-out-short : tie.Need-element-copy-out-short
+element-copy-out-short c = search needs
+
+mul-short : tie.Need-mul-short
+unfolding stateOf
+mul-short c = let f = known (c .before .before .before .before .before .before .before .before .before .before) .own in omega (arith, f .old-high)
+
+element-copy-out-short-2 : tie.Need-element-copy-out-short-2
+element-copy-out-short-2 c = search needs
+
+element-copy-out-light : tie.Need-element-copy-out-light
+element-copy-out-light c = search needs
+
+mul-light : tie.Need-mul-light
+unfolding stateOf
+mul-light c = let f = known (c .before .before .before .before .before .before .before .before .before .before .before .before .before) .own in omega (arith, f .prob-high)
+
+undrawn-requires-4 : tie.Need-undrawn-requires-4
+undrawn-requires-4 c κs = search needs
+
+returns-4 : tie.Need-returns-4
+returns-4 c =
+    let a = c .before .before .before .before .before .before .before .before .before .before .before .before .before .before .before .before in
+    spared-rule (second a) (shared a) (own a) (other a) (a .args .size) (a .args .ecn) (a .args .u) (c .before .before .before .before .before .before .before .before .before .before .before .before .before .if1 .left)
+    (sym (c .before .before .before .before .before .before .before .before .before .before .slots-full .ensures) ∙ c .before .before .before .before .before .before .before .before .before .if2 .left) _ _ (c .undrawn4 .ensures .0) (c .undrawn4 .ensures .1)
+    (simp (c .before .before .before .before .before .before .before .if3 .left, c .before .before .before .before .if4 .taken, c .before .if5 .taken))
+
+undrawn-requires-5 : tie.Need-undrawn-requires-5
+undrawn-requires-5 c κs = search needs
+
+returns-5 : tie.Need-returns-5
+returns-5 c =
+    let a = c .before .before .before .before .before .before .before .before .before .before .before .before .before .before in
+    spared-rule (second a) (shared a) (own a) (other a) (a .args .size) (a .args .ecn) (a .args .u) (c .before .before .before .before .before .before .before .before .before .before .before .if1 .left)
+    (sym (c .before .before .before .before .before .before .before .before .slots-full .ensures) ∙ c .before .before .before .before .before .before .before .if2 .left) _ _ (c .undrawn5 .ensures .0) (c .undrawn5 .ensures .1)
+    (simp (c .before .before .before .before .before .if3 .left, loaded (c .before .before), c .before .if6 .taken))
+
+draw-requires : tie.Need-draw-requires
+unfolding stateOf
+draw-requires c κs = let f = known (c .before .before .before .before .before .before .before .before .before .before .before .before .before) .own in (f .prob-high, f .accumulated-high)
+
+returns-6 : tie.Need-returns-6
+returns-6 c =
+    let a = c .before .before .before .before .before .before .before .before .before .before .before .before .before .before in
+    let none : spared (pieOf (own a)) (getD (own a) 0 0) (getD (own a) 13 0) ≡ false =
+    simp (c .before .before .before .before .before .if3 .left, loaded (c .before .before), c .before .if6 .left) in
+    drawn-rule (second a) (shared a) (own a) (other a) (a .args .size) (a .args .ecn) (a .args .u) (c .before .before .before .before .before .before .before .before .before .before .before .if1 .left)
+    (sym (c .before .before .before .before .before .before .before .before .slots-full .ensures) ∙ c .before .before .before .before .before .before .before .if2 .left) _ _ (c .draw .ensures .0) (c .draw .ensures .1) none
 
 pub decided-spec : {M : Type 1} → statement M
 decided-spec =
     tie.close
     (tie.spec
-    named-requires
-    decode-shared-requires
-    facing-requires
-    decode-requires
-    decode-requires-2
-    decide-requires
-    returns)
+    element-copy-out-bytes
+    element-copy-out-bytes-full
+    add-bytes-full
+    undrawn-requires
+    returns
+    element-copy-out-slots-full
+    element-copy-out-slots-full-2
+    slots-full-requires
+    undrawn-requires-2
+    returns-2
+    element-copy-out-in-allowance
+    undrawn-requires-3
+    returns-3
+    element-copy-out-short
+    mul-short
+    element-copy-out-short-2
+    element-copy-out-light
+    mul-light
+    undrawn-requires-4
+    returns-4
+    undrawn-requires-5
+    returns-5
+    draw-requires
+    returns-6)

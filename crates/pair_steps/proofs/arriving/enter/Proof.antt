@@ -1,74 +1,47 @@
--- `enter`: the words of the store, of the backlog and of the ends.
+-- `enter`: the packet, the words of the backlog and of the ends, and then the verdict's.
 use borrow.Author.Needs.{needs}
-use mathlib.Core.Path.{_≡_, ap, refl, sym, _∙_}
+use mathlib.Core.Path.{_≡_, ap, _∙_}
+use mathlib.Core.Bool.{cond}
 use mathlib.Core.List.{List}
 use Prim.Native.Nat.{ℕ, _+_}
 use native.Mathlib.Omega.{arith}
+use lib.Dec.{eqb}
 use lib.ListN.{getD, set}
-use lib.Seq.{getD-set-other}
 use denote.Ref.{now}
-use Rattle.store.specs.Put.{endsAfterPut, handlesAfterPut, sizesAfterPut}
-use Rattle.store.specs.declared.Ends.{Ends}
-use Rattle.store.specs.declared.Store.{Store}
-use Rattle.pair_state.specs.Queues.{storing}
-use Rattle.pair_words.specs.Words.{endsOf, sharedOf, sharedWords}
-use Rattle.pair_steps.proofs.Words.{stored-words}
+use Rattle.pie.specs.Verdicts.{placeOf}
+use Rattle.pair_steps.specs.Written.{enteredWords, settledWords}
+use Rattle.pair_steps.proofs.Words.{past-count, past-entered, queued-words, queuedWords}
 use Rattle.pair_steps.proofs.arriving.enter.Statement.{statement}
 use Rattle.pair_steps.proofs.arriving.enter.Tie as tie
 
-abbrev at-place : tie.After-own5 → tie.After-free-place
-at-place c = c .before .before .before .before .before .before .before .before .before .before .before
+abbrev start-of : tie.After-lead → tie.Start
+start-of l = l .before .before .before .before .before .before .before .before .before .before .before .before .before .before
 
-abbrev at-packet : tie.After-own5 → tie.After-write-packet
-at-packet c = c .before .before .before .before .before
-
-abbrev at-ends : tie.After-own5 → tie.After-put2
-at-ends c = at-packet c .before .before .before
-
-abbrev at-store : tie.After-own5 → tie.After-put
-at-store c = at-ends c .before
-
-abbrev at-start : tie.After-own5 → tie.Start
-at-start c = at-place c .before .before .before .before .before .before .before .before .before
-
-element-copy-out-own : tie.Need-element-copy-out-own
-element-copy-out-own c = search needs
+-- the words before the verdict's are written
+entered : (l : tie.After-lead) →
+    let a = start-of l in
+    queuedWords (l .lead .last .0) (getD (now (a .args .own)) 12 0) (a .args .size) (a .args .place)
+    ≡ enteredWords (now (a .args .own)) (a .args .size) (a .args .place)
+entered l =
+    let a = start-of l in
+    let ow = now (a .args .own) in
+    ap (λ (w : List ℕ). queuedWords w (getD ow 12 0) (a .args .size) (a .args .place)) (l .lead .ensures)
+    ∙ queued-words (a .args .size) (a .args .place) ow (a .pre .0 .0)
 
 element-copy-out-count : tie.Need-element-copy-out-count
 element-copy-out-count c = search needs
 
-element-copy-out-own-2 : tie.Need-element-copy-out-own-2
-element-copy-out-own-2 c = search needs
-
-element-copy-out-own-3 : tie.Need-element-copy-out-own-3
-element-copy-out-own-3 c = search needs
-
-element-copy-out-own-4 : tie.Need-element-copy-out-own-4
-element-copy-out-own-4 c = search needs
+element-copy-out-own : tie.Need-element-copy-out-own
+element-copy-out-own c = search needs
 
 element-copy-out-count-2 : tie.Need-element-copy-out-count-2
 element-copy-out-count-2 c = search needs
 
-free-place-requires : tie.Need-free-place-requires
-free-place-requires c κs = search needs
-
-put-requires : tie.Need-put-requires
-put-requires c κs = search needs
-
-put-requires-2 : tie.Need-put-requires-2
-put-requires-2 c κs = search needs
-
 write-packet-requires : tie.Need-write-packet-requires
 write-packet-requires c κs = search needs
 
-element-write-shared : tie.Need-element-write-shared
-element-write-shared c = search needs
-
-element-write-shared-2 : tie.Need-element-write-shared-2
-element-write-shared-2 c = search needs
-
-element-write-shared-3 : tie.Need-element-write-shared-3
-element-write-shared-3 c = search needs
+lead-requires : tie.Need-lead-requires
+lead-requires c κs = search needs
 
 add-own : tie.Need-add-own
 add-own c = search needs
@@ -76,14 +49,16 @@ add-own c = search needs
 element-write-own : tie.Need-element-write-own
 element-write-own c = search needs
 
-element-copy-out-own-5 : tie.Need-element-copy-out-own-5
-element-copy-out-own-5 c = search needs
+element-copy-out-own-2 : tie.Need-element-copy-out-own-2
+element-copy-out-own-2 c = search needs
 
 add-own-2 : tie.Need-add-own-2
 add-own-2 c =
-    let a = at-start c in
+    let l = c .before in
+    let a = start-of l in
     let ow = now (a .args .own) in
-    omega (arith, a .pre .0 .2, a .pre .1 .1 .1 .1, getD-set-other ow 12 13 (getD ow 12 0 + 1) 0 (λ x. omega arith))
+    let count = getD ow 12 0 + 1 in
+    omega (arith, a .pre .0 .2, a .pre .1 .1 .0 .1, ap (λ (w : List ℕ). getD (set w 12 count) 13 0) (l .lead .ensures), past-count ow (cond (eqb (getD ow 12 0) 0) (a .args .place) (getD ow 14 0)) count)
 
 element-write-own-2 : tie.Need-element-write-own-2
 element-write-own-2 c = search needs
@@ -91,8 +66,13 @@ element-write-own-2 c = search needs
 element-write-own-3 : tie.Need-element-write-own-3
 element-write-own-3 c = search needs
 
-element-write-own-4 : tie.Need-element-write-own-4
-element-write-own-4 c = search needs
+settle-requires : tie.Need-settle-requires
+settle-requires c κs =
+    let l = c .before .before in
+    let a = start-of l in
+    let ow = now (a .args .own) in
+    let at = 16 + placeOf (a .args .v) in
+    omega (arith, ap (λ (w : List ℕ). getD w at 0) (entered l), past-entered (a .args .size) (a .args .place) (a .args .v) ow (a .pre .0 .0), a .pre .1 .1 .1)
 
 same-length : tie.Need-same-length
 same-length c = search needs
@@ -102,22 +82,13 @@ same-length-2 c = search needs
 
 returns : tie.Need-returns
 returns c =
-    let a = at-start c in
-    let f = at-place c .free-place .ensures in
-    let sh = now (a .args .shared) in
-    let ow = now (a .args .own) in
-    let put = at-store c .put in
-    let ends = at-ends c .put2 in
-    let packet = at-packet c .write-packet .ensures in
-    let counted = set ow 12 (getD ow 12 0 + 1) in
-    let held = set counted 13 (getD counted 13 0 + a .args .size) in (
-      stored-words (put .result) sh (a .pre .0 .0) ∙ ap (λ (s : Store). sharedWords (storing (sharedOf sh) s)) (put .ensures),
+    let l = c .before .before .before in
+    let a = start-of l in
+    let packet = l .before .before .before .before .before .before .write-packet .ensures in (
+      c .settle .ensures .0,
       (
-        ap (λ (e : Ends). set (set held 14 (e .head)) 15 (e .tail)) (ends .ensures ∙ ap (endsAfterPut (endsOf ow) (getD ow 12 0)) f),
-        (
-          packet .0 ∙ ap (λ (n : ℕ). handlesAfterPut (now (a .args .handles)) n (a .args .handle)) f,
-          packet .1 ∙ ap (λ (n : ℕ). sizesAfterPut (endsOf ow) (getD ow 12 0) (now (a .args .sizes)) n (a .args .size)) f,
-        ),
+        c .settle .ensures .1 ∙ ap (λ (w : List ℕ). settledWords w (a .args .clock) (a .args .accumulated) (a .args .v)) (entered l),
+        packet,
       ),
     )
 
@@ -125,26 +96,18 @@ pub enter-spec : {M : Type 1} → statement M
 enter-spec =
     tie.close
     (tie.spec
-    element-copy-out-own
     element-copy-out-count
-    element-copy-out-own-2
-    element-copy-out-own-3
-    element-copy-out-own-4
+    element-copy-out-own
     element-copy-out-count-2
-    free-place-requires
-    put-requires
-    put-requires-2
     write-packet-requires
-    element-write-shared
-    element-write-shared-2
-    element-write-shared-3
+    lead-requires
     add-own
     element-write-own
-    element-copy-out-own-5
+    element-copy-out-own-2
     add-own-2
     element-write-own-2
     element-write-own-3
-    element-write-own-4
+    settle-requires
     same-length
     same-length-2
     returns)
