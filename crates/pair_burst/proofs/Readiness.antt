@@ -2,7 +2,7 @@
 use mathlib.Core.Path.{_≡_, refl, sym, ap, _∙_}
 use mathlib.Core.Bool.{Bool, true, false, cond, not}
 use mathlib.Core.List.{List}
-use Prim.Native.Nat.{ℕ, zero, suc, _+_, _≤_, _<_}
+use Prim.Native.Nat.{ℕ, zero, suc, _+_, _≤_}
 use native.Mathlib.Omega.{arith}
 use lib.Dec.{eqb}
 use lib.ListN.{getD, length}
@@ -33,18 +33,6 @@ use Rattle.pair_burst.specs.Calls.{Call, asked, unknown}
 use Rattle.pair_burst.specs.Burst.{Lent, Ready, after, lent, otherWords, ownWords, queuesOf, sharedLeft}
 use Rattle.pair_burst.proofs.Formed.{reply-formed}
 use Rattle.pair_burst.proofs.Kept.{after-long}
-
-pub first-ready : (s o t handles sizes : List ℕ) → Ready (lent Intercom s o t handles sizes) 1 →
-    ((length s ≡ 6) × (length o ≡ 21))
-    × ((wellFormed (pairOf false s o t) ≡ true)
-    × (((length handles ≡ sharedOf s .slots) × (length sizes ≡ sharedOf s .slots)) × (total (stateOf o .verdicts) < mostVerdicts)))
-first-ready s o t handles sizes (a, b, _, formed, h, z, room, _) = ((a, b), (formed, ((h, z), omega arith)))
-
-pub second-ready : (s o t handles sizes : List ℕ) → Ready (lent Intercom s o t handles sizes) 1 →
-    ((length s ≡ 6) × (length t ≡ 21))
-    × ((wellFormed (pairOf true s t o) ≡ true)
-    × (((length handles ≡ sharedOf s .slots) × (length sizes ≡ sharedOf s .slots)) × (total (stateOf t .verdicts) < mostVerdicts)))
-second-ready s o t handles sizes (a, _, c, formed, h, z, _, room) = ((a, c), (formed, ((h, z), omega arith)))
 
 pub ready-one : (q : Lent) (n : ℕ) → 1 ≤ n → Ready q n → Ready q 1
 ready-one q n some (a, b, c, formed, h, z, r, s) = (a, b, c, formed, h, z, omega arith, omega arith)

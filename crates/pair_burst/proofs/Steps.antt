@@ -1,6 +1,6 @@
 -- One call of a burst, from what its entry gives.
 use mathlib.Core.Path.{_≡_, refl, ap, sym, _∙_}
-use mathlib.Core.Bool.{Bool, true, false, _&&_}
+use mathlib.Core.Bool.{Bool, true, false, _&&_, false≢true}
 use mathlib.Core.List.{List, [], _∷_}
 use Prim.Native.Nat.{ℕ, zero, suc, _+_, _-_, _≤_}
 use native.Mathlib.Omega.{arith}
@@ -74,6 +74,19 @@ departure-small p w handles sizes clock = go (departureRefusal p w (length handl
         (codeOf a ≤ 65535) × (sizeIn a ≤ 65535)
     go zero e accepted = (omega arith, omega arith)
     go (suc n) e accepted = (omega arith, omega arith)
+
+-- a departure that is refused hands out nothing
+pub departure-refused : (p : Pair) (w : Which) (handles sizes : List ℕ) (clock : ℕ) →
+    let a = departure p w handles sizes clock .answer in eqb (codeOf a) 0 ≡ false → codeOf a ≡ answerWord a
+unfolding departure
+departure-refused p w handles sizes clock = go (departureRefusal p w (length handles) sizes clock) _
+  where
+    go : (n : ℕ) (accepted : Pair) →
+        let s = own w p in
+        let a = (unlessRefused n p (record { answer = departed (headHandle s handles) (headSize s sizes); pair = accepted })) .answer in
+        eqb (codeOf a) 0 ≡ false → codeOf a ≡ answerWord a
+    go zero accepted e = absurd (false≢true (sym e))
+    go (suc n) accepted e = omega arith
 
 -- ── each kind of call ──
 

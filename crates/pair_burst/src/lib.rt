@@ -1,9 +1,6 @@
 // One entry for a list of calls on two queues: the records are tested once, and each call is answered as the single entries would.
-use crate::known::call_known;
-use crate::single::call_single;
-use pair_state::well_formed;
-use pair_words::decode;
-use pair_words::decode_shared;
+use crate::one::answer;
+use pair_words::records_fit;
 use pie::MOST_VERDICTS;
 ghost use mathlib.Core.Path.{_≡_};
 ghost use mathlib.Core.Bool.{cond, false, true};
@@ -15,10 +12,9 @@ ghost use Rattle.pie.specs.Verdicts.{total};
 ghost use Rattle.bursts.specs.Burst.{burst, done, fits, outcome};
 ghost use Rattle.pair_state.specs.WellFormed.{wellFormed};
 ghost use Rattle.pair_words.specs.Words.{pairOf, sharedOf, stateOf};
-ghost use Rattle.pair_burst.specs.Burst.{Ready, lent, pairBursts};
+ghost use Rattle.pair_burst.specs.Burst.{Ready, lent, lentBoth, pairBursts};
 
-mod known;
-mod single;
+mod one;
 
 // Whether the counts, which sum to at most 2^48, have room for `n` arrivals.
 fn has_room(counts: [u64; 5], n: u64) -> bool
@@ -51,71 +47,62 @@ fn ready(
         × (total (stateOf (now (intercom .entry)) .verdicts) + n ≤ mostVerdicts)
         × (total (stateOf (now (passengers .entry)) .verdicts) + n ≤ mostVerdicts))) ⌝ }
 {
-    let s = decode_shared(*shared);
-    let o = decode(*intercom);
-    let t = decode(*passengers);
-    let formed = well_formed(s, o, t);
+    let formed = records_fit(shared, intercom, passengers, false);
     if !formed {
         return false;
     }
-    let fit = (handles == s.slots) & (sizes == s.slots);
+    let slots = shared[0];
+    let fit = (handles == slots) & (sizes == slots);
     if !fit {
         return false;
     }
-    let counts = o.verdicts;
-    let first = has_room(counts, n);
+    let first = has_room(
+        [
+            intercom[16],
+            intercom[17],
+            intercom[18],
+            intercom[19],
+            intercom[20],
+        ],
+        n,
+    );
     if !first {
         return false;
     }
-    let others = t.verdicts;
-    has_room(others, n)
+    has_room(
+        [
+            passengers[16],
+            passengers[17],
+            passengers[18],
+            passengers[19],
+            passengers[20],
+        ],
+        n,
+    )
 }
 
-// All calls, on records that are ready for so many arrivals.
-fn all_known(
+// All calls. Where `tested`, the records are ready for so many arrivals.
+fn all(
     shared: &mut [u64; 6],
-    intercom: &mut [u64; 21],
-    passengers: &mut [u64; 21],
+    both: &mut [[u64; 21]; 2],
     handles: &mut [u32],
     sizes: &mut [u32],
     calls: &[u32],
     answers: &mut [u64],
+    tested: bool,
 )
-    requires { ⌜ Ready (lent Intercom (now shared) (now intercom) (now passengers) (now handles) (now sizes)) (length (now answers)) ⌝ }
-    requires { ⌜ length (now calls) ≡ 6 * length (now answers) ⌝ }
-    ensures { λ _. ⌜ done pairBursts (lent Intercom (now (shared .exit)) (now (intercom .exit)) (now (passengers .exit))
-        (now (handles .exit)) (now (sizes .exit))) (now (answers .exit))
-        ≡ burst pairBursts (lent Intercom (now (shared .entry)) (now (intercom .entry)) (now (passengers .entry))
-        (now (handles .entry)) (now (sizes .entry))) (now (calls .entry)) (now (answers .entry)) (length (now (answers .entry))) ⌝ }
+    requires { ⌜ (length (now both) ≡ 2) × (length (now calls) ≡ 6 * length (now answers)) ⌝ }
+    requires { ⌜ ((tested ≡ true) → Ready (lentBoth (now shared) (now both) (now handles) (now sizes)) (length (now answers))) ⌝ }
+    ensures { λ _. ⌜ length (now (both .exit)) ≡ 2 ⌝ }
+    ensures { λ _. ⌜ done pairBursts (lentBoth (now (shared .exit)) (now (both .exit)) (now (handles .exit)) (now (sizes .exit)))
+        (now (answers .exit))
+        ≡ burst pairBursts (lentBoth (now (shared .entry)) (now (both .entry)) (now (handles .entry)) (now (sizes .entry)))
+        (now (calls .entry)) (now (answers .entry)) (length (now (answers .entry))) ⌝ }
 {
     let mut i: usize = 0;
     while i < answers.len() {
-        let answer = call_known(shared, intercom, passengers, handles, sizes, calls, 6 * i);
-        answers[i] = answer;
-        i += 1;
-    }
-}
-
-// All calls, by the single entries.
-fn all_single(
-    shared: &mut [u64; 6],
-    intercom: &mut [u64; 21],
-    passengers: &mut [u64; 21],
-    handles: &mut [u32],
-    sizes: &mut [u32],
-    calls: &[u32],
-    answers: &mut [u64],
-)
-    requires { ⌜ length (now calls) ≡ 6 * length (now answers) ⌝ }
-    ensures { λ _. ⌜ done pairBursts (lent Intercom (now (shared .exit)) (now (intercom .exit)) (now (passengers .exit))
-        (now (handles .exit)) (now (sizes .exit))) (now (answers .exit))
-        ≡ burst pairBursts (lent Intercom (now (shared .entry)) (now (intercom .entry)) (now (passengers .entry))
-        (now (handles .entry)) (now (sizes .entry))) (now (calls .entry)) (now (answers .entry)) (length (now (answers .entry))) ⌝ }
-{
-    let mut i: usize = 0;
-    while i < answers.len() {
-        let answer = call_single(shared, intercom, passengers, handles, sizes, calls, 6 * i);
-        answers[i] = answer;
+        let word = answer(shared, both, handles, sizes, calls, 6 * i, tested);
+        answers[i] = word;
         i += 1;
     }
 }
@@ -142,7 +129,7 @@ pub extern "C" fn obikuteru_pair_calls(
     if !fit {
         return 120;
     }
-    let ahead = ready(
+    let tested = ready(
         shared,
         intercom,
         passengers,
@@ -150,10 +137,9 @@ pub extern "C" fn obikuteru_pair_calls(
         sizes.len() as u64,
         n as u64,
     );
-    if ahead {
-        all_known(shared, intercom, passengers, handles, sizes, calls, answers);
-        return 0;
-    }
-    all_single(shared, intercom, passengers, handles, sizes, calls, answers);
+    let mut both: [[u64; 21]; 2] = [*intercom, *passengers];
+    all(shared, &mut both, handles, sizes, calls, answers, tested);
+    *intercom = both[0];
+    *passengers = both[1];
     0
 }

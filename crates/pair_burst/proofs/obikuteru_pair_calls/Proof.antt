@@ -1,3 +1,4 @@
+-- `obikuteru_pair_calls`: lengths that fit, and then all calls on the words of both queues.
 use borrow.Author.Needs.{needs}
 use Rattle.pair_burst.proofs.obikuteru_pair_calls.Statement.{statement}
 use Rattle.pair_burst.proofs.obikuteru_pair_calls.Tie as tie
@@ -28,8 +29,14 @@ returns c =
 ready-requires : tie.Need-ready-requires
 ready-requires c κs = search needs
 
-all-known-requires : tie.Need-all-known-requires
-all-known-requires c κs = (c .before .before .before .before .before .before .before .ready .ensures (c .before .before .before .before .before .before .if2 .taken), six (c .before .before .before .before .before .before .before .before .before .before .before))
+all-requires : tie.Need-all-requires
+all-requires c κs = ((refl, six (c .before .before .before .before .before .before .before .before .before .before .before)), λ t. c .before .before .before .before .before .before .before .ready .ensures t)
+
+array-copy-out-intercom : tie.Need-array-copy-out-intercom
+array-copy-out-intercom c = search needs
+
+array-copy-out-passengers : tie.Need-array-copy-out-passengers
+array-copy-out-passengers c = search needs
 
 same-length : tie.Need-same-length
 same-length c = search needs
@@ -41,22 +48,7 @@ same-length-3 : tie.Need-same-length-3
 same-length-3 c = search needs
 
 returns-2 : tie.Need-returns-2
-returns-2 c = rw (fit (c .before .before .before .before .before .before .before .before .before .before .before .before .before .before .before .before .before .before)) (refl, c .before .before .before .before .before .before .all-known .ensures)
-
-all-single-requires : tie.Need-all-single-requires
-all-single-requires c κs = six (c .before .before .before .before .before .before .before .before .before .before .before)
-
-same-length-4 : tie.Need-same-length-4
-same-length-4 c = search needs
-
-same-length-5 : tie.Need-same-length-5
-same-length-5 c = search needs
-
-same-length-6 : tie.Need-same-length-6
-same-length-6 c = search needs
-
-returns-3 : tie.Need-returns-3
-returns-3 c = rw (fit (c .before .before .before .before .before .before .before .before .before .before .before .before .before .before .before .before .before .before)) (refl, c .before .before .before .before .before .before .all-single .ensures)
+returns-2 c = rw (fit (c .before .before .before .before .before .before .before .before .before .before .before .before .before .before .before .before .before .before .before .before)) (refl, c .before .before .before .before .before .before .before .before .all .ensures .1)
 
 pub obikuteru-pair-calls-spec : {M : Type 1} → statement M
 obikuteru-pair-calls-spec =
@@ -64,13 +56,10 @@ obikuteru-pair-calls-spec =
     (tie.spec
     returns
     ready-requires
-    all-known-requires
+    all-requires
+    array-copy-out-intercom
+    array-copy-out-passengers
     same-length
     same-length-2
     same-length-3
-    returns-2
-    all-single-requires
-    same-length-4
-    same-length-5
-    same-length-6
-    returns-3)
+    returns-2)
