@@ -1,16 +1,14 @@
 -- One call of a burst, from what its entry gives.
 use mathlib.Core.Path.{_≡_, refl, ap, _∙_}
-use mathlib.Core.Bool.{Bool, true, false, cond, _&&_}
-use mathlib.Core.List.{List, [], _∷_}
+use mathlib.Core.Bool.{true, false, cond}
+use mathlib.Core.List.{List}
 use Prim.Native.Nat.{ℕ, zero, suc, _+_, _≤_}
 use native.Mathlib.Omega.{arith}
-use lib.Dec.{eqb, leb}
+use lib.Dec.{eqb}
 use lib.ListN.{getD, length}
-use borrow.Author.Tests.{leb-true}
 use Rattle.laws.proofs.Choice.{either}
-use Rattle.laws.proofs.Tests.{and-left, and-right}
-use Rattle.refusals.specs.Rows.{firstRefusal}
 use Rattle.bursts.specs.Numbers.{clockAt}
+use Rattle.bursts.proofs.Answers.{first-low}
 use Rattle.bursts.proofs.Steps.{Step}
 use Rattle.queue.specs.Answer.{Answer, refused, sizeIn}
 use Rattle.docsis_flow.specs.Answer.{Reply, unlessRefused}
@@ -28,7 +26,8 @@ use Rattle.docsis_guarantees.proofs.Replies.{arrivalOf, departureOf, tickOf}
 use Rattle.words.specs.Codes.{codeOf}
 use Rattle.docsis_words.specs.Words.{stateOf, stateWords}
 use Rattle.docsis_burst.specs.Calls.{callAt}
-use Rattle.docsis_burst.specs.Burst.{Lent, answerWord, flowBursts, lent}
+use Rattle.bursts.specs.Answers.{answerWord}
+use Rattle.docsis_burst.specs.Burst.{Lent, flowBursts, lent}
 
 -- ── a reply with refusal 10 ahead of it ──
 
@@ -62,16 +61,6 @@ plain-tick s counts flow clock credits =
     (plain-unless (flow-tick.tickRefusal s (rowOf counts flow) clock) s (tickOf s clock credits) (omega arith))
 
 -- ── the parts of a departure's answer are small ──
-
--- no number is above 9
-abbrev lows : List (ℕ × Bool) → Bool
-lows [] = true
-lows ((number, test) ∷ rows) = leb number 9 && lows rows
-
-first-low : (rows : List (ℕ × Bool)) → lows rows ≡ true → firstRefusal rows ≤ 9
-first-low [] e = omega arith
-first-low ((number, true) ∷ rows) e = leb-true number 9 (and-left (leb number 9) (lows rows) e)
-first-low ((number, false) ∷ rows) e = first-low rows (and-right (leb number 9) (lows rows) e)
 
 number-low : (s : State) (row : List ℕ) (h z clock head : ℕ) → flow-departure.departureRefusal s row h z clock head ≤ 9
 unfolding flow-departure.departureRefusal

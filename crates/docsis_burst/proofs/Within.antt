@@ -22,7 +22,8 @@ use Rattle.docsis.specs.Counts.{countsAfter, rowOf}
 use Rattle.docsis_guarantees.proofs.Replies.{departureOf, tickOf}
 use Rattle.words.specs.Codes.{codeOf}
 use Rattle.docsis_words.specs.Words.{stateOf, stateWords}
-use Rattle.docsis_burst.specs.Burst.{answerWord, flowBursts, lent}
+use Rattle.bursts.specs.Answers.{answerWord}
+use Rattle.docsis_burst.specs.Burst.{flowBursts, lent}
 use Rattle.docsis_burst.proofs.Kept.{within}
 use Rattle.docsis_burst.proofs.Steps.{arrival-step, departure-step, tick-step}
 

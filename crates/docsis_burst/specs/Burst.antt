@@ -6,15 +6,14 @@ use Prim.Native.Nat.{ℕ, _+_, _≤_}
 use lib.ListN.{length}
 use Rattle.pie.specs.Constants.{mostVerdicts}
 use Rattle.pie.specs.Verdicts.{total}
+use Rattle.bursts.specs.Answers.{answerWord}
 use Rattle.bursts.specs.Kind.{BurstKind}
-use Rattle.bursts.specs.Numbers.{wordOf}
-use Rattle.queue.specs.Answer.{Answer, handleIn, refused, sizeIn}
+use Rattle.queue.specs.Answer.{Answer, refused}
 use Rattle.docsis_flow.specs.State.{formed}
 use Rattle.docsis.specs.Answer.{ModemReply}
 use Rattle.docsis.specs.Counts.{rowOf}
 use Rattle.docsis_guarantees.specs.Handed.{Request}
 use Rattle.docsis_guarantees.specs.Modem.{Flow, ask, flowAfter, modemReply}
-use Rattle.words.specs.Codes.{codeOf}
 use Rattle.docsis_words.specs.Words.{stateOf, stateWords}
 use Rattle.docsis_burst.specs.Calls.{Call, asked, callAt, unknown}
 
@@ -48,10 +47,6 @@ after flow q (asked r) =
     let next = flowAfter (flowOf q) (ask r) a in
     lent (stateWords (next .state)) (a .counts) (next .handles) (next .sizes)
 after flow q unknown = q
-
--- an answer as a word
-abbrev pub answerWord : Answer → ℕ
-answerWord a = wordOf (codeOf a) (sizeIn a) (handleIn a)
 
 -- six numbers for each call
 abbrev pub flowBursts : (flow : ℕ) → BurstKind

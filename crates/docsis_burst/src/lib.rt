@@ -23,7 +23,8 @@ ghost use Rattle.docsis.specs.Counts.{rowOf};
 ghost use Rattle.words.specs.Codes.{codeOf};
 ghost use Rattle.docsis_words.specs.Words.{stateOf, stateWords};
 ghost use Rattle.docsis_burst.specs.Calls.{callAt};
-ghost use Rattle.docsis_burst.specs.Burst.{Ready, after, answerTo, answerWord, flowBursts, lent};
+ghost use Rattle.bursts.specs.Answers.{answerWord};
+ghost use Rattle.docsis_burst.specs.Burst.{Ready, after, answerTo, flowBursts, lent};
 
 mod arriving;
 mod departing;

@@ -1,17 +1,15 @@
 -- Each call of a burst is the single entry's.
 use mathlib.Core.Path.{_≡_, refl, ap, sym, _∙_}
-use mathlib.Core.Bool.{Bool, true, false, _&&_}
+use mathlib.Core.Bool.{Bool, true, false}
 use mathlib.Core.Logic.{_≢_}
-use mathlib.Core.List.{List, [], _∷_}
+use mathlib.Core.List.{List}
 use Prim.Native.Nat.{ℕ, zero, suc, _+_, _*_, _≤_, _<_}
 use native.Mathlib.Omega.{arith}
-use lib.Dec.{eqb, leb, ltb}
+use lib.Dec.{eqb, ltb}
 use lib.ListN.{getD, length}
-use borrow.Author.Tests.{leb-true}
-use Rattle.laws.proofs.Tests.{and-left, and-right}
 use Rattle.bursts.specs.Numbers.{clockAt}
+use Rattle.bursts.proofs.Answers.{first-low}
 use Rattle.bursts.proofs.Steps.{Step}
-use Rattle.refusals.specs.Rows.{firstRefusal}
 use Rattle.fq_state.specs.State.{State}
 use Rattle.fq_state.proofs.Words.{length-flows}
 use Rattle.fq_rules.specs.Answer.{Reply, flowIn, sizeIn}
@@ -41,15 +39,6 @@ plain-tick : (s : State) (clock : ℕ) → Plain (tick s clock)
 plain-tick s clock = by-number Plain s (update clock) (λ n some given. omega arith) (λ none. omega arith)
 
 -- ── the parts of a departure's answer are small ──
-
-abbrev lows : List (ℕ × Bool) → Bool
-lows [] = true
-lows ((number, test) ∷ rows) = leb number 9 && lows rows
-
-first-low : (rows : List (ℕ × Bool)) → lows rows ≡ true → firstRefusal rows ≤ 9
-first-low [] e = omega arith
-first-low ((number, true) ∷ rows) e = leb-true number 9 (and-left (leb number 9) (lows rows) e)
-first-low ((number, false) ∷ rows) e = first-low rows (and-right (leb number 9) (lows rows) e)
 
 abbrev Small : Reply → Type 0
 Small r = (codeOf (r .answer) ≤ 255) × (flowIn (r .answer) ≤ 255) × (sizeIn (r .answer) ≤ 65535)

@@ -4,13 +4,11 @@ use mathlib.Core.Bool.{Bool, true, false, _&&_, false≢true}
 use mathlib.Core.List.{List, [], _∷_}
 use Prim.Native.Nat.{ℕ, zero, suc, _+_, _-_, _≤_}
 use native.Mathlib.Omega.{arith}
-use lib.Dec.{eqb, leb, ltb}
+use lib.Dec.{eqb, ltb}
 use lib.ListN.{getD, length}
-use borrow.Author.Tests.{leb-true}
-use Rattle.laws.proofs.Tests.{and-left, and-right}
 use Rattle.bursts.specs.Numbers.{clockAt}
+use Rattle.bursts.proofs.Answers.{first-low}
 use Rattle.bursts.proofs.Steps.{Step}
-use Rattle.refusals.specs.Rows.{firstRefusal}
 use Rattle.queue.specs.Answer.{Answer, departed, handleIn, refused, sizeIn, ticked, verdict}
 use Rattle.guarantees.specs.Handed.{Request}
 use Rattle.pair_state.specs.Answer.{Reply}
@@ -26,7 +24,8 @@ use Rattle.words.specs.Codes.{codeOf}
 use Rattle.pair_words.specs.After.{ownAfter, sharedAfter}
 use Rattle.pair_words.specs.Words.{pairOf, whichOf}
 use Rattle.pair_burst.specs.Calls.{asked, callAt, requestAt}
-use Rattle.pair_burst.specs.Burst.{after, answerTo, answerWord, lent, pairBursts}
+use Rattle.bursts.specs.Answers.{answerWord}
+use Rattle.pair_burst.specs.Burst.{after, answerTo, lent, pairBursts}
 
 -- ── the word of an answer that hands out nothing is its code ──
 
@@ -48,16 +47,6 @@ unfolding tick
 plain-tick p w clock = plain-unless (tickRefusal p w clock) p _ (omega arith)
 
 -- ── the numbers of a departure's answer are small ──
-
--- no number is above 9
-abbrev lows : List (ℕ × Bool) → Bool
-lows [] = true
-lows ((number, test) ∷ rows) = leb number 9 && lows rows
-
-first-low : (rows : List (ℕ × Bool)) → lows rows ≡ true → firstRefusal rows ≤ 9
-first-low [] e = omega arith
-first-low ((number, true) ∷ rows) e = leb-true number 9 (and-left (leb number 9) (lows rows) e)
-first-low ((number, false) ∷ rows) e = first-low rows (and-right (leb number 9) (lows rows) e)
 
 number-low : (p : Pair) (w : Which) (h : ℕ) (sizes : List ℕ) (clock : ℕ) → departureRefusal p w h sizes clock ≤ 9
 unfolding departureRefusal

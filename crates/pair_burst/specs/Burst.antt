@@ -7,16 +7,15 @@ use lib.Dec.{ltb}
 use lib.ListN.{getD, length}
 use Rattle.pie.specs.Constants.{mostVerdicts}
 use Rattle.pie.specs.Verdicts.{total}
+use Rattle.bursts.specs.Answers.{answerWord}
 use Rattle.bursts.specs.Kind.{BurstKind}
-use Rattle.bursts.specs.Numbers.{wordOf}
-use Rattle.queue.specs.Answer.{Answer, handleIn, refused, sizeIn}
+use Rattle.queue.specs.Answer.{Answer, refused}
 use Rattle.guarantees.specs.Handed.{Request, askArrival, askDeparture, askTick}
 use Rattle.pair_state.specs.Answer.{Reply}
 use Rattle.pair_state.specs.WellFormed.{wellFormed}
 use Rattle.pair_state.specs.declared.Which.{Which}
 use Rattle.pair_state.specs.declared.Which.the-variants.{Intercom, Passengers}
 use Rattle.pair_isolation.specs.Handed.{Queues, replyTo, returned}
-use Rattle.words.specs.Codes.{codeOf}
 use Rattle.pair_words.specs.After.{ownAfter, sharedAfter}
 use Rattle.pair_words.specs.Words.{pairOf, sharedOf, stateOf, whichOf}
 use Rattle.pair_burst.specs.Calls.{Call, asked, callAt, requestAt, unknown}
@@ -66,10 +65,6 @@ after q (asked w r) =
     let next = returned (queuesOf q) w r a in
     lent w (sharedLeft r a (q .shared)) (ownAfter w a (ownWords w q)) (otherWords w q) (next .handles) (next .sizes)
 after q unknown = q
-
--- an answer as a word
-abbrev pub answerWord : Answer → ℕ
-answerWord a = wordOf (codeOf a) (sizeIn a) (handleIn a)
 
 -- the words of both queues in one list, the intercom's first
 abbrev pub lentBoth : (shared : List ℕ) (both : List (List ℕ)) (handles sizes : List ℕ) → Lent
