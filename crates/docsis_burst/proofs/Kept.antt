@@ -27,7 +27,8 @@ use Rattle.docsis_guarantees.specs.Modem.{ask, flowAfter}
 use Rattle.docsis_guarantees.proofs.Replies.{acceptance, at-one-reply, reply-formed}
 use Rattle.docsis_words.specs.Words.{stateOf, stateWords}
 use Rattle.docsis_burst.specs.Calls as calls
-use Rattle.docsis_burst.specs.Burst.{Lent, Ready, after, flowOf, replyTo}
+use Rattle.docsis_burst.specs.Burst.{Lent, after, flowOf, replyTo}
+use Rattle.docsis_burst.specs.Fitting.{Ready}
 
 -- ── the flow's own reply, with its row ──
 

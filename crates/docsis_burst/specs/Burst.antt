@@ -1,17 +1,10 @@
 -- What the single entries do with a call on one flow, and the flow's bursts.
-use mathlib.Core.Path.{_≡_}
-use mathlib.Core.Bool.{true}
 use mathlib.Core.List.{List}
-use Prim.Native.Nat.{ℕ, _+_, _≤_}
-use lib.ListN.{length}
-use Rattle.pie.specs.Constants.{mostVerdicts}
-use Rattle.pie.specs.Verdicts.{total}
+use Prim.Native.Nat.{ℕ}
 use Rattle.bursts.specs.Answers.{answerWord}
 use Rattle.bursts.specs.Kind.{BurstKind}
 use Rattle.queue.specs.Answer.{Answer, refused}
-use Rattle.docsis_flow.specs.State.{formed}
 use Rattle.docsis.specs.Answer.{ModemReply}
-use Rattle.docsis.specs.Counts.{rowOf}
 use Rattle.docsis_guarantees.specs.Handed.{Request}
 use Rattle.docsis_guarantees.specs.Modem.{Flow, ask, flowAfter, modemReply}
 use Rattle.docsis_words.specs.Words.{stateOf, stateWords}
@@ -57,16 +50,3 @@ flowBursts flow =
       numbers = 6;
       callAt = callAt;
     }
-
--- sixteen words of a state that is formed, and tables that fit it
-abbrev pub Fitting : (words handles sizes : List ℕ) → Type 0
-Fitting words handles sizes =
-    (length words ≡ 16)
-    × (formed (stateOf words) ≡ true)
-    × (length handles ≡ stateOf words .settings .slots)
-    × (length sizes ≡ stateOf words .settings .slots)
-
--- one of the sixteen flows, with room in its row for so many arrivals
-abbrev pub Ready : (flow : ℕ) → Lent → (arrivals : ℕ) → Type 0
-Ready flow q arrivals =
-    (flow ≤ 15) × Fitting (q .words) (q .handles) (q .sizes) × (total (rowOf (q .counts) flow) + arrivals ≤ mostVerdicts)

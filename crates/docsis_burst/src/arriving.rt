@@ -24,7 +24,8 @@ ghost use Rattle.docsis_flow.specs.State.{formed};
 ghost use Rattle.docsis.specs.Counts.{countsAfter, rowOf};
 ghost use Rattle.words.specs.Codes.{codeOf};
 ghost use Rattle.docsis_words.specs.Words.{pieOf, stateOf, stateWords};
-ghost use Rattle.docsis_burst.specs.Burst.{Ready, lent};
+ghost use Rattle.docsis_burst.specs.Burst.{lent};
+ghost use Rattle.docsis_burst.specs.Fitting.{Ready};
 ghost use Rattle.docsis_burst.specs.Words.{pieWords};
 
 // Rule 5: whether the flow stays inactive. Rule 6 where it does not.

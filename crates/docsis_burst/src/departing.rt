@@ -13,7 +13,7 @@ ghost use Rattle.pie.specs.Verdicts.{total};
 ghost use Rattle.docsis_flow.specs.Departure.{departure};
 ghost use Rattle.docsis_words.specs.Words.{stateOf, stateWords};
 ghost use Rattle.bursts.specs.Answers.{answerWord};
-ghost use Rattle.docsis_burst.specs.Burst.{Fitting};
+ghost use Rattle.docsis_burst.specs.Fitting.{Fitting};
 
 // (first + 1) modulo slots, without a jump (docs/PERFORMANCE.md).
 fn following(first: u64, slots: u64) -> u64

@@ -24,7 +24,8 @@ ghost use Rattle.words.specs.Codes.{codeOf};
 ghost use Rattle.docsis_words.specs.Words.{stateOf, stateWords};
 ghost use Rattle.docsis_burst.specs.Calls.{callAt};
 ghost use Rattle.bursts.specs.Answers.{answerWord};
-ghost use Rattle.docsis_burst.specs.Burst.{Ready, after, answerTo, flowBursts, lent};
+ghost use Rattle.docsis_burst.specs.Burst.{after, answerTo, flowBursts, lent};
+ghost use Rattle.docsis_burst.specs.Fitting.{Ready};
 
 mod arriving;
 mod departing;

@@ -8,7 +8,8 @@ use lib.Dec.{eqb, ltb}
 use lib.ListN.{getD, length, set}
 use borrow.Author.Tests.{lt-ltb, ltb-false, ltb-true}
 use Rattle.bursts.proofs.Steps.{Step}
-use Rattle.pair_burst.specs.Burst.{Fitting, Ready, lentBoth, pairBursts}
+use Rattle.pair_burst.specs.Burst.{pairBursts}
+use Rattle.pair_burst.specs.Fitting.{Fitting, Ready, lentBoth}
 use Rattle.pair_burst.proofs.Refused.{either-way}
 use Rattle.pair_burst.proofs.Steps.{Asked, first-step, second-step}
 

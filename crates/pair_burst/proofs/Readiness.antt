@@ -30,7 +30,8 @@ use Rattle.words.specs.Flags.{flagWord, isSet}
 use Rattle.words.proofs.Written.{written-out}
 use Rattle.pair_words.specs.Words.{pairOf, sharedOf, sharedWords, stateOf, stateWords}
 use Rattle.pair_burst.specs.Calls.{Call, asked, unknown}
-use Rattle.pair_burst.specs.Burst.{Lent, Ready, after, lent, otherWords, ownWords, queuesOf, sharedLeft}
+use Rattle.pair_burst.specs.Burst.{Lent, after, lent, otherWords, ownWords, queuesOf, sharedLeft}
+use Rattle.pair_burst.specs.Fitting.{Ready}
 use Rattle.pair_burst.proofs.Formed.{reply-formed}
 use Rattle.pair_burst.proofs.Kept.{after-long}
 

@@ -12,7 +12,8 @@ ghost use Rattle.pie.specs.Verdicts.{total};
 ghost use Rattle.bursts.specs.Burst.{burst, done, fits, outcome};
 ghost use Rattle.pair_state.specs.WellFormed.{wellFormed};
 ghost use Rattle.pair_words.specs.Words.{pairOf, sharedOf, stateOf};
-ghost use Rattle.pair_burst.specs.Burst.{Ready, lent, lentBoth, pairBursts};
+ghost use Rattle.pair_burst.specs.Burst.{lent, pairBursts};
+ghost use Rattle.pair_burst.specs.Fitting.{Ready, lentBoth};
 
 mod one;
 

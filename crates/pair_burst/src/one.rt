@@ -21,7 +21,8 @@ ghost use Rattle.pair_words.specs.After.{ownAfter, sharedAfter};
 ghost use Rattle.pair_words.specs.Words.{pairOf, sharedOf, whichOf};
 ghost use Rattle.pair_burst.specs.Calls.{asked, callAt, requestAt};
 ghost use Rattle.bursts.specs.Answers.{answerWord};
-ghost use Rattle.pair_burst.specs.Burst.{Fitting, Ready, Stays, after, answerTo, lent, lentBoth};
+ghost use Rattle.pair_burst.specs.Burst.{after, answerTo, lent};
+ghost use Rattle.pair_burst.specs.Fitting.{Fitting, Ready, Stays, lentBoth};
 
 // The code of the refusal of records, tables or counts for a call on the queue whose words are `own`, or 0.
 fn refusal_of(

@@ -9,7 +9,8 @@ use denote.Ref.{now}
 use Rattle.bursts.specs.Burst.{burst, done}
 use Rattle.bursts.proofs.Steps.{one-more, ready-next}
 use Rattle.docsis_burst.specs.Calls.{callAt}
-use Rattle.docsis_burst.specs.Burst.{Lent, Ready, flowBursts, lent}
+use Rattle.docsis_burst.specs.Burst.{Lent, flowBursts, lent}
+use Rattle.docsis_burst.specs.Fitting.{Ready}
 use Rattle.docsis_burst.proofs.Kept.{after-long, ready-kept, ready-one}
 
 abbrev Inv-loop : tie.InvT-loop

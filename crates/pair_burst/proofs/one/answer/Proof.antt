@@ -7,7 +7,7 @@ use Prim.Native.Nat.{ℕ, _+_, _/_, _%_, _≤_, _<_}
 use native.Mathlib.Omega.{arith}
 use lib.ListN.{getD, length-set}
 use denote.Ref.{now}
-use Rattle.pair_burst.specs.Burst.{lentBoth}
+use Rattle.pair_burst.specs.Fitting.{lentBoth}
 use Rattle.pair_burst.proofs.Both.{both-step, ready-fits, same-both}
 use Rattle.pair_burst.proofs.Steps.{unknown-step}
 use Rattle.pair_burst.proofs.one.answer.Statement.{statement}
