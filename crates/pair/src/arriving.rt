@@ -1,6 +1,6 @@
 // An arrival.
+use crate::deciding::decide;
 use pair_rules::Arrived;
-use pair_rules::decide;
 use pair_state::Shared;
 use pair_state::State;
 use pair_state::Which;

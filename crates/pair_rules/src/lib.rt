@@ -1,10 +1,8 @@
-// The rules of two queues in one pair of tables: what each call answers, and the verdict on a packet, which the calls and the steps share.
+// The rules of two queues in one pair of tables, and what a call returns.
 use pair_state::State;
 use queue::ArrivalAnswer;
 use refusals::Accepted;
 use store::Store;
-
-mod deciding;
 
 // A call returns what it may change: of the shared record the store, and the state of the queue that it names.
 pub struct Arrived {
@@ -26,5 +24,3 @@ pub struct Ticked {
     pub accepted: Accepted,
     pub state: State,
 }
-
-pub use deciding::decide;

@@ -3,12 +3,12 @@ use borrow.Author.Needs.{needs}
 use mathlib.Core.Path.{refl}
 use native.Mathlib.Omega.{arith}
 use Rattle.pie.specs.DropDecision.{accumulatedAfter}
 use Rattle.pair_rules.specs.Arrival.{verdictOf}
 use Rattle.pair_state.specs.Queues.{paired}
 use Rattle.pair_state.specs.declared.Which.the-variants.{Intercom}
 use Rattle.pair_state.proofs.Facts.{Facts, facts}
-use Rattle.pair_rules.proofs.deciding.decide.Statement.{statement}
-use Rattle.pair_rules.proofs.deciding.decide.Tie as tie
+use Rattle.pair.proofs.deciding.decide.Statement.{statement}
+use Rattle.pair.proofs.deciding.decide.Tie as tie
 
 records : (c : tie.Start) → Facts (paired Intercom (c .args .shared) (c .args .own) (c .args .other))
 records c = facts _ (c .pre .0)
