@@ -14,7 +14,14 @@ ghost use Rattle.pair_state.specs.WellFormed.{wellFormed};
 ghost use Rattle.pair_state.specs.declared.Which.the-variants.{Intercom};
 
 // Rules 1 to 7, where the first queue is called.
-pub(crate) fn decide(shared: Shared, own: State, other: State, size: Bytes, ecn: bool, u: u32) -> Decided
+pub(crate) fn decide(
+    shared: Shared,
+    own: State,
+    other: State,
+    size: Bytes,
+    ecn: bool,
+    u: u32,
+) -> Decided
     requires { ⌜ wellFormed (paired Intercom shared own other) ≡ true ⌝ }
     requires { ⌜ size .0 ≤ largest ⌝ }
     ensures { λ r. ⌜ r .verdict ≡ verdictOf (paired Intercom shared own other) Intercom (size .0) ecn u ⌝ }
