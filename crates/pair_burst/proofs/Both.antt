@@ -36,7 +36,8 @@ same-both s handles sizes q =
     go (suc (suc q)) x y h = clash (omega arith)
 
 -- what is ready for an arrival fits every call
-pub ready-fits : (q kind : ℕ) (s : List ℕ) (both : List (List ℕ)) (handles sizes : List ℕ) → q < 2 → Ready (lentBoth s both handles sizes) 1 →
+pub ready-fits : (q kind : ℕ) (s : List ℕ) (both : List (List ℕ)) (handles sizes : List ℕ) → q < 2 →
+    Ready (lentBoth s both handles sizes) 1 →
     Fitting (eqb q 1) kind s (getD both q []) (getD both (1 - q) []) handles sizes
 ready-fits zero kind s both handles sizes low (a, b, _, formed, h, z, room, _) = (a, b, formed, λ _. (h, z), λ _. omega arith)
 ready-fits (suc zero) kind s both handles sizes low (a, _, c, formed, h, z, _, room) = (a, c, formed, λ _. (h, z), λ _. omega arith)
@@ -63,7 +64,8 @@ module _ (s handles sizes calls : List ℕ) (at : ℕ) (word : ℕ) (s′ o′ h
       rw eq (second-step s x y handles sizes calls at k l word s′ o′ handles′ sizes′ (rw (eq, ek) at c))
 
   -- the call on either queue, as its kind tells
-  pub both-step : (both : List (List ℕ)) → length both ≡ 2 → ltb 7 asks ≡ false → Called both (asks / 4) (asks % 4) → Stepped both (asks / 4)
+  pub both-step : (both : List (List ℕ)) → length both ≡ 2 → ltb 7 asks ≡ false →
+      Called both (asks / 4) (asks % 4) → Stepped both (asks / 4)
   both-step both two low =
       for-two (λ b. Called b (asks / 4) (asks % 4) → Stepped b (asks / 4))
       (λ x y c.

@@ -163,11 +163,27 @@ module _ (w : Which) (q : Lent) (ls : length (q .shared) ≡ 6) (lo : length (ow
 ready-left : (w : Which) (q : Lent) (s′ o′ h z : List ℕ) (a : Pair) (n : ℕ) → Left w (queuesOf q .pair) s′ o′ a → wellFormed a ≡ true →
     length h ≡ length (q .handles) → length z ≡ length (q .sizes) → Ready q (suc n) → Ready (lent w s′ o′ (otherWords w q) h z) n
 ready-left Intercom q s′ o′ h z a n k formed eh ez (ls, li, lp, _, th, tz, ri, rp) =
-    rw (k .shared-is, k .own-is, ← (k .other-is))
-    (k .shared-six, k .own-long, lp, formed, eh ∙ th ∙ sym (k .slots-same), ez ∙ tz ∙ sym (k .slots-same), omega (arith, k .total-high), omega (arith, ap (λ (s : State). total (s .verdicts)) (k .other-is)))
+    rw (k .shared-is, k .own-is, ← (k .other-is)) (
+      k .shared-six,
+      k .own-long,
+      lp,
+      formed,
+      eh ∙ th ∙ sym (k .slots-same),
+      ez ∙ tz ∙ sym (k .slots-same),
+      omega (arith, k .total-high),
+      omega (arith, ap (λ (s : State). total (s .verdicts)) (k .other-is)),
+    )
 ready-left Passengers q s′ o′ h z a n k formed eh ez (ls, li, lp, _, th, tz, ri, rp) =
-    rw (k .shared-is, k .own-is, ← (k .other-is))
-    (k .shared-six, li, k .own-long, formed, eh ∙ th ∙ sym (k .slots-same), ez ∙ tz ∙ sym (k .slots-same), omega (arith, ap (λ (s : State). total (s .verdicts)) (k .other-is)), omega (arith, k .total-high))
+    rw (k .shared-is, k .own-is, ← (k .other-is)) (
+      k .shared-six,
+      li,
+      k .own-long,
+      formed,
+      eh ∙ th ∙ sym (k .slots-same),
+      ez ∙ tz ∙ sym (k .slots-same),
+      omega (arith, ap (λ (s : State). total (s .verdicts)) (k .other-is)),
+      omega (arith, k .total-high),
+    )
 
 own-words-long : (w : Which) (q : Lent) (n : ℕ) → Ready q n → length (ownWords w q) ≡ 21
 own-words-long Intercom q n r = r .1

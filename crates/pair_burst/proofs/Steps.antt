@@ -55,7 +55,8 @@ number-low p w h sizes clock = first-low (departureRefusals p w h sizes clock) r
 pub departure-small : (p : Pair) (w : Which) (handles sizes : List ℕ) (clock : ℕ) →
     let a = departure p w handles sizes clock .answer in (codeOf a ≤ 65535) × (sizeIn a ≤ 65535)
 unfolding departure
-departure-small p w handles sizes clock = go (departureRefusal p w (length handles) sizes clock) (number-low p w (length handles) sizes clock) _
+departure-small p w handles sizes clock =
+    go (departureRefusal p w (length handles) sizes clock) (number-low p w (length handles) sizes clock) _
   where
     go : (n : ℕ) → n ≤ 9 → (accepted : Pair) →
         let s = own w p in
@@ -96,9 +97,15 @@ pub arrival-step : (second : Bool) (s o t handles sizes calls : List ℕ) (at ki
     Asked second s o t handles sizes calls at kind word s′ o′ handles′ sizes′
 unfolding requestAt
 arrival-step false s o t handles sizes calls at kind clock c k word s′ o′ handles′ sizes′ e es eo eh ez =
-    rw (k, ← c) (e ∙ plain-arrival (pairOf false s o t) Intercom handles sizes clock (getD calls (at + 3) 0) (eqb kind 1) (getD calls (at + 4) 0), rw (es, eo, eh, ez))
+    rw (k, ← c) (
+      e ∙ plain-arrival (pairOf false s o t) Intercom handles sizes clock (getD calls (at + 3) 0) (eqb kind 1) (getD calls (at + 4) 0),
+      rw (es, eo, eh, ez),
+    )
 arrival-step true s o t handles sizes calls at kind clock c k word s′ o′ handles′ sizes′ e es eo eh ez =
-    rw (k, ← c) (e ∙ plain-arrival (pairOf true s o t) Passengers handles sizes clock (getD calls (at + 3) 0) (eqb kind 1) (getD calls (at + 4) 0), rw (es, eo, eh, ez))
+    rw (k, ← c) (
+      e ∙ plain-arrival (pairOf true s o t) Passengers handles sizes clock (getD calls (at + 3) 0) (eqb kind 1) (getD calls (at + 4) 0),
+      rw (es, eo, eh, ez),
+    )
 
 pub departure-step : (second : Bool) (s o t handles sizes calls : List ℕ) (at kind clock : ℕ) → clock ≡ clockAt calls at →
     ltb kind 2 ≡ false → eqb kind 2 ≡ true → (word : ℕ) (s′ o′ sizes′ : List ℕ) →

@@ -218,7 +218,8 @@ pub fn answer(
     requires { ⌜ (length (now both) ≡ 2) × (at + 5 < length (now calls)) ⌝ }
     requires { ⌜ ((tested ≡ true) → Ready (lentBoth (now shared) (now both) (now handles) (now sizes)) 1) ⌝ }
     ensures { λ _. ⌜ length (now (both .exit)) ≡ 2 ⌝ }
-    ensures { λ r. ⌜ r ≡ answerWord (answerTo (lentBoth (now (shared .entry)) (now (both .entry)) (now (handles .entry)) (now (sizes .entry)))
+    ensures { λ r. ⌜ r ≡ answerWord (answerTo
+        (lentBoth (now (shared .entry)) (now (both .entry)) (now (handles .entry)) (now (sizes .entry)))
         (callAt (now (calls .entry)) at)) ⌝ }
     ensures { λ _. ⌜ lentBoth (now (shared .exit)) (now (both .exit)) (now (handles .exit)) (now (sizes .exit))
         ≡ after (lentBoth (now (shared .entry)) (now (both .entry)) (now (handles .entry)) (now (sizes .entry)))

@@ -47,7 +47,8 @@ abbrev pub full : Shared → (own other : ℕ) → Bool
 full s own other =
     leb (s .reserves .intercom) own && eqb ((own - s .reserves .intercom) + (other - s .reserves .passengers)) (commonSlots s)
 
-module _ (s : Shared) (r t slots own other : ℕ) (er : s .reserves .intercom ≡ r) (et : s .reserves .passengers ≡ t) (es : s .slots ≡ slots) where
+module _ (s : Shared) (r t slots own other : ℕ) (er : s .reserves .intercom ≡ r) (et : s .reserves .passengers ≡ t)
+    (es : s .slots ≡ slots) where
   pub full-within : ltb own r ≡ true → false ≡ full s own other
   full-within e = rw (er, lt-leb r own (ltb-true own r e))
 
@@ -55,13 +56,15 @@ module _ (s : Shared) (r t slots own other : ℕ) (er : s .reserves .intercom �
   full-beyond e f h =
       let a : r ≤ own = ltb-false own r e in
       let b : t < other = ltb-true t other f in
-      rw (er, et, es, le-leb r own a) (same-test (own + other) slots ((own - r) + (other - t)) (slots - (r + t)) (λ x. omega arith) (λ x. omega arith))
+      rw (er, et, es, le-leb r own a)
+      (same-test (own + other) slots ((own - r) + (other - t)) (slots - (r + t)) (λ x. omega arith) (λ x. omega arith))
 
   pub full-inside : ltb own r ≡ false → ltb t other ≡ false → r + t ≤ slots → eqb (own + t) slots ≡ full s own other
   full-inside e f h =
       let a : r ≤ own = ltb-false own r e in
       let b : other ≤ t = ltb-false t other f in
-      rw (er, et, es, le-leb r own a) (same-test (own + t) slots ((own - r) + (other - t)) (slots - (r + t)) (λ x. omega arith) (λ x. omega arith))
+      rw (er, et, es, le-leb r own a)
+      (same-test (own + t) slots ((own - r) + (other - t)) (slots - (r + t)) (λ x. omega arith) (λ x. omega arith))
 
 pub reserves-sum : (sh : List ℕ) (q n : ℕ) → q < 2 → getD sh 1 0 + getD sh 2 0 ≤ n → getD sh (1 + q) 0 + getD sh (2 - q) 0 ≤ n
 reserves-sum sh zero n h e = e
@@ -130,19 +133,22 @@ module _ (second : Bool) (sh ow ot : List ℕ) (size : ℕ) (ecn : Bool) (u : �
   found v e = sym (verdict-seen (whichOf second) (sharedOf sh) (stateOf ow) (stateOf ot) size ecn u ∙ e)
 
   -- rule 1
-  pub bytes-rule : (v : Verdict) (a : Prob) → v ≡ DroppedBytes → a ≡ prob (getD ow 7 0) → ltb (getD ow 1 0) (getD ow 13 0 + size) ≡ true → Ruled v a
+  pub bytes-rule : (v : Verdict) (a : Prob) → v ≡ DroppedBytes → a ≡ prob (getD ow 7 0) →
+      ltb (getD ow 1 0) (getD ow 13 0 + size) ≡ true → Ruled v a
   unfolding stateOf verdictOf accumulatedAfter
   bytes-rule v a ev ea e = rw ev (found DroppedBytes (rw e), ea)
 
   module _ (fit : ltb (getD ow 1 0) (getD ow 13 0 + size) ≡ false) where
     -- rule 2
-    pub slots-rule : (v : Verdict) (a : Prob) → v ≡ DroppedSlots → a ≡ prob (getD ow 7 0) → full seen (getD ow 12 0) (getD ot 12 0) ≡ true → Ruled v a
+    pub slots-rule : (v : Verdict) (a : Prob) → v ≡ DroppedSlots → a ≡ prob (getD ow 7 0) →
+        full seen (getD ow 12 0) (getD ot 12 0) ≡ true → Ruled v a
     unfolding stateOf verdictOf accumulatedAfter
     slots-rule v a ev ea e = rw ev (found DroppedSlots (rw (fit, e)), ea)
 
     module _ (free : full seen (getD ow 12 0) (getD ot 12 0) ≡ false) where
       -- rules 3 to 5
-      pub spared-rule : (v : Verdict) (a : Prob) → v ≡ Enqueued → a ≡ prob (getD ow 7 0) → spared (pieOf ow) (getD ow 0 0) (getD ow 13 0) ≡ true → Ruled v a
+      pub spared-rule : (v : Verdict) (a : Prob) → v ≡ Enqueued → a ≡ prob (getD ow 7 0) →
+          spared (pieOf ow) (getD ow 0 0) (getD ow 13 0) ≡ true → Ruled v a
       unfolding stateOf verdictOf dropDecision accumulatedAfter
       spared-rule v a ev ea e = rw ev (found Enqueued (rw (fit, free, e)), rw e ea)
 

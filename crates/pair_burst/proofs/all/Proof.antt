@@ -89,8 +89,9 @@ same-length-3 c = c .before .loop .inv .1
 
 returns : tie.Need-returns Inv-loop μ-loop
 returns c =
+    let a = c .before .before .before .before .before .before in
     let l = c .before .loop in
-    let e : l .i ≡ length (now (c .before .before .before .before .before .before .args .answers)) = omega (arith, l .inv .0, l .inv .1, c .loop-test .left) in
+    let e : l .i ≡ length (now (a .args .answers)) = omega (arith, l .inv .0, l .inv .1, c .loop-test .left) in
     (l .inv .4, rw e at (l .inv .5))
 
 pub all-spec : {M : Type 1} → statement M

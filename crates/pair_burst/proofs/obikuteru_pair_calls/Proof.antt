@@ -30,7 +30,10 @@ ready-requires : tie.Need-ready-requires
 ready-requires c κs = search needs
 
 all-requires : tie.Need-all-requires
-all-requires c κs = ((refl, six (c .before .before .before .before .before .before .before .before .before .before .before)), λ t. c .before .before .before .before .before .before .before .ready .ensures t)
+all-requires c κs =
+    let at-ready = c .before .before .before .before .before .before .before in
+    let at-if1 = at-ready .before .before .before .before in
+    ((refl, six (at-if1)), λ t. at-ready .ready .ensures t)
 
 array-copy-out-intercom : tie.Need-array-copy-out-intercom
 array-copy-out-intercom c = search needs
@@ -48,7 +51,10 @@ same-length-3 : tie.Need-same-length-3
 same-length-3 c = search needs
 
 returns-2 : tie.Need-returns-2
-returns-2 c = rw (fit (c .before .before .before .before .before .before .before .before .before .before .before .before .before .before .before .before .before .before .before .before)) (refl, c .before .before .before .before .before .before .before .before .all .ensures .1)
+returns-2 c =
+    let at-all = c .before .before .before .before .before .before .before .before in
+    let at-if1 = at-all .before .before .before .before .before .before .before .before .before .before .before .before in
+    rw (fit (at-if1)) (refl, at-all .all .ensures .1)
 
 pub obikuteru-pair-calls-spec : {M : Type 1} → statement M
 obikuteru-pair-calls-spec =

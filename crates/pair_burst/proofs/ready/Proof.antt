@@ -67,17 +67,24 @@ element-copy-out-t23-2 c = search needs
 
 has-room-requires-2 : tie.Need-has-room-requires-2
 unfolding stateOf
-has-room-requires-2 c κs = facts _ (formed (c .before .before .before .before .before .before .before .before .before .before .before .before .before .before)) .passengers .total-high
+has-room-requires-2 c κs =
+    let at-if1 = c .before .before .before .before .before .before .before .before .before .before .before .before .before .before in
+    facts _ (formed (at-if1)) .passengers .total-high
 
 returns-4 : tie.Need-returns-4
 unfolding sharedOf stateOf
-returns-4 c = λ e.
-    let e1 = c .before .before .before .before .before .before .before .before .before .before .before .before .before .before .before in
-    let a = c .before .before .before .before .before .before .before .before .before .before .before .before .before .before .before .before .before .args in
+returns-4 c =
+    let at-if3 = c .before .before .before .before .before .before in
+    let at-has-room = at-if3 .before in
+    let at-if2 = at-has-room .before .before .before .before .before .before in
+    let e1 = at-if2 .before .before in
+    let a = e1 .before .before in
+    λ e.
+    let a = a .args in
     let slots = sharedOf (now (a .shared)) .slots in
     let h = eqb (a .handles) slots in
     let z = eqb (a .sizes) slots in
-    let fit : h && z ≡ true = not-false (h && z) (c .before .before .before .before .before .before .before .before .before .before .before .before .before .if2 .left) in
+    let fit : h && z ≡ true = not-false (h && z) (at-if2 .if2 .left) in
     let long = e1 .before .records-fit .ensures .1 (not-false _ (e1 .if1 .left)) in (
       long .0,
       long .1,
@@ -85,7 +92,7 @@ returns-4 c = λ e.
       formed e1,
       eqb-true _ _ (and-left h z fit),
       eqb-true _ _ (and-right h z fit),
-      c .before .before .before .before .before .before .before .has-room .ensures (not-false _ (c .before .before .before .before .before .before .if3 .left)),
+      at-has-room .has-room .ensures (not-false _ (at-if3 .if3 .left)),
       c .has-room2 .ensures e,
     )
 

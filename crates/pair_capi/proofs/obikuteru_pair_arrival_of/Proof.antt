@@ -135,7 +135,10 @@ arrive-requires c κs =
     let room : n ≢ mostVerdicts = eqb-false n mostVerdicts (sym (e3 .before .counts-full .ensures) ∙ e3 .if3 .left) in
     let long = e1 .before .records-fit .ensures .1 (not-false _ (e1 .if1 .left)) in (
       (q .queue-of .ensures .0, long .0, long .1),
-      (rw (q .queue-of .ensures .1) (formed e1), ((eqb-true _ _ (and-left h z fit), eqb-true _ _ (and-right h z fit)), omega (arith, low, room))),
+      (
+        rw (q .queue-of .ensures .1) (formed e1),
+        ((eqb-true _ _ (and-left h z fit), eqb-true _ _ (and-right h z fit)), omega (arith, low, room)),
+      ),
     )
 
 same-length : tie.Need-same-length
@@ -145,7 +148,9 @@ same-length-2 : tie.Need-same-length-2
 same-length-2 c = search needs
 
 returns-6 : tie.Need-returns-6
-returns-6 c = rw (c .before .before .before .before .before .before .before .before .before .queue-of .ensures .1) at (c .before .before .before .before .arrive .ensures)
+returns-6 c =
+    let e = c .before .before .before .before in
+    let q = e .before .before .before .before .before in rw (q .queue-of .ensures .1) at (e .arrive .ensures)
 
 pub obikuteru-pair-arrival-of-spec : {M : Type 1} → statement M
 obikuteru-pair-arrival-of-spec =

@@ -51,8 +51,8 @@ refusal-requires c κs =
     let e1 = c .before .before .before .before in
     let a = start-of e1 in (
       (queue-low e1, a .pre .0 .0, a .pre .0 .1),
-      λ t. ready-fits (asks a / 4) (asks a % 4) (now (a .args .shared)) (now (a .args .both)) (now (a .args .handles)) (now (a .args .sizes))
-          (queue-low e1) (a .pre .1 t),
+      λ t. ready-fits (asks a / 4) (asks a % 4) (now (a .args .shared)) (now (a .args .both))
+          (now (a .args .handles)) (now (a .args .sizes)) (queue-low e1) (a .pre .1 t),
     )
 
 wide-requires : tie.Need-wide-requires
@@ -66,13 +66,16 @@ same-length-2 c = search needs
 
 returns-2 : tie.Need-returns-2
 returns-2 c =
-    let e1 = c .before .before .before .before .before .before .before in
+    let at-refusal = c .before .before in
+    let e1 = at-refusal .before .before .before .before .before in
     let a = start-of e1 in
     let both = now (a .args .both) in
-    let r = c .before .before .refusal .ensures .1 (not-true _ (c .before .if2 .taken)) in
+    let r = at-refusal .refusal .ensures .1 (not-true _ (c .before .if2 .taken)) in
     let e = both-step (now (a .args .shared)) (now (a .args .handles)) (now (a .args .sizes)) (now (a .args .calls)) (a .args .at) _ _ _ _ _
     both (a .pre .0 .0) (e1 .if1 .left) r in
-    (a .pre .0 .0, (c .wide .ensures ∙ e .0, same-both (now (a .args .shared)) (now (a .args .handles)) (now (a .args .sizes)) (asks a / 4) both (a .pre .0 .0) (queue-low e1) ∙ e .1))
+    let same = same-both (now (a .args .shared)) (now (a .args .handles)) (now (a .args .sizes)) (asks a / 4) both
+    (a .pre .0 .0) (queue-low e1) in
+    (a .pre .0 .0, (c .wide .ensures ∙ e .0, same ∙ e .1))
 
 sub-rest : tie.Need-sub-rest
 sub-rest c = omega (arith, low (c .before .before .before .before .before .before))
@@ -87,12 +90,16 @@ mul-of-queue : tie.Need-mul-of-queue
 mul-of-queue c = omega (arith, low (c .before .before .before .before .before .before .before .before))
 
 index-1-of-queue : tie.Need-index-1-of-queue
-index-1-of-queue c = let e1 = c .before .before .before .before .before .before .before .before in omega (arith, low e1, start-of e1 .pre .0 .0)
+index-1-of-queue c =
+    let e1 = c .before .before .before .before .before .before .before .before in
+    omega (arith, low e1, start-of e1 .pre .0 .0)
 
 of-queue-requires : tie.Need-of-queue-requires
 of-queue-requires c κs =
-    let e1 = c .before .before .before .before .before .before .before .before .before .before .before .before in
-    ((queue-low e1, start-of e1 .pre .0 .1), c .before .before .before .before .before .before .before .refusal .ensures .0 (not-false _ (c .before .before .before .before .before .before .if2 .left)))
+    let at-if2 = c .before .before .before .before .before .before in
+    let at-refusal = at-if2 .before in
+    let e1 = at-refusal .before .before .before .before .before in
+    ((queue-low e1, start-of e1 .pre .0 .1), at-refusal .refusal .ensures .0 (not-false _ (at-if2 .if2 .left)))
 
 same-length-3 : tie.Need-same-length-3
 same-length-3 c = search needs
@@ -102,11 +109,12 @@ same-length-4 c = search needs
 
 returns-3 : tie.Need-returns-3
 returns-3 c =
-    let e1 = c .before .before .before .before .before .before .before .before .before .before .before .before .before .before .before .before .before in
+    let at-of-queue = c .before .before .before .before in
+    let e1 = at-of-queue .before .before .before .before .before .before .before .before .before .before .before .before .before in
     let a = start-of e1 in
     let both = now (a .args .both) in
     let e = both-step (now (a .args .shared)) (now (a .args .handles)) (now (a .args .sizes)) (now (a .args .calls)) (a .args .at) _ _ _ _ _
-    both (a .pre .0 .0) (e1 .if1 .left) (c .before .before .before .before .of-queue .ensures) in
+    both (a .pre .0 .0) (e1 .if1 .left) (at-of-queue .of-queue .ensures) in
     (length-set both (asks a / 4) _ ∙ a .pre .0 .0, (e .0, e .1))
 
 pub answer-spec : {M : Type 1} → statement M

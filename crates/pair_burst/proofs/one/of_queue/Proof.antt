@@ -81,9 +81,10 @@ shared-slice-read-arrive-3 c = search needs
 
 arrive-requires : tie.Need-arrive-requires
 arrive-requires c κs =
-    let a = c .before .before .before .before .before .before .before .before .before .before .before .before .before .before .before in
+    let at-if2 = c .before .before .before .before .before .before .before in
+    let a = at-if2 .before .before .before .before .before .before .before .before in
     let f = a .pre .1 in
-    let kind = c .before .before .before .before .before .before .before .if2 .taken in ((a .pre .0 .0, f .0, f .1), (f .2, (f .3 (arrival-kind (a .args .kind) kind), f .4 kind)))
+    let kind = at-if2 .if2 .taken in ((a .pre .0 .0, f .0, f .1), (f .2, (f .3 (arrival-kind (a .args .kind) kind), f .4 kind)))
 
 wide-requires : tie.Need-wide-requires
 wide-requires c κs = search needs
@@ -96,17 +97,20 @@ same-length-4 c = search needs
 
 returns-2 : tie.Need-returns-2
 returns-2 c =
-    let a = c .before .before .before .before .before .before .before .before .before .before .before .before .before .before .before .before .before .before .before .before .before in
+    let at-arrive = c .before .before .before .before .before in
+    let at-if2 = at-arrive .before .before .before .before .before .before .before .before in
+    let at-clock-of = at-if2 .before .before in
+    let a = at-clock-of .before .before .before .before .before .before in
     let s = now (a .args .shared) in
     let o = now (a .args .own) in
     let t = now (a .args .other) in
     let h = now (a .args .handles) in
     let z = now (a .args .sizes) in
     let k = now (a .args .calls) in
-    let clock = c .before .before .before .before .before .before .before .before .before .before .before .before .before .before .before .clock-of in
-    let e = c .before .before .before .before .before .arrive .ensures in
+    let clock = at-clock-of .clock-of in
+    let e = at-arrive .arrive .ensures in
     arrival-step (eqb (a .args .queue) 1) s o t h z k (a .args .at) (a .args .kind) (clock .result) (clock .ensures)
-    (c .before .before .before .before .before .before .before .before .before .before .before .before .before .if2 .taken) _ _ _ _ _ (c .wide .ensures ∙ e .0) (e .1) (e .2) (e .3) (e .4)
+    (at-if2 .if2 .taken) _ _ _ _ _ (c .wide .ensures ∙ e .0) (e .1) (e .2) (e .3) (e .4)
 
 tick-requires : tie.Need-tick-requires
 tick-requires c κs = search needs
@@ -116,17 +120,20 @@ wide-requires-2 c κs = search needs
 
 returns-3 : tie.Need-returns-3
 returns-3 c =
-    let a = c .before .before .before .before .before .before .before .before .before .before .before .before in
+    let at-if2 = c .before .before .before .before in
+    let at-if1 = at-if2 .before in
+    let at-clock-of = at-if1 .before in
+    let a = at-clock-of .before .before .before .before .before .before in
     let s = now (a .args .shared) in
     let o = now (a .args .own) in
     let t = now (a .args .other) in
     let h = now (a .args .handles) in
     let z = now (a .args .sizes) in
     let k = now (a .args .calls) in
-    let clock = c .before .before .before .before .before .before .clock-of in
+    let clock = at-clock-of .clock-of in
     let e = c .before .tick .ensures in
     tick-step (eqb (a .args .queue) 1) s o t h z k (a .args .at) (a .args .kind) (clock .result) (clock .ensures)
-    (c .before .before .before .before .if2 .left) (c .before .before .before .before .before .if1 .left) _ _ (c .wide2 .ensures ∙ e .0) (e .1)
+    (at-if2 .if2 .left) (at-if1 .if1 .left) _ _ (c .wide2 .ensures ∙ e .0) (e .1)
 
 pub of-queue-spec : {M : Type 1} → statement M
 of-queue-spec =

@@ -169,16 +169,19 @@ element-copy-out-wrong-clock-2 c = search needs
 returns-6 : tie.Need-returns-6
 unfolding sharedOf stateOf
 returns-6 c =
-    let e3 = c .before .before .before .before .before .before .before .before .before .before .before .before .before in
+    let at-clock-of = c .before .before in
+    let at-if4 = at-clock-of .before .before .before .before .before .before .before .before .before .before in
+    let e3 = at-if4 .before in
     let e1 = e3 .before .before .before in
     let a = start-of e1 in
-    let clock = c .before .before .clock-of in
+    let clock = at-clock-of .clock-of in
     let k = calls a in
     let at = a .args .at in (
       λ e. absurd (false≢true e),
       λ e. arrival-left (a .args .second) (shared a) (own a) (other a) (handles a) (sizes a) k at (a .args .kind) 4 (clock .result)
-          (clock .ensures) (not-false _ (c .before .before .before .before .before .before .before .before .before .before .before .before .if4 .left))
-          (arrival-late (sharedOf (shared a)) (stateOf (own a)) (stateOf (other a)) (handles a) (sizes a) (clock .result) (getD k (at + 3) 0)
+          (clock .ensures) (not-false _ (at-if4 .if4 .left))
+          (arrival-late (sharedOf (shared a)) (stateOf (own a)) (stateOf (other a)) (handles a) (sizes a)
+          (clock .result) (getD k (at + 3) 0)
           (eqb (a .args .kind) 1) (getD k (at + 4) 0) (e3 .if3 .left) (whichOf (a .args .second)) (formed e1) (c .if6 .taken)),
     )
 
@@ -197,34 +200,45 @@ wide-requires c κs = search needs
 returns-7 : tie.Need-returns-7
 unfolding sharedOf stateOf
 returns-7 c =
-    let e3 = c .before .before .before .before .before .before .before .before .before .before .before .before .before .before .before .before in
+    let at-if6 = c .before .before .before in
+    let at-clock-of = at-if6 .before .before in
+    let at-if4 = at-clock-of .before .before .before .before .before .before .before .before .before .before in
+    let e3 = at-if4 .before in
     let e1 = e3 .before .before .before in
     let a = start-of e1 in
-    let clock = c .before .before .before .before .before .clock-of in
+    let clock = at-clock-of .clock-of in
     let k = calls a in
     let at = a .args .at in (
       λ e. absurd (false≢true e),
       λ e. arrival-left (a .args .second) (shared a) (own a) (other a) (handles a) (sizes a) k at (a .args .kind) 7 (clock .result)
-          (clock .ensures) (not-false _ (c .before .before .before .before .before .before .before .before .before .before .before .before .before .before .before .if4 .left))
-          (arrival-size (sharedOf (shared a)) (stateOf (own a)) (stateOf (other a)) (handles a) (sizes a) (clock .result) (getD k (at + 3) 0)
-          (eqb (a .args .kind) 1) (getD k (at + 4) 0) (e3 .if3 .left) (whichOf (a .args .second)) (formed e1) (c .before .before .before .if6 .left) (rw (c .before .wide .ensures) at (c .if7 .taken))),
+          (clock .ensures) (not-false _ (at-if4 .if4 .left))
+          (arrival-size (sharedOf (shared a)) (stateOf (own a)) (stateOf (other a)) (handles a) (sizes a)
+          (clock .result) (getD k (at + 3) 0)
+          (eqb (a .args .kind) 1) (getD k (at + 4) 0) (e3 .if3 .left) (whichOf (a .args .second)) (formed e1)
+          (at-if6 .if6 .left) (rw (c .before .wide .ensures) at (c .if7 .taken))),
     )
 
 returns-8 : tie.Need-returns-8
 unfolding sharedOf stateOf
 returns-8 c =
-    let e3 = c .before .before .before .before .before .before .before .before .before .before .before .before .before .before .before .before in
+    let at-if6 = c .before .before .before in
+    let at-clock-of = at-if6 .before .before in
+    let at-if5 = at-clock-of .before .before .before in
+    let at-counts-full = at-if5 .before in
+    let at-if4 = at-counts-full .before .before .before .before .before .before in
+    let e3 = at-if4 .before in
     let e1 = e3 .before .before .before in
     let a = start-of e1 in
-    let clock = c .before .before .before .before .before .clock-of in
+    let clock = at-clock-of .clock-of in
     let k = calls a in
     let at = a .args .at in (
       λ e. absurd (false≢true e),
       λ e. arrival-left (a .args .second) (shared a) (own a) (other a) (handles a) (sizes a) k at (a .args .kind) 8 (clock .result)
-          (clock .ensures) (not-false _ (c .before .before .before .before .before .before .before .before .before .before .before .before .before .before .before .if4 .left))
-          (arrival-counts (sharedOf (shared a)) (stateOf (own a)) (stateOf (other a)) (handles a) (sizes a) (clock .result) (getD k (at + 3) 0)
-          (eqb (a .args .kind) 1) (getD k (at + 4) 0) (e3 .if3 .left) (whichOf (a .args .second)) (formed e1) (c .before .before .before .if6 .left)
-          (rw (c .before .wide .ensures) at (c .if7 .left)) (sym (c .before .before .before .before .before .before .before .before .before .counts-full .ensures) ∙ not-false _ (c .before .before .before .before .before .before .before .before .if5 .left))),
+          (clock .ensures) (not-false _ (at-if4 .if4 .left))
+          (arrival-counts (sharedOf (shared a)) (stateOf (own a)) (stateOf (other a)) (handles a) (sizes a)
+          (clock .result) (getD k (at + 3) 0)
+          (eqb (a .args .kind) 1) (getD k (at + 4) 0) (e3 .if3 .left) (whichOf (a .args .second)) (formed e1) (at-if6 .if6 .left)
+          (rw (c .before .wide .ensures) at (c .if7 .left)) (sym (at-counts-full .counts-full .ensures) ∙ not-false _ (at-if5 .if5 .left))),
     )
 
 pub refusal-of-spec : {M : Type 1} → statement M

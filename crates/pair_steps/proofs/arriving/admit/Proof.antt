@@ -41,7 +41,8 @@ at-place a place e = rw e at (a .pre .1 .0)
 
 -- the link that was tested
 tested : (c : tie.After-lost) →
-    let a = c .before .before .before .before .before .before .before .before in leb (getD (words a) 0 0) (c .before .follow .result) ≡ lost a
+    let a = c .before .before .before .before .before .before .before .before in
+    leb (getD (words a) 0 0) (c .before .follow .result) ≡ lost a
 tested c =
     let a = c .before .before .before .before .before .before .before .before in
     ap (leb (getD (words a) 0 0)) (c .before .follow .ensures)
@@ -77,16 +78,20 @@ same-length-2 c = search needs
 
 returns : tie.Need-returns
 returns c =
-    let a = c .before .before .before .before .before .before .before .before .before .before .before .before .before in
+    let at-enter = c .before .before .before .before in
+    let at-if1 = at-enter .before .before .before .before .before in
+    let a = at-if1 .before .before .before .before in
     let ow = now (a .args .own) in
-    let none = eqb-true _ _ (c .before .before .before .before .before .before .before .before .before .if1 .taken) in
+    let none = eqb-true _ _ (at-if1 .if1 .taken) in
     let at = fresh-place (words a) none in
-    let e = c .before .before .before .before .enter .ensures in (
+    let e = at-enter .enter .ensures in (
       λ l. absurd (false≢true (sym (kept a none) ∙ l)),
       λ l. (
         e .0,
         fresh-words (now (a .args .sizes)) (words a) (a .pre .0 .0) none,
-        e .1 .0 ∙ ap (λ (n : ℕ). settledWords (enteredWords ow (a .args .size) n) (a .args .clock) (a .args .accumulated) (a .args .v)) (sym at),
+        e .1 .0
+            ∙ ap (λ (n : ℕ). settledWords (enteredWords ow (a .args .size) n) (a .args .clock) (a .args .accumulated) (a .args .v))
+            (sym at),
         e .1 .1 .0 ∙ ap (λ (n : ℕ). handlesAfterPut (now (a .args .handles)) n (a .args .handle)) (sym at),
         e .1 .1 .1 ∙ ap (λ (n : ℕ). sizesAfterPut (endsOf ow) (getD ow 12 0) (now (a .args .sizes)) n (a .args .size)) (sym at),
       ),
@@ -112,16 +117,20 @@ element-write-shared-2 : tie.Need-element-write-shared-2
 element-write-shared-2 c = search needs
 
 sub-shared : tie.Need-sub-shared
-sub-shared c = let n : getD (words (c .before .before .before .before .before .before .before .before .before)) 5 0 ≢ 0 = eqb-false _ _ (c .before .before .before .before .before .if1 .left) in omega (arith, n)
+sub-shared c =
+    let at-if1 = c .before .before .before .before .before in
+    let a = at-if1 .before .before .before .before in
+    let n : getD (words (a)) 5 0 ≢ 0 = eqb-false _ _ (at-if1 .if1 .left) in omega (arith, n)
 
 element-write-shared-3 : tie.Need-element-write-shared-3
 element-write-shared-3 c = search needs
 
 enter-requires-2 : tie.Need-enter-requires-2
 enter-requires-2 c κs =
-    let a = c .before .before .before .before .before .before .before .before .before .before .before .before in
+    let at-if1 = c .before .before .before .before .before .before .before .before in
+    let a = at-if1 .before .before .before .before in
     let place = getD (words a) 4 0 in
-    let p = at-place a place (spare-place (words a) (some a (c .before .before .before .before .before .before .before .before .if1 .left))) in
+    let p = at-place a place (spare-place (words a) (some a (at-if1 .if1 .left))) in
     let low = a .pre .0 .3 in (
       (a .pre .0 .1, omega (arith, a .pre .0 .2, low), a .pre .0 .4),
       (p, (a .pre .1 .1 .1 .0, a .pre .1 .1 .1 .1)),
@@ -135,18 +144,26 @@ same-length-5 c = search needs
 
 returns-3 : tie.Need-returns-3
 returns-3 c =
-    let a = c .before .before .before .before .before .before .before .before .before .before .before .before .before .before .before .before .before in
+    let at-enter2 = c .before .before .before .before in
+    let at-if2 = at-enter2 .before .before .before .before in
+    let at-lost = at-if2 .before in
+    let at-follow = at-lost .before in
+    let at-if1 = at-follow .before .before .before in
+    let a = at-if1 .before .before .before .before in
     let ow = now (a .args .own) in
-    let f = c .before .before .before .before .before .before .before .before .before .before .follow .ensures in
-    let one = some a (c .before .before .before .before .before .before .before .before .before .before .before .before .before .if1 .left) in
+    let f = at-follow .follow .ensures in
+    let one = some a (at-if1 .if1 .left) in
     let at = spare-place (words a) one in
-    let t = sym (tested (c .before .before .before .before .before .before .before .before .before)) ∙ c .before .before .before .before .before .before .before .before .if2 .left in
-    let e = c .before .before .before .before .enter2 .ensures in (
+    let t = sym (tested (at-lost)) ∙ at-if2 .if2 .left in
+    let e = at-enter2 .enter2 .ensures in (
       λ l. absurd (false≢true (sym t ∙ l)),
       λ l. (
         e .0,
-        ap (λ (n : ℕ). set (set (words a) 4 n) 5 (getD (words a) 5 0 - 1)) f ∙ spare-words (now (a .args .sizes)) (words a) (a .pre .0 .0) one,
-        e .1 .0 ∙ ap (λ (n : ℕ). settledWords (enteredWords ow (a .args .size) n) (a .args .clock) (a .args .accumulated) (a .args .v)) (sym at),
+        ap (λ (n : ℕ). set (set (words a) 4 n) 5 (getD (words a) 5 0 - 1)) f
+            ∙ spare-words (now (a .args .sizes)) (words a) (a .pre .0 .0) one,
+        e .1 .0
+            ∙ ap (λ (n : ℕ). settledWords (enteredWords ow (a .args .size) n) (a .args .clock) (a .args .accumulated) (a .args .v))
+            (sym at),
         e .1 .1 .0 ∙ ap (λ (n : ℕ). handlesAfterPut (now (a .args .handles)) n (a .args .handle)) (sym at),
         e .1 .1 .1 ∙ ap (λ (n : ℕ). sizesAfterPut (endsOf ow) (getD ow 12 0) (now (a .args .sizes)) n (a .args .size)) (sym at),
       ),

@@ -34,9 +34,11 @@ not-light : (a b : Bool) → ((a ≡ true) × (b ≡ false)) ⊎ (a ≡ false) �
 not-light a b (inl (e, f)) = rw (e, f)
 not-light a b (inr e) = rw e
 
+abbrev start-of : tie.Joined4 → tie.Start
+start-of c = c .before .before .before .before .before .before .before .before .before .before .before .before
+
 -- where a queue is not lightly loaded
-loaded : (c : tie.Joined4) →
-    let w = own (c .before .before .before .before .before .before .before .before .before .before .before .before) in lightlyLoaded (pieOf w) (getD w 0 0) ≡ false
+loaded : (c : tie.Joined4) → let w = own (start-of c) in lightlyLoaded (pieOf w) (getD w 0 0) ≡ false
 loaded c = ⊎-elim (λ t. not-light _ _ (inl (t .0 .taken, t .3 .left))) (λ e. not-light _ _ (inr (e .left))) (c .if4 .came)
 
 element-copy-out-bytes : tie.Need-element-copy-out-bytes
@@ -76,9 +78,11 @@ undrawn-requires-2 c κs = search needs
 
 returns-2 : tie.Need-returns-2
 returns-2 c =
-    let a = c .before .before .before .before .before .before .before .before in
-    slots-rule (second a) (shared a) (own a) (other a) (a .args .size) (a .args .ecn) (a .args .u) (c .before .before .before .before .before .if1 .left) _ _
-    (c .undrawn2 .ensures .0) (c .undrawn2 .ensures .1) (sym (c .before .before .slots-full .ensures) ∙ c .before .if2 .taken)
+    let at-slots-full = c .before .before in
+    let at-if1 = at-slots-full .before .before .before in
+    let a = at-if1 .before .before .before in
+    slots-rule (second a) (shared a) (own a) (other a) (a .args .size) (a .args .ecn) (a .args .u) (at-if1 .if1 .left) _ _
+    (c .undrawn2 .ensures .0) (c .undrawn2 .ensures .1) (sym (at-slots-full .slots-full .ensures) ∙ c .before .if2 .taken)
 
 element-copy-out-in-allowance : tie.Need-element-copy-out-in-allowance
 element-copy-out-in-allowance c = search needs
@@ -88,9 +92,12 @@ undrawn-requires-3 c κs = search needs
 
 returns-3 : tie.Need-returns-3
 returns-3 c =
-    let a = c .before .before .before .before .before .before .before .before .before .before in
-    spared-rule (second a) (shared a) (own a) (other a) (a .args .size) (a .args .ecn) (a .args .u) (c .before .before .before .before .before .before .before .if1 .left)
-    (sym (c .before .before .before .before .slots-full .ensures) ∙ c .before .before .before .if2 .left) _ _ (c .undrawn3 .ensures .0) (c .undrawn3 .ensures .1)
+    let at-if2 = c .before .before .before in
+    let at-slots-full = at-if2 .before in
+    let at-if1 = at-slots-full .before .before .before in
+    let a = at-if1 .before .before .before in
+    spared-rule (second a) (shared a) (own a) (other a) (a .args .size) (a .args .ecn) (a .args .u) (at-if1 .if1 .left)
+    (sym (at-slots-full .slots-full .ensures) ∙ at-if2 .if2 .left) _ _ (c .undrawn3 .ensures .0) (c .undrawn3 .ensures .1)
     (simp (c .before .if3 .taken))
 
 element-copy-out-short : tie.Need-element-copy-out-short
@@ -98,7 +105,9 @@ element-copy-out-short c = search needs
 
 mul-short : tie.Need-mul-short
 unfolding stateOf
-mul-short c = let f = known (c .before .before .before .before .before .before .before .before .before .before) .own in omega (arith, f .old-high)
+mul-short c =
+    let a = c .before .before .before .before .before .before .before .before .before .before in
+    let f = known (a) .own in omega (arith, f .old-high)
 
 element-copy-out-short-2 : tie.Need-element-copy-out-short-2
 element-copy-out-short-2 c = search needs
@@ -108,39 +117,58 @@ element-copy-out-light c = search needs
 
 mul-light : tie.Need-mul-light
 unfolding stateOf
-mul-light c = let f = known (c .before .before .before .before .before .before .before .before .before .before .before .before .before) .own in omega (arith, f .prob-high)
+mul-light c =
+    let a = c .before .before .before .before .before .before .before .before .before .before .before .before .before in
+    let f = known (a) .own in omega (arith, f .prob-high)
 
 undrawn-requires-4 : tie.Need-undrawn-requires-4
 undrawn-requires-4 c κs = search needs
 
 returns-4 : tie.Need-returns-4
 returns-4 c =
-    let a = c .before .before .before .before .before .before .before .before .before .before .before .before .before .before .before .before in
-    spared-rule (second a) (shared a) (own a) (other a) (a .args .size) (a .args .ecn) (a .args .u) (c .before .before .before .before .before .before .before .before .before .before .before .before .before .if1 .left)
-    (sym (c .before .before .before .before .before .before .before .before .before .before .slots-full .ensures) ∙ c .before .before .before .before .before .before .before .before .before .if2 .left) _ _ (c .undrawn4 .ensures .0) (c .undrawn4 .ensures .1)
-    (simp (c .before .before .before .before .before .before .before .if3 .left, c .before .before .before .before .if4 .taken, c .before .if5 .taken))
+    let at-if4 = c .before .before .before .before in
+    let at-if3 = at-if4 .before .before .before in
+    let at-if2 = at-if3 .before .before in
+    let at-slots-full = at-if2 .before in
+    let at-if1 = at-slots-full .before .before .before in
+    let a = at-if1 .before .before .before in
+    spared-rule (second a) (shared a) (own a) (other a) (a .args .size) (a .args .ecn) (a .args .u) (at-if1 .if1 .left)
+    (sym (at-slots-full .slots-full .ensures) ∙ at-if2 .if2 .left) _ _ (c .undrawn4 .ensures .0) (c .undrawn4 .ensures .1)
+    (simp (at-if3 .if3 .left, at-if4 .if4 .taken, c .before .if5 .taken))
 
 undrawn-requires-5 : tie.Need-undrawn-requires-5
 undrawn-requires-5 c κs = search needs
 
 returns-5 : tie.Need-returns-5
 returns-5 c =
-    let a = c .before .before .before .before .before .before .before .before .before .before .before .before .before .before in
-    spared-rule (second a) (shared a) (own a) (other a) (a .args .size) (a .args .ecn) (a .args .u) (c .before .before .before .before .before .before .before .before .before .before .before .if1 .left)
-    (sym (c .before .before .before .before .before .before .before .before .slots-full .ensures) ∙ c .before .before .before .before .before .before .before .if2 .left) _ _ (c .undrawn5 .ensures .0) (c .undrawn5 .ensures .1)
-    (simp (c .before .before .before .before .before .if3 .left, loaded (c .before .before), c .before .if6 .taken))
+    let at-if4 = c .before .before in
+    let at-if3 = at-if4 .before .before .before in
+    let at-if2 = at-if3 .before .before in
+    let at-slots-full = at-if2 .before in
+    let at-if1 = at-slots-full .before .before .before in
+    let a = at-if1 .before .before .before in
+    spared-rule (second a) (shared a) (own a) (other a) (a .args .size) (a .args .ecn) (a .args .u) (at-if1 .if1 .left)
+    (sym (at-slots-full .slots-full .ensures) ∙ at-if2 .if2 .left) _ _ (c .undrawn5 .ensures .0) (c .undrawn5 .ensures .1)
+    (simp (at-if3 .if3 .left, loaded (at-if4), c .before .if6 .taken))
 
 draw-requires : tie.Need-draw-requires
 unfolding stateOf
-draw-requires c κs = let f = known (c .before .before .before .before .before .before .before .before .before .before .before .before .before) .own in (f .prob-high, f .accumulated-high)
+draw-requires c κs =
+    let a = c .before .before .before .before .before .before .before .before .before .before .before .before .before in
+    let f = known (a) .own in (f .prob-high, f .accumulated-high)
 
 returns-6 : tie.Need-returns-6
 returns-6 c =
-    let a = c .before .before .before .before .before .before .before .before .before .before .before .before .before .before in
+    let at-if4 = c .before .before in
+    let at-if3 = at-if4 .before .before .before in
+    let at-if2 = at-if3 .before .before in
+    let at-slots-full = at-if2 .before in
+    let at-if1 = at-slots-full .before .before .before in
+    let a = at-if1 .before .before .before in
     let none : spared (pieOf (own a)) (getD (own a) 0 0) (getD (own a) 13 0) ≡ false =
-    simp (c .before .before .before .before .before .if3 .left, loaded (c .before .before), c .before .if6 .left) in
-    drawn-rule (second a) (shared a) (own a) (other a) (a .args .size) (a .args .ecn) (a .args .u) (c .before .before .before .before .before .before .before .before .before .before .before .if1 .left)
-    (sym (c .before .before .before .before .before .before .before .before .slots-full .ensures) ∙ c .before .before .before .before .before .before .before .if2 .left) _ _ (c .draw .ensures .0) (c .draw .ensures .1) none
+    simp (at-if3 .if3 .left, loaded (at-if4), c .before .if6 .left) in
+    drawn-rule (second a) (shared a) (own a) (other a) (a .args .size) (a .args .ecn) (a .args .u) (at-if1 .if1 .left)
+    (sym (at-slots-full .slots-full .ensures) ∙ at-if2 .if2 .left) _ _ (c .draw .ensures .0) (c .draw .ensures .1) none
 
 pub decided-spec : {M : Type 1} → statement M
 decided-spec =

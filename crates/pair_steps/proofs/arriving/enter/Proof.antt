@@ -58,7 +58,9 @@ add-own-2 c =
     let a = start-of l in
     let ow = now (a .args .own) in
     let count = getD ow 12 0 + 1 in
-    omega (arith, a .pre .0 .2, a .pre .1 .1 .0 .1, ap (λ (w : List ℕ). getD (set w 12 count) 13 0) (l .lead .ensures), past-count ow (cond (eqb (getD ow 12 0) 0) (a .args .place) (getD ow 14 0)) count)
+    let head = cond (eqb (getD ow 12 0) 0) (a .args .place) (getD ow 14 0) in
+    let led = ap (λ (w : List ℕ). getD (set w 12 count) 13 0) (l .lead .ensures) in
+    omega (arith, a .pre .0 .2, a .pre .1 .1 .0 .1, led, past-count ow head count)
 
 element-write-own-2 : tie.Need-element-write-own-2
 element-write-own-2 c = search needs
@@ -72,7 +74,8 @@ settle-requires c κs =
     let a = start-of l in
     let ow = now (a .args .own) in
     let at = 16 + placeOf (a .args .v) in
-    omega (arith, ap (λ (w : List ℕ). getD w at 0) (entered l), past-entered (a .args .size) (a .args .place) (a .args .v) ow (a .pre .0 .0), a .pre .1 .1 .1)
+    let past = past-entered (a .args .size) (a .args .place) (a .args .v) ow (a .pre .0 .0) in
+    omega (arith, ap (λ (w : List ℕ). getD w at 0) (entered l), past, a .pre .1 .1 .1)
 
 same-length : tie.Need-same-length
 same-length c = search needs
