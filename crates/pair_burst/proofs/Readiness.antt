@@ -6,7 +6,6 @@ use Prim.Native.Nat.{ℕ, zero, suc, _+_, _≤_}
 use native.Mathlib.Omega.{arith}
 use lib.Dec.{eqb}
 use lib.ListN.{getD, length}
-use Rattle.pie.specs.Constants.{mostVerdicts}
 use Rattle.pie.specs.Verdicts.{raised, total}
 use Rattle.pie.proofs.Counts.{length-raised, total-raised}
 use Rattle.pie.specs.declared.Verdict.{Verdict}
@@ -28,7 +27,7 @@ use Rattle.pair_isolation.specs.Handed.{Queues, replyTo, returned}
 use Rattle.pair_words.specs.After.{ownAfter, sharedAfter}
 use Rattle.words.specs.Flags.{flagWord, isSet}
 use Rattle.words.proofs.Written.{written-out}
-use Rattle.pair_words.specs.Words.{pairOf, sharedOf, sharedWords, stateOf, stateWords}
+use Rattle.pair_words.specs.Words.{sharedOf, sharedWords, stateOf, stateWords}
 use Rattle.pair_burst.specs.Calls.{Call, asked, unknown}
 use Rattle.pair_burst.specs.Burst.{Lent, after, lent, otherWords, ownWords, queuesOf, sharedLeft}
 use Rattle.pair_burst.specs.Fitting.{Ready}

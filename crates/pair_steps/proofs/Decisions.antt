@@ -21,7 +21,7 @@ use Rattle.pair_state.specs.WellFormed.{wellFormed}
 use Rattle.pair_state.specs.declared.Shared.{Shared}
 use Rattle.pair_state.specs.declared.Which.the-variants.{Intercom}
 use Rattle.pair_state.proofs.Facts.{QueueFits, facts}
-use Rattle.pair_rules.specs.Arrival.{arrivedPie, bytesFull, slotsFull, verdictOf}
+use Rattle.pair_rules.specs.Arrival.{arrivedPie, verdictOf}
 use Rattle.pair_rules.proofs.Seen.{verdict-seen}
 use Rattle.pair_words.specs.Words.{pairOf, pieOf, sharedOf, stateOf, whichOf}
 

@@ -1,13 +1,12 @@
 -- `answer`: a call on either queue, by the place of its words.
 use borrow.Author.Needs.{needs}
 use borrow.Author.Tests.{le-ltb, ltb-false, ltb-true, not-false, not-true}
-use mathlib.Core.Path.{_≡_, ap, _∙_}
-use mathlib.Core.List.{List, []}
+use mathlib.Core.Path.{_≡_, _∙_}
+use mathlib.Core.List.{[]}
 use Prim.Native.Nat.{ℕ, _+_, _/_, _%_, _≤_, _<_}
 use native.Mathlib.Omega.{arith}
 use lib.ListN.{getD, length-set}
 use denote.Ref.{now}
-use Rattle.pair_burst.specs.Fitting.{lentBoth}
 use Rattle.pair_burst.proofs.Both.{both-step, ready-fits, same-both}
 use Rattle.pair_burst.proofs.Steps.{unknown-step}
 use Rattle.pair_burst.proofs.one.answer.Statement.{statement}

@@ -5,12 +5,12 @@ use mathlib.Core.Path.{_≡_, ap, refl, sym, _∙_}
 use mathlib.Core.Bool.{Bool, true, false, false≢true}
 use mathlib.Core.List.{List}
 use mathlib.Core.Logic.{_≢_}
-use Prim.Native.Nat.{ℕ, _+_, _-_, _≤_, _<_}
+use Prim.Native.Nat.{ℕ, _-_, _<_}
 use native.Mathlib.Omega.{arith}
 use lib.Dec.{eqb, leb}
 use lib.ListN.{getD, length, set}
 use denote.Ref.{now}
-use Rattle.store.specs.Following.{followed, linkRefused}
+use Rattle.store.specs.Following.{linkRefused}
 use Rattle.store.specs.Put.{freePlace, handlesAfterPut, sizesAfterPut}
 use Rattle.pair_words.specs.Words.{endsOf, storeOf}
 use Rattle.pair_steps.specs.Written.{enteredWords, settledWords}

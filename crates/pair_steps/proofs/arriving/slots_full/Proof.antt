@@ -1,6 +1,5 @@
 -- `slots_full`: with the reserve at most the count, both sides of the common slots' test are told apart by one sum.
 use borrow.Author.Needs.{needs}
-use mathlib.Core.Bool.{Bool}
 use mathlib.Core.List.{List}
 use Prim.Native.Nat.{ℕ, _+_, _-_, _≤_}
 use native.Mathlib.Omega.{arith}
