@@ -1,13 +1,12 @@
 -- The steps of a flow that is one of sixteen, from what the flow gives with its row.
 use mathlib.Core.Path.{_≡_, refl, sym, _∙_}
 use mathlib.Core.Bool.{true, false}
-use mathlib.Core.Logic.{_≢_}
 use mathlib.Core.List.{List}
 use Prim.Native.Nat.{ℕ, zero, suc, _+_, _≤_}
 use native.Mathlib.Omega.{arith}
 use lib.Dec.{eqb, ltb}
 use lib.ListN.{getD, length}
-use borrow.Author.Tests.{eq-eqb, eqb-false, eqb-true, ltb-false, ltb-true, ne-eqb}
+use borrow.Author.Tests.{eq-eqb, eqb-true, ltb-false, ltb-true, ne-eqb}
 use Rattle.bursts.specs.Numbers.{clockAt}
 use Rattle.bursts.proofs.Steps.{Step}
 use Rattle.docsis_flow.specs.Answer.{Reply, unlessRefused}
@@ -27,31 +26,17 @@ use Rattle.docsis_burst.specs.Burst.{flowBursts, lent}
 use Rattle.docsis_burst.proofs.Kept.{within}
 use Rattle.docsis_burst.proofs.Steps.{arrival-step, departure-step, tick-step}
 
--- ── the kinds, by their order ──
+-- ── the kinds ──
 
 module _ (kind : ℕ) where
-  pub is-arrival : ltb kind 2 ≡ true → eqb kind 1 ≡ false → eqb kind 0 ≡ true
-  is-arrival e f = let n : kind ≢ 1 = eqb-false kind 1 f in eq-eqb kind 0 (omega (arith, ltb-true kind 2 e))
+  pub departure-only : eqb kind 2 ≡ true → eqb kind 0 ≡ false
+  departure-only e = rw (eqb-true kind 2 e) refl
 
-  pub is-departure : ltb kind 2 ≡ false → ltb kind 3 ≡ true → (eqb kind 0 ≡ false) × (eqb kind 2 ≡ true)
-  is-departure e f =
-      let low = ltb-false kind 2 e in
-      (ne-eqb kind 0 (omega arith), eq-eqb kind 2 (omega (arith, ltb-true kind 3 f)))
+  pub is-arrival : ltb kind 1 ≡ true → eqb kind 0 ≡ true
+  is-arrival e = eq-eqb kind 0 (omega (arith, ltb-true kind 1 e))
 
-  pub is-tick : ltb kind 3 ≡ false → ltb kind 4 ≡ true → (eqb kind 0 ≡ false) × (eqb kind 2 ≡ false) × (eqb kind 3 ≡ true)
-  is-tick e f =
-      let low = ltb-false kind 3 e in
-      (ne-eqb kind 0 (omega arith), ne-eqb kind 2 (omega arith), eq-eqb kind 3 (omega (arith, ltb-true kind 4 f)))
-
-  abbrev pub None : Type 0
-  None = (eqb kind 0 ≡ false) × (eqb kind 2 ≡ false) × (eqb kind 3 ≡ false)
-
-  pub ecn-is-none : eqb kind 1 ≡ true → None
-  ecn-is-none e = rw (eqb-true kind 1 e) (refl, refl, refl)
-
-  pub above-is-none : ltb kind 4 ≡ false → None
-  above-is-none e =
-      let low = ltb-false kind 4 e in (ne-eqb kind 0 (omega arith), ne-eqb kind 2 (omega arith), ne-eqb kind 3 (omega arith))
+  pub no-arrival : ltb kind 1 ≡ false → eqb kind 0 ≡ false
+  no-arrival e = let low = ltb-false kind 1 e in ne-eqb kind 0 (omega arith)
 
 -- ── neither a departure nor a tick counts ──
 

@@ -38,7 +38,7 @@ fn held(w: [u64; 16]) -> bool
     true
 }
 
-// The call at `at`, of a flow that is ready for it.
+// The call at `at`, of a flow that is ready for it. Departures are told first (docs/PERFORMANCE.md).
 fn known(
     w: &mut [u64; 16],
     counts: &mut [[u64; 5]; 16],
@@ -57,19 +57,15 @@ fn known(
 {
     let clock = clock_of(calls[at], calls[at + 1]);
     let kind = calls[at + 5];
-    let arrives = kind < 2;
-    if arrives {
-        let marks = kind == 1;
-        if marks {
-            return 120;
-        }
-        return arrive(w, counts, flow, handles, sizes, calls, at, clock);
-    }
-    let departs = kind < 3;
+    let departs = kind == 2;
     if departs {
         return depart(w, handles, sizes, clock);
     }
-    let ticks = kind < 4;
+    let arrives = kind < 1;
+    if arrives {
+        return arrive(w, counts, flow, handles, sizes, calls, at, clock);
+    }
+    let ticks = kind == 3;
     if ticks {
         return tick(w, clock, wide(calls[at + 3]));
     }

@@ -8,7 +8,7 @@ use lib.ListN.{getD}
 use denote.Ref.{now}
 use Rattle.docsis.specs.Counts.{rowOf}
 use Rattle.docsis_burst.proofs.Steps.{unknown-step}
-use Rattle.docsis_burst.proofs.Within.{above-is-none, arrival-within, departure-within, ecn-is-none, is-arrival, is-departure, is-tick, tick-within}
+use Rattle.docsis_burst.proofs.Within.{arrival-within, departure-only, departure-within, is-arrival, no-arrival, tick-within}
 
 abbrev kindAt : tie.Start → ℕ
 kindAt a = getD (now (a .args .calls)) (a .args .at + 5) 0
@@ -40,25 +40,36 @@ mul-kind c = search needs
 shared-slice-read-kind : tie.Need-shared-slice-read-kind
 shared-slice-read-kind c = search needs
 
-returns : tie.Need-returns
-returns c =
-    let a = c .before .before .before .before .before .before .before .before .before in
-    let w = now (a .args .w) in
-    let n = now (a .args .counts) in
-    let h = now (a .args .handles) in
-    let z = now (a .args .sizes) in
-    let k = now (a .args .calls) in
-    let none = ecn-is-none (kindAt a) (c .if2 .taken) in
-    unknown-step (a .args .flow) w n h z k (a .args .at) (none .0) (none .1) (none .2)
-
-arrive-requires : tie.Need-arrive-requires
-arrive-requires c κs = search needs
+depart-requires : tie.Need-depart-requires
+depart-requires c κs = search needs
 
 same-length : tie.Need-same-length
 same-length c = search needs
 
 same-length-2 : tie.Need-same-length-2
 same-length-2 c = search needs
+
+returns : tie.Need-returns
+returns c =
+    let a = c .before .before .before .before .before .before .before .before .before .before .before .before in
+    let w = now (a .args .w) in
+    let n = now (a .args .counts) in
+    let h = now (a .args .handles) in
+    let z = now (a .args .sizes) in
+    let k = now (a .args .calls) in
+    let t = c .before .before .before .before .before .before .clock-of in
+    let is = c .before .before .before .before .if1 .taken in
+    let e = c .depart .ensures (rowOf n (a .args .flow)) (omega (arith, a .pre .0 .2)) in
+    departure-within (a .args .flow) w n h z k (a .args .at) (a .pre .0 .0) (t .result) (t .ensures) (departure-only (kindAt a) is) is _ _ e
+
+arrive-requires : tie.Need-arrive-requires
+arrive-requires c κs = search needs
+
+same-length-3 : tie.Need-same-length-3
+same-length-3 c = search needs
+
+same-length-4 : tie.Need-same-length-4
+same-length-4 c = search needs
 
 returns-2 : tie.Need-returns-2
 returns-2 c =
@@ -69,30 +80,8 @@ returns-2 c =
     let z = now (a .args .sizes) in
     let k = now (a .args .calls) in
     let t = c .before .before .before .before .before .before .before .before .before .before .before .before .clock-of in
-    let is = is-arrival (kindAt a) (c .before .before .before .before .before .before .before .before .before .before .if1 .taken) (c .before .before .before .before .before .before .before .before .before .if2 .left) in
+    let is = is-arrival (kindAt a) (c .before .before .before .before .before .before .before .before .before .if2 .taken) in
     arrival-within (a .args .flow) w n h z k (a .args .at) (a .pre .0 .0) (t .result) (t .ensures) is _ _ _ _ _ (c .before .before .before .before .arrive .ensures)
-
-depart-requires : tie.Need-depart-requires
-depart-requires c κs = search needs
-
-same-length-3 : tie.Need-same-length-3
-same-length-3 c = search needs
-
-same-length-4 : tie.Need-same-length-4
-same-length-4 c = search needs
-
-returns-3 : tie.Need-returns-3
-returns-3 c =
-    let a = c .before .before .before .before .before .before .before .before .before .before .before .before .before in
-    let w = now (a .args .w) in
-    let n = now (a .args .counts) in
-    let h = now (a .args .handles) in
-    let z = now (a .args .sizes) in
-    let k = now (a .args .calls) in
-    let t = c .before .before .before .before .before .before .before .clock-of in
-    let is = is-departure (kindAt a) (c .before .before .before .before .before .if1 .left) (c .before .before .before .before .if3 .taken) in
-    let e = c .depart .ensures (rowOf n (a .args .flow)) (omega (arith, a .pre .0 .2)) in
-    departure-within (a .args .flow) w n h z k (a .args .at) (a .pre .0 .0) (t .result) (t .ensures) (is .0) (is .1) _ _ e
 
 add-wide : tie.Need-add-wide
 add-wide c = search needs
@@ -109,8 +98,8 @@ wide-requires c κs = search needs
 tick-requires : tie.Need-tick-requires
 tick-requires c κs = search needs
 
-returns-4 : tie.Need-returns-4
-returns-4 c =
+returns-3 : tie.Need-returns-3
+returns-3 c =
     let a = c .before .before .before .before .before .before .before .before .before .before .before .before .before .before in
     let w = now (a .args .w) in
     let n = now (a .args .counts) in
@@ -118,20 +107,18 @@ returns-4 c =
     let z = now (a .args .sizes) in
     let k = now (a .args .calls) in
     let t = c .before .before .before .before .before .before .before .before .clock-of in
-    let is = is-tick (kindAt a) (c .before .before .before .before .before .if3 .left) (c .before .before .before .before .if4 .taken) in
     let e = rw (c .before .wide .ensures) at (c .tick .ensures (rowOf n (a .args .flow)) (omega (arith, a .pre .0 .2))) in
-    tick-within (a .args .flow) w n h z k (a .args .at) (a .pre .0 .0) (t .result) (t .ensures) (is .0) (is .1) (is .2) _ _ e
+    tick-within (a .args .flow) w n h z k (a .args .at) (a .pre .0 .0) (t .result) (t .ensures) (no-arrival (kindAt a) (c .before .before .before .before .before .if2 .left)) (c .before .before .before .before .before .before .if1 .left) (c .before .before .before .before .if3 .taken) _ _ e
 
-returns-5 : tie.Need-returns-5
-returns-5 c =
+returns-4 : tie.Need-returns-4
+returns-4 c =
     let a = c .before .before .before .before .before .before .before .before .before .before in
     let w = now (a .args .w) in
     let n = now (a .args .counts) in
     let h = now (a .args .handles) in
     let z = now (a .args .sizes) in
     let k = now (a .args .calls) in
-    let none = above-is-none (kindAt a) (c .if4 .left) in
-    unknown-step (a .args .flow) w n h z k (a .args .at) (none .0) (none .1) (none .2)
+    unknown-step (a .args .flow) w n h z k (a .args .at) (no-arrival (kindAt a) (c .before .if2 .left)) (c .before .before .if1 .left) (c .if3 .left)
 
 pub known-spec : {M : Type 1} → statement M
 known-spec =
@@ -146,19 +133,18 @@ known-spec =
     add-kind
     mul-kind
     shared-slice-read-kind
-    returns
-    arrive-requires
+    depart-requires
     same-length
     same-length-2
-    returns-2
-    depart-requires
+    returns
+    arrive-requires
     same-length-3
     same-length-4
-    returns-3
+    returns-2
     add-wide
     mul-wide
     shared-slice-read-wide
     wide-requires
     tick-requires
-    returns-4
-    returns-5)
+    returns-3
+    returns-4)
