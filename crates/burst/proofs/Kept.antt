@@ -3,7 +3,8 @@ use mathlib.Core.Path.{_≡_, refl}
 use Prim.Native.Nat.{ℕ, suc}
 use native.Mathlib.Omega.{arith}
 use lib.ListN.{length}
-use Rattle.steps.specs.Lent.{Lent, Ready}
+use Rattle.steps.specs.Lent.{Lent}
+use Rattle.steps.specs.Fitting.{Ready}
 use Rattle.steps.proofs.Kept.{leaves-long, ready-kept}
 use Rattle.burst.specs.Calls.{Call, asked, unknown}
 use Rattle.burst.specs.Burst.{after}

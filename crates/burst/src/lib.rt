@@ -21,7 +21,8 @@ ghost use Rattle.queue.specs.State.{wellFormed};
 ghost use Rattle.words.specs.Words.{stateOf};
 ghost use Rattle.burst.specs.Calls.{callAt};
 ghost use Rattle.bursts.specs.Answers.{answerWord};
-ghost use Rattle.steps.specs.Lent.{Ready, lent};
+ghost use Rattle.steps.specs.Lent.{lent};
+ghost use Rattle.steps.specs.Fitting.{Ready};
 ghost use Rattle.burst.specs.Burst.{after, answerTo, ringBursts};
 
 // What the words of a state are known to be.
@@ -31,8 +32,8 @@ fn held(w: [u64; 23]) -> bool
     true
 }
 
-// The call at `at`, of a queue that is ready for it. Departures are told first: the compiler then keeps what arrivals use in registers
-// (docs/PERFORMANCE.md).
+// The call at `at`, of a queue that is ready for it. Departures are tested for first: the compiler then keeps what arrivals use in
+// registers (docs/PERFORMANCE.md).
 fn known(w: &mut [u64; 23], handles: &mut [u32], sizes: &mut [u32], calls: &[u32], at: usize) -> u64
     requires { ⌜ Ready (lent (now w) (now handles) (now sizes)) 1 ⌝ }
     requires { ⌜ at + 5 < length (now calls) ⌝ }

@@ -11,6 +11,6 @@ clockOf low high = low + 4294967296 * high
 abbrev pub clockAt : (calls : List ℕ) (at : ℕ) → ℕ
 clockAt calls at = clockOf (getD calls at 0) (getD calls (at + 1) 0)
 
--- an answer as a word: its code, then the size and the handle that a departure hands out; 64 flows have a form of their own (crate fq_burst)
+-- an answer as a word: its code, then the size and the handle that a departure hands out; 64 flows have their own form (crate fq_burst)
 abbrev pub wordOf : (code size handle : ℕ) → ℕ
 wordOf code size handle = code + 65536 * size + 4294967296 * handle

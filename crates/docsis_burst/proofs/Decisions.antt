@@ -16,13 +16,13 @@ use Rattle.pie.specs.declared.Verdict.{Verdict}
 use Rattle.pie.specs.declared.Verdict.the-variants.{DroppedEarly, Enqueued}
 use Rattle.docsis_pie.specs.Constants.{high, low, mostProb}
 use Rattle.docsis_pie.specs.DropDecision.{afterDrop, cleared, decided, drawn, drawnWith, scaledOf, staysInactive, summed, withAccumulated}
-use Rattle.docsis_pie.specs.DropDecision.{early, isSmall, lightlyLoaded, woken}
+use Rattle.docsis_pie.specs.DropDecision.{early, isSmall, lightlyLoaded, noLongerInactive}
 use Rattle.docsis_pie.specs.declared.Decided.{Decided}
 use Rattle.docsis_pie.specs.declared.DocsisPie.{DocsisPie}
-use Rattle.docsis_pie.proofs.NeverEarly.{low-enqueues, scaled-zero, woken-accumulated, zero-enqueues}
+use Rattle.docsis_pie.proofs.NeverEarly.{low-enqueues, scaled-zero, no-longer-inactive-accumulated, zero-enqueues}
 use Rattle.docsis_flow.specs.Arrival.{decisionOf}
 use Rattle.docsis_words.specs.Words.{pieOf, stateOf}
-use Rattle.docsis_words.proofs.Changed.{Same, same-cleared, same-woken}
+use Rattle.docsis_words.proofs.Changed.{Same, same-cleared, same-no-longer-inactive}
 use Rattle.docsis_burst.specs.Words.{pieWords}
 use Rattle.docsis_burst.proofs.Words.{pie-back, pie-buffer, pie-long, pie-same, pie-target, pie-twice, spent-words, summed-words}
 
@@ -159,7 +159,7 @@ module _ (w : List ℕ) (long : length w ≡ 16) (size u : ℕ) where
       module _ (spent : ltb 0 (getD w 10 0) ≡ false) (c d : List ℕ) (stays : Bool)
           (ec : c ≡ pieWords w (cleared (pieOf w)))
           (es : stays ≡ staysInactive (pieOf c) (getD c 1 0) (getD w 15 0))
-          (ed : d ≡ pieWords c (cond stays (pieOf c) (woken (pieOf c)))) where
+          (ed : d ≡ pieWords c (cond stays (pieOf c) (noLongerInactive (pieOf c)))) where
         cleared-pie : pieOf c ≡ cleared (pieOf w)
         cleared-pie = rw ec (pie-back (cleared (pieOf w)) w long (same-cleared (pieOf w) (pieOf w) (refl, refl, refl)))
 
@@ -177,38 +177,38 @@ module _ (w : List ℕ) (long : length w ≡ 16) (size u : ℕ) where
             rw (fit, free, spent, sym stays-as ∙ e) (
               refl,
               ed
-                  ∙ ap (λ (b : Bool). pieWords c (cond b (pieOf c) (woken (pieOf c)))) e
+                  ∙ ap (λ (b : Bool). pieWords c (cond b (pieOf c) (noLongerInactive (pieOf c)))) e
                   ∙ ap (λ (q : DocsisPie). pieWords c q) cleared-pie
                   ∙ ap (λ (l : List ℕ). pieWords l (cleared (pieOf w))) ec
                   ∙ pie-twice (cleared (pieOf w)) (cleared (pieOf w)) w long,
             )
 
-        module _ (wakes : stays ≡ false) where
-          abbrev awake : DocsisPie
-          awake = woken (cleared (pieOf w))
+        module _ (starts : stays ≡ false) where
+          abbrev started : DocsisPie
+          started = noLongerInactive (cleared (pieOf w))
 
-          same-awake : Same (pieOf w) awake
-          same-awake = same-woken (pieOf w) (cleared (pieOf w)) (same-cleared (pieOf w) (pieOf w) (refl, refl, refl))
+          same-started : Same (pieOf w) started
+          same-started = same-no-longer-inactive (pieOf w) (cleared (pieOf w)) (same-cleared (pieOf w) (pieOf w) (refl, refl, refl))
 
-          awake-words : d ≡ pieWords w awake
-          awake-words =
+          started-words : d ≡ pieWords w started
+          started-words =
               ed
-              ∙ ap (λ (b : Bool). pieWords c (cond b (pieOf c) (woken (pieOf c)))) wakes
-              ∙ ap (λ (q : DocsisPie). pieWords c (woken q)) cleared-pie
-              ∙ ap (λ (l : List ℕ). pieWords l awake) ec
-              ∙ pie-twice (cleared (pieOf w)) awake w long
+              ∙ ap (λ (b : Bool). pieWords c (cond b (pieOf c) (noLongerInactive (pieOf c)))) starts
+              ∙ ap (λ (q : DocsisPie). pieWords c (noLongerInactive q)) cleared-pie
+              ∙ ap (λ (l : List ℕ). pieWords l started) ec
+              ∙ pie-twice (cleared (pieOf w)) started w long
 
-          pub awake-pie : pieOf d ≡ awake
-          awake-pie = rw awake-words (pie-back awake w long same-awake)
+          pub started-pie : pieOf d ≡ started
+          started-pie = rw started-words (pie-back started w long same-started)
 
           abbrev ruled : (p : ℕ) → DocsisPie → (target : ℕ) → Decided
           ruled p pie target = let part = scaledOf p size in drawnWith (summed pie part) target (getD w 15 0) part u
 
-          ruled-same : ruled (getD d 7 0) (pieOf d) (getD d 0 0) ≡ ruled (getD w 7 0) awake (getD w 0 0)
+          ruled-same : ruled (getD d 7 0) (pieOf d) (getD d 0 0) ≡ ruled (getD w 7 0) started (getD w 0 0)
           ruled-same =
-              ap (λ (q : DocsisPie). ruled (q .prob .0) q (getD d 0 0)) awake-pie
-              ∙ ap (λ (p : ℕ). ruled p awake (getD d 0 0)) (same-awake .0)
-              ∙ ap (λ (t : ℕ). ruled (getD w 7 0) awake t) (ap (λ (l : List ℕ). getD l 0 0) awake-words ∙ pie-target awake w long)
+              ap (λ (q : DocsisPie). ruled (q .prob .0) q (getD d 0 0)) started-pie
+              ∙ ap (λ (p : ℕ). ruled p started (getD d 0 0)) (same-started .0)
+              ∙ ap (λ (t : ℕ). ruled (getD w 7 0) started t) (ap (λ (l : List ℕ). getD l 0 0) started-words ∙ pie-target started w long)
 
           -- rules 7 to 15
           pub drawn-decides : (place : ℕ) (after : List ℕ) →
@@ -217,45 +217,45 @@ module _ (w : List ℕ) (long : length w ≡ 16) (size u : ℕ) where
           unfolding stateOf decisionOf decided
           drawn-decides place after (e, f) =
               let r = ruled (getD d 7 0) (pieOf d) (getD d 0 0) in
-              rw (fit, free, spent, sym stays-as ∙ wakes) (
+              rw (fit, free, spent, sym stays-as ∙ starts) (
                 e ∙ ap (λ (x : Decided). placeOf (x .verdict)) ruled-same,
                 f
-                    ∙ ap (λ (l : List ℕ). pieWords l (r .pie)) awake-words
-                    ∙ pie-twice awake (r .pie) w long
+                    ∙ ap (λ (l : List ℕ). pieWords l (r .pie)) started-words
+                    ∙ pie-twice started (r .pie) w long
                     ∙ ap (λ (x : Decided). pieWords w (x .pie)) ruled-same,
               )
 
           -- where p is 0, so is the sum
-          pub none-wakes : eqb (getD w 7 0) none ≡ true → Decides 0 d
+          pub none-starts : eqb (getD w 7 0) none ≡ true → Decides 0 d
           unfolding stateOf decisionOf decided drawnWith
-          none-wakes z =
+          none-starts z =
               let p : getD w 7 0 ≡ none = eqb-true (getD w 7 0) none z in
               let scaled = scaledOf (getD w 7 0) size in
               let zero : (cleared (pieOf w)) .accumulated .0 ≡ 0 = rw z in
-              let same : min (awake .accumulated .0 + scaled) high ≡ awake .accumulated .0 =
-              omega (arith, woken-accumulated (cleared (pieOf w)), zero, scaled-zero (getD w 7 0) size p) in
-              rw (fit, free, spent, sym stays-as ∙ wakes, zero-enqueues (pieOf w) (getD w 0 0) (getD w 15 0) size u p) (
+              let same : min (started .accumulated .0 + scaled) high ≡ started .accumulated .0 =
+              omega (arith, no-longer-inactive-accumulated (cleared (pieOf w)), zero, scaled-zero (getD w 7 0) size p) in
+              rw (fit, free, spent, sym stays-as ∙ starts, zero-enqueues (pieOf w) (getD w 0 0) (getD w 15 0) size u p) (
                 refl,
-                awake-words
-                    ∙ ap (λ (n : ℕ). set (set (set w 8 n) 10 (awake .allowance .0)) 12 (awake .phase .activity .0)) (sym same),
+                started-words
+                    ∙ ap (λ (n : ℕ). set (set (set w 8 n) 10 (started .allowance .0)) 12 (started .phase .activity .0)) (sym same),
               )
 
           -- what the rules are given
-          pub awake-long : length d ≡ 16
-          awake-long = rw awake-words (pie-long awake w long)
+          pub started-long : length d ≡ 16
+          started-long = rw started-words (pie-long started w long)
 
-          pub awake-fits : getD w 7 0 ≤ mostProb → getD w 8 0 ≤ high → getD w 9 0 ≤ longest →
+          pub started-fits : getD w 7 0 ≤ mostProb → getD w 8 0 ≤ high → getD w 9 0 ≤ longest →
               (getD d 7 0 ≤ mostProb) × (getD d 8 0 ≤ high) × (getD d 9 0 ≤ longest)
-          awake-fits p a o =
-              let prob = ap (λ (q : DocsisPie). q .prob .0) awake-pie ∙ same-awake .0 in
-              let old = ap (λ (q : DocsisPie). q .old .0) awake-pie ∙ same-awake .1 in
-              let sum = ap (λ (q : DocsisPie). q .accumulated .0) awake-pie ∙ woken-accumulated (cleared (pieOf w)) in
+          started-fits p a o =
+              let prob = ap (λ (q : DocsisPie). q .prob .0) started-pie ∙ same-started .0 in
+              let old = ap (λ (q : DocsisPie). q .old .0) started-pie ∙ same-started .1 in
+              let sum = ap (λ (q : DocsisPie). q .accumulated .0) started-pie ∙ no-longer-inactive-accumulated (cleared (pieOf w)) in
               (rw prob p, rw sum (cleared-low (pieOf w) a), rw old o)
 
-        -- whether it wakes or not
+        -- whether it starts or not
         pub none-decides : eqb (getD w 7 0) none ≡ true → Decides 0 d
         none-decides z = go stays refl
           where
             go : (b : Bool) → stays ≡ b → Decides 0 d
             go true e = stays-decide e
-            go false e = none-wakes e z
+            go false e = none-starts e z

@@ -59,8 +59,8 @@ pub summed-words : (n : ℕ) (w : List ℕ) → length w ≡ 16 → set w 8 (min
 summed-words n = for-words (λ w. set w 8 (min (getD w 8 0 + n) high) ≡ pieWords w (summed (pieOf w) n)) (λ f. refl)
 
 -- rule 6
-pub woken-words : (w : List ℕ) → length w ≡ 16 → set w 12 quiescent ≡ pieWords w (withActivity (pieOf w) quiescent)
-woken-words = for-words (λ w. set w 12 quiescent ≡ pieWords w (withActivity (pieOf w) quiescent)) (λ f. refl)
+pub no-longer-inactive-words : (w : List ℕ) → length w ≡ 16 → set w 12 quiescent ≡ pieWords w (withActivity (pieOf w) quiescent)
+no-longer-inactive-words = for-words (λ w. set w 12 quiescent ≡ pieWords w (withActivity (pieOf w) quiescent)) (λ f. refl)
 
 -- rule 15, of a quiescent flow
 abbrev dropped : DocsisPie → DocsisPie

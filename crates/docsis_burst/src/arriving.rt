@@ -9,16 +9,17 @@ use docsis_pie::scaled;
 use docsis_words::raise;
 use pie::LARGEST;
 use pie::LATEST;
+use ring::tail_place;
 use units::Bytes;
 use units::Prob;
 ghost use mathlib.Core.Path.{_≡_};
 ghost use mathlib.Core.Bool.{cond, true};
-ghost use Prim.Native.Nat.{_+_, _%_, _≤_, _<_, _^_, min};
+ghost use Prim.Native.Nat.{_+_, _≤_, _<_, _^_, min};
 ghost use lib.ListN.{getD, length};
 ghost use Rattle.pie.specs.Constants.{largest, longest};
 ghost use Rattle.pie.specs.Verdicts.{placeOf};
 ghost use Rattle.docsis_pie.specs.Constants.{high, mostProb};
-ghost use Rattle.docsis_pie.specs.DropDecision.{afterDrop, drawnWith, scaledOf, staysInactive, summed, woken};
+ghost use Rattle.docsis_pie.specs.DropDecision.{afterDrop, drawnWith, scaledOf, staysInactive, summed, noLongerInactive};
 ghost use Rattle.docsis_flow.specs.Arrival.{arrival, decisionOf, stored};
 ghost use Rattle.docsis_flow.specs.State.{formed};
 ghost use Rattle.docsis.specs.Counts.{countsAfter, rowOf};
@@ -29,14 +30,14 @@ ghost use Rattle.docsis_burst.specs.Fitting.{Ready};
 ghost use Rattle.docsis_burst.specs.Words.{pieWords};
 
 // Rule 5: whether the flow stays inactive. Rule 6 where it does not.
-fn rests(w: &mut [u64; 16], bytes: u64) -> bool
+fn stays_inactive(w: &mut [u64; 16], bytes: u64) -> bool
     requires { ⌜ (length (now w) ≡ 16) × (bytes ≤ 2 ^ 24) ⌝ }
     ensures { λ r. ⌜ r ≡ staysInactive (pieOf (now (w .entry))) (getD (now (w .entry)) 1 0) bytes ⌝ }
     ensures { λ r. ⌜ now (w .exit)
-        ≡ pieWords (now (w .entry)) (cond r (pieOf (now (w .entry))) (woken (pieOf (now (w .entry))))) ⌝ }
+        ≡ pieWords (now (w .entry)) (cond r (pieOf (now (w .entry))) (noLongerInactive (pieOf (now (w .entry))))) ⌝ }
 {
-    let sleeps = w[12] == Activity::INACTIVE.0;
-    if sleeps {
+    let inactive = w[12] == Activity::INACTIVE.0;
+    if inactive {
         let stays = 3 * bytes < w[1];
         if stays {
             return true;
@@ -130,26 +131,14 @@ fn decide(w: &mut [u64; 16], size: u64, calls: &[u32], at: usize) -> usize
     let none = w[7] == 0;
     if none {
         w[8] = 0;
-        rests(w, bytes);
+        stays_inactive(w, bytes);
         return 0;
     }
-    let stays = rests(w, bytes);
+    let stays = stays_inactive(w, bytes);
     if stays {
         return 0;
     }
     draw(w, bytes, size, calls, at)
-}
-
-// Where the packet behind `count` from `first` on stands: `ring::place`, without a jump (docs/PERFORMANCE.md).
-fn tail_place(first: u64, count: u64, slots: u64) -> u64
-    requires { ⌜ (first < slots) × (count ≤ slots) × (slots ≤ 65536) ⌝ }
-    ensures { λ r. ⌜ r ≡ (first + count) % slots ⌝ }
-{
-    let left = slots - count;
-    if first < left {
-        return first + count;
-    }
-    first - left
 }
 
 // A packet arrives.

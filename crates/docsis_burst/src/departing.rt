@@ -1,31 +1,20 @@
-// A departure of a flow that is ready for it.
+// A departure of a flow whose record and tables fit.
 use bursts::wide;
 use bursts::word;
 use pie::Backlog;
 use pie::LATEST;
 use refusals::wrong_head;
+use ring::following;
 use units::Bytes;
 ghost use mathlib.Core.Path.{_≡_};
 ghost use mathlib.Core.List.{List};
-ghost use Prim.Native.Nat.{ℕ, _+_, _%_, _≤_, _<_};
+ghost use Prim.Native.Nat.{ℕ, _≤_};
 ghost use Rattle.pie.specs.Constants.{mostVerdicts};
 ghost use Rattle.pie.specs.Verdicts.{total};
 ghost use Rattle.docsis_flow.specs.Departure.{departure};
 ghost use Rattle.docsis_words.specs.Words.{stateOf, stateWords};
 ghost use Rattle.bursts.specs.Answers.{answerWord};
 ghost use Rattle.docsis_burst.specs.Fitting.{Fitting};
-
-// (first + 1) modulo slots, without a jump (docs/PERFORMANCE.md).
-fn following(first: u64, slots: u64) -> u64
-    requires { ⌜ (first < slots) × (slots ≤ 65536) ⌝ }
-    ensures { λ r. ⌜ r ≡ (first + 1) % slots ⌝ }
-{
-    let last = slots - 1;
-    if first < last {
-        return first + 1;
-    }
-    0
-}
 
 // The head leaves. The promise is for every row that sums to at most 2^48; the call reads none.
 pub(crate) fn depart(w: &mut [u64; 16], handles: &[u32], sizes: &[u32], clock: u64) -> u64

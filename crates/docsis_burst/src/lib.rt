@@ -38,7 +38,7 @@ fn held(w: [u64; 16]) -> bool
     true
 }
 
-// The call at `at`, of a flow that is ready for it. Departures are told first (docs/PERFORMANCE.md).
+// The call at `at`, of a flow that is ready for it. Departures are tested for first (docs/PERFORMANCE.md).
 fn known(
     w: &mut [u64; 16],
     counts: &mut [[u64; 5]; 16],

@@ -1,4 +1,4 @@
-// A tick of a flow that is ready for it.
+// A tick of a flow whose record is formed.
 use docsis_pie::Activity;
 use docsis_pie::PERIOD;
 use docsis_pie::RESET_TIMEOUT;

@@ -16,7 +16,7 @@ use Rattle.pie.specs.declared.Verdict.the-variants.{DroppedBytes, DroppedEarly,
 use Rattle.pie.proofs.Counts.{length-raised, place-lt}
 use Rattle.queue.specs.Answer.{Answer, departed, made, refused, ticked, verdict}
 use Rattle.docsis_pie.specs.DropDecision.{cleared, decided, drawn, drawnWith, early, enqueuedWith, inAllowance, isSmall, lightlyLoaded}
-use Rattle.docsis_pie.specs.DropDecision.{scaledOf, staysInactive, sumIsHigh, sumIsLow, summed, woken}
+use Rattle.docsis_pie.specs.DropDecision.{scaledOf, staysInactive, sumIsHigh, sumIsLow, summed, noLongerInactive}
 use Rattle.docsis_pie.specs.declared.Decided.{Decided}
 use Rattle.docsis_pie.specs.declared.DocsisPie.{DocsisPie}
 use Rattle.docsis_flow.specs.declared.State.{State}
@@ -92,7 +92,7 @@ decision-not-marked s size u =
     (either P (slotsFull s) (turnedAway s DroppedSlots) _ refl
     (either P (inAllowance (s .pie)) (enqueuedWith (s .pie)) _ refl
     (either P (staysInactive (s .pie) (s .settings .buffer .0) (s .backlog .bytes .0)) (enqueuedWith (cleared (s .pie))) _ refl
-    (drawn-not-marked (summed (woken (cleared (s .pie))) scaled) (s .settings .target .0) (s .backlog .bytes .0) scaled u))))
+    (drawn-not-marked (summed (noLongerInactive (cleared (s .pie))) scaled) (s .settings .target .0) (s .backlog .bytes .0) scaled u))))
   where
     P : Decided → Type 0
     P d = NotMarked (d .verdict)

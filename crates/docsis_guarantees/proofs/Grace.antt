@@ -16,7 +16,7 @@ use Rattle.pie.specs.declared.Verdict.the-variants.{DroppedBytes, DroppedEarly,
 use Rattle.queue.specs.Answer.{verdict}
 use Rattle.docsis_pie.specs.Constants.{active, fullAllowance, inactive, period, quiescent}
 use Rattle.docsis_pie.specs.DropDecision.{afterDrop, cleared, decided, drawn, drawnWith, enqueuedWith, inAllowance, isInactive, isQuiescent}
-use Rattle.docsis_pie.specs.DropDecision.{scaledOf, staysInactive, summed, withAccumulated, withActivity, withAllowance, woken}
+use Rattle.docsis_pie.specs.DropDecision.{scaledOf, staysInactive, summed, withAccumulated, withActivity, withAllowance, noLongerInactive}
 use Rattle.docsis_pie.specs.Update.{updated}
 use Rattle.docsis_pie.specs.declared.Decided.{Decided}
 use Rattle.docsis_pie.specs.declared.DocsisPie.{DocsisPie}
@@ -40,8 +40,8 @@ cleared-allowance : (pie : DocsisPie) → (cleared pie) .allowance .0 ≡ pie .a
 cleared-allowance pie =
     either (λ q. q .allowance .0 ≡ pie .allowance .0) (eqb (pie .prob .0) none) (withAccumulated pie none) pie refl refl
 
-woken-allowance : (pie : DocsisPie) → (woken pie) .allowance .0 ≡ pie .allowance .0
-woken-allowance pie =
+noLongerInactive-allowance : (pie : DocsisPie) → (noLongerInactive pie) .allowance .0 ≡ pie .allowance .0
+noLongerInactive-allowance pie =
     either (λ q. q .allowance .0 ≡ pie .allowance .0) (isInactive pie) (withActivity pie quiescent) pie refl refl
 
 decided-allowance : (pie : DocsisPie) (target buffer bytes size u : ℕ) →
@@ -61,10 +61,10 @@ decided-allowance pie target buffer bytes size u =
     scaled = scaledOf (pie .prob .0) size
 
     sum : DocsisPie
-    sum = summed (woken (cleared pie)) scaled
+    sum = summed (noLongerInactive (cleared pie)) scaled
 
     same : sum .allowance .0 ≡ pie .allowance .0
-    same = woken-allowance (cleared pie) ∙ cleared-allowance pie
+    same = noLongerInactive-allowance (cleared pie) ∙ cleared-allowance pie
 
 decision-allowance : (s : State) (size u : ℕ) → StillOrFull (s .pie .allowance .0) ((decisionOf s size u) .pie)
 unfolding decisionOf
@@ -94,9 +94,9 @@ cleared-activity pie =
     either (λ q. q .phase .activity .0 ≡ pie .phase .activity .0) (eqb (pie .prob .0) none) (withAccumulated pie none) pie refl refl
 
 -- rule 6 leaves a flow that was not active quiescent
-woken-quiescent : (pie : DocsisPie) → pie .phase .activity .0 ≤ active → pie .phase .activity .0 ≢ active →
-    (woken pie) .phase .activity .0 ≡ quiescent
-woken-quiescent pie h n =
+noLongerInactive-quiescent : (pie : DocsisPie) → pie .phase .activity .0 ≤ active → pie .phase .activity .0 ≢ active →
+    (noLongerInactive pie) .phase .activity .0 ≡ quiescent
+noLongerInactive-quiescent pie h n =
     at-cond (λ (q : DocsisPie). q .phase .activity .0 ≡ quiescent) (isInactive pie)
     (λ e. refl)
     (λ e. let other : pie .phase .activity .0 ≢ inactive = eqb-false (pie .phase .activity .0) inactive e in omega arith)
@@ -107,14 +107,14 @@ unfolding decided drawnWith
 decided-protects pie target buffer bytes size u h n =
     either DropProtects (inAllowance pie) (enqueuedWith pie) _ (λ e. absurd (clash _ (λ z. omega arith) e))
     (either DropProtects (staysInactive pie buffer bytes) (enqueuedWith (cleared pie)) _ (λ e. absurd (clash _ (λ z. omega arith) e))
-    (λ e. rw e (rw (eq-eqb (sum .phase .activity .0) quiescent awake) (record { activity = refl; allowance = refl }))))
+    (λ e. rw e (rw (eq-eqb (sum .phase .activity .0) quiescent started) (record { activity = refl; allowance = refl }))))
   where
     sum : DocsisPie
-    sum = summed (woken (cleared pie)) (scaledOf (pie .prob .0) size)
+    sum = summed (noLongerInactive (cleared pie)) (scaledOf (pie .prob .0) size)
 
-    awake : sum .phase .activity .0 ≡ quiescent
-    awake =
-        woken-quiescent (cleared pie) (omega (arith, cleared-activity pie)) (λ e. n (omega (arith, cleared-activity pie)))
+    started : sum .phase .activity .0 ≡ quiescent
+    started =
+        noLongerInactive-quiescent (cleared pie) (omega (arith, cleared-activity pie)) (λ e. n (omega (arith, cleared-activity pie)))
 
 decision-protects : (s : State) (size u : ℕ) → s .pie .phase .activity .0 ≤ active → s .pie .phase .activity .0 ≢ active →
     DropProtects (decisionOf s size u)

@@ -13,7 +13,7 @@ use Rattle.pie.specs.Verdicts.{isEarly}
 use Rattle.docsis_pie.specs.Constants.{active, fullAllowance, high, mostProb, period, quiescent}
 use Rattle.docsis_pie.specs.Delay.{delayOf}
 use Rattle.docsis_pie.specs.DropDecision.{afterDrop, cleared, decided, drawn, drawnWith, inAllowance, isInactive, isQuiescent}
-use Rattle.docsis_pie.specs.DropDecision.{scaledOf, staysInactive, summed, withAccumulated, withActivity, withAllowance, woken}
+use Rattle.docsis_pie.specs.DropDecision.{scaledOf, staysInactive, summed, withAccumulated, withActivity, withAllowance, noLongerInactive}
 use Rattle.docsis_pie.specs.Probability.{nextProb}
 use Rattle.docsis_pie.specs.Update.{isQuiet, nextAllowance, updated}
 use Rattle.docsis_pie.specs.declared.Decided.{Decided}
@@ -47,10 +47,10 @@ cleared-fits pie f = either PieFits (eqb (pie .prob .0) none) (withAccumulated p
 not-quiescent : (n : ℕ) → eqb n 0 ≡ true → eqb n quiescent ≡ false
 not-quiescent n e = rw (eqb-true n 0 e)
 
-woken-fits : (pie : DocsisPie) → eqb (pie .allowance .0) 0 ≡ true → PieFits pie → PieFits (woken pie)
-woken-fits pie none f =
+noLongerInactive-fits : (pie : DocsisPie) → eqb (pie .allowance .0) 0 ≡ true → PieFits pie → PieFits (noLongerInactive pie)
+noLongerInactive-fits pie none f =
     at-cond PieFits (isInactive pie)
-    (λ sleeps.
+    (λ inactive.
     record {
       prob-high = f .prob-high;
       accumulated-high = f .accumulated-high;
@@ -61,10 +61,10 @@ woken-fits pie none f =
             reset-high = f .phase .reset-high;
             activity-high = omega arith;
             allowed = rw none;
-            resetting = rw (no-reset _ _ (pie .phase) (f .phase) (not-quiescent (pie .phase .activity .0) sleeps));
+            resetting = rw (no-reset _ _ (pie .phase) (f .phase) (not-quiescent (pie .phase .activity .0) inactive));
           };
     })
-    (λ awake. f)
+    (λ started. f)
 
 -- an early drop, with a probability above 0
 dropped-fits : (pie : DocsisPie) → eqb (pie .prob .0) none ≡ false → PieFits pie → PieFits (afterDrop pie)
@@ -86,8 +86,8 @@ dropped-fits pie some f =
     })
     (λ no. spent-fits pie none (omega arith) f)
 
-woken-prob : (pie : DocsisPie) → (woken pie) .prob .0 ≡ pie .prob .0
-woken-prob pie = either (λ q. q .prob .0 ≡ pie .prob .0) (isInactive pie) (withActivity pie quiescent) pie refl refl
+noLongerInactive-prob : (pie : DocsisPie) → (noLongerInactive pie) .prob .0 ≡ pie .prob .0
+noLongerInactive-prob pie = either (λ q. q .prob .0 ≡ pie .prob .0) (isInactive pie) (withActivity pie quiescent) pie refl refl
 
 cleared-prob : (pie : DocsisPie) → (cleared pie) .prob .0 ≡ pie .prob .0
 cleared-prob pie = either (λ q. q .prob .0 ≡ pie .prob .0) (eqb (pie .prob .0) none) (withAccumulated pie none) pie refl refl
@@ -99,7 +99,7 @@ cleared-allowance pie =
 -- a packet that is dropped early finds a probability above 0
 pub early-above-0 : (pie : DocsisPie) (target bytes size u : ℕ) →
     let scaled = scaledOf (pie .prob .0) size in
-    isEarly (drawn (summed (woken (cleared pie)) scaled) target bytes scaled u) ≡ true → eqb (pie .prob .0) none ≡ false
+    isEarly (drawn (summed (noLongerInactive (cleared pie)) scaled) target bytes scaled u) ≡ true → eqb (pie .prob .0) none ≡ false
 early-above-0 pie target bytes size u e =
     ne-eqb (pie .prob .0) none (λ z. absurd (false≢true (sym (ap isEarly (zero-enqueues pie target bytes size u z)) ∙ e)))
 
@@ -113,7 +113,7 @@ decided-fits pie target buffer bytes size u f =
     (λ stays. cleared-fits pie f)
     (λ goes-on.
     at-cond PieFits (isEarly (drawn sum target bytes scaled u))
-    (λ early. dropped-fits sum (rw (woken-prob (cleared pie), cleared-prob pie) (early-above-0 pie target bytes size u early)) (sum-fits none))
+    (λ early. dropped-fits sum (rw (noLongerInactive-prob (cleared pie), cleared-prob pie) (early-above-0 pie target bytes size u early)) (sum-fits none))
     (λ passed. sum-fits none)))
   where
     P : Decided → Type 0
@@ -123,13 +123,13 @@ decided-fits pie target buffer bytes size u f =
     scaled = scaledOf (pie .prob .0) size
 
     sum : DocsisPie
-    sum = summed (woken (cleared pie)) scaled
+    sum = summed (noLongerInactive (cleared pie)) scaled
 
     sum-fits : inAllowance pie ≡ false → PieFits sum
     sum-fits none =
         let spent : pie .allowance .0 ≡ 0 = omega (arith, ltb-false 0 (pie .allowance .0) none) in
-        spent-fits (woken (cleared pie)) _ (at-most _ high)
-        (woken-fits (cleared pie) (eq-eqb _ 0 (cleared-allowance pie ∙ spent)) (cleared-fits pie f))
+        spent-fits (noLongerInactive (cleared pie)) _ (at-most _ high)
+        (noLongerInactive-fits (cleared pie) (eq-eqb _ 0 (cleared-allowance pie ∙ spent)) (cleared-fits pie f))
 
 -- ── a tick ──
 

@@ -10,11 +10,11 @@ use Rattle.laws.proofs.Choice.{either}
 use Rattle.pie.specs.declared.Verdict.{Verdict}
 use Rattle.pie.specs.declared.Verdict.the-variants.{DroppedEarly, Enqueued}
 use Rattle.docsis_pie.specs.Constants.{high, low, quiescent}
-use Rattle.docsis_pie.specs.DropDecision.{cleared, drawn, early, isInactive, isSmall, lightlyLoaded, scaledOf, sumIsHigh, sumIsLow, summed, withActivity, woken}
+use Rattle.docsis_pie.specs.DropDecision.{cleared, drawn, early, isInactive, isSmall, lightlyLoaded, scaledOf, sumIsHigh, sumIsLow, summed, withActivity, noLongerInactive}
 use Rattle.docsis_pie.specs.declared.DocsisPie.{DocsisPie}
 
-pub woken-accumulated : (pie : DocsisPie) → (woken pie) .accumulated .0 ≡ pie .accumulated .0
-woken-accumulated pie =
+pub no-longer-inactive-accumulated : (pie : DocsisPie) → (noLongerInactive pie) .accumulated .0 ≡ pie .accumulated .0
+no-longer-inactive-accumulated pie =
     either (λ q. q .accumulated .0 ≡ pie .accumulated .0) (isInactive pie) (withActivity pie quiescent) pie refl refl
 
 cleared-zero : (pie : DocsisPie) → pie .prob .0 ≡ none → (cleared pie) .accumulated .0 ≡ 0
@@ -35,14 +35,14 @@ low-enqueues pie target bytes scaled u e =
     P v = v ≡ Enqueued
 
 pub zero-enqueues : (pie : DocsisPie) (target bytes size u : ℕ) → pie .prob .0 ≡ none →
-    let scaled = scaledOf (pie .prob .0) size in drawn (summed (woken (cleared pie)) scaled) target bytes scaled u ≡ Enqueued
+    let scaled = scaledOf (pie .prob .0) size in drawn (summed (noLongerInactive (cleared pie)) scaled) target bytes scaled u ≡ Enqueued
 zero-enqueues pie target bytes size u e =
     let scaled = scaledOf (pie .prob .0) size in
-    let sum = (woken (cleared pie)) .accumulated .0 + scaled in
-    low-enqueues (summed (woken (cleared pie)) scaled) target bytes scaled u
+    let sum = (noLongerInactive (cleared pie)) .accumulated .0 + scaled in
+    low-enqueues (summed (noLongerInactive (cleared pie)) scaled) target bytes scaled u
     (lt-ltb (min sum high) low (omega (
       arith,
-      woken-accumulated (cleared pie),
+      no-longer-inactive-accumulated (cleared pie),
       cleared-zero pie e,
       scaled-zero (pie .prob .0) size e,
     )))

@@ -1,4 +1,4 @@
--- Tick rule 1 (docs/DOCSIS-PIE.md, part 6; RFC 8034, A.2): the delay that queued bytes, credits and the two rates foretell.
+-- Tick rule 1 (docs/DOCSIS-PIE.md, part 6; RFC 8034, A.2): the delay estimated from queued bytes, credits and the two rates.
 use Prim.Native.Nat.{ℕ, _+_, _-_, _*_, _/_, min}
 use Rattle.pie.specs.Constants.{longest}
 

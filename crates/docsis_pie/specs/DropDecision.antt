@@ -53,8 +53,8 @@ abbrev pub staysInactive : DocsisPie → (buffer bytes : ℕ) → Bool
 staysInactive pie buffer bytes = isInactive pie && ltb (3 * bytes) buffer
 
 -- rule 6: an inactive flow becomes quiescent
-abbrev pub woken : DocsisPie → DocsisPie
-woken pie = cond (isInactive pie) (withActivity pie quiescent) pie
+abbrev pub noLongerInactive : DocsisPie → DocsisPie
+noLongerInactive pie = cond (isInactive pie) (withActivity pie quiescent) pie
 
 -- rule 7: scaled
 unfoldable pub scaledOf : (p size : ℕ) → ℕ
@@ -115,4 +115,4 @@ decided pie target buffer bytes size u =
     let scaled = scaledOf (pie .prob .0) size in
     cond (inAllowance pie) (enqueuedWith pie)
     (cond (staysInactive pie buffer bytes) (enqueuedWith (cleared pie))
-    (drawnWith (summed (woken (cleared pie)) scaled) target bytes scaled u))
+    (drawnWith (summed (noLongerInactive (cleared pie)) scaled) target bytes scaled u))

@@ -17,7 +17,7 @@ ghost use Prim.Native.Nat.{_≤_, _^_};
 ghost use Rattle.units.specs.Kinds.{prob};
 ghost use Rattle.pie.specs.Constants.{largest, longest};
 ghost use Rattle.docsis_pie.specs.Constants.{high, low, mostProb};
-ghost use Rattle.docsis_pie.specs.DropDecision.{afterDrop, cleared, decided, drawnWith, scaledOf, summed, woken};
+ghost use Rattle.docsis_pie.specs.DropDecision.{afterDrop, cleared, decided, drawnWith, scaledOf, summed, noLongerInactive};
 
 // Rule 7.
 pub fn scaled(p: Prob, size: Bytes) -> Prob
@@ -47,12 +47,12 @@ impl DocsisPie {
     }
 
     // Rule 6.
-    fn wake(self) -> DocsisPie
-        ensures { λ r. ⌜ r ≡ woken self ⌝ }
+    fn become_quiescent(self) -> DocsisPie
+        ensures { λ r. ⌜ r ≡ noLongerInactive self ⌝ }
     {
         let before = self.phase;
-        let sleeps = before.activity.0 == Activity::INACTIVE.0;
-        if sleeps {
+        let inactive = before.activity.0 == Activity::INACTIVE.0;
+        if inactive {
             let phase = Phase {
                 activity: Activity::QUIESCENT,
                 ..before
@@ -158,8 +158,8 @@ impl DocsisPie {
             };
         }
         let part = scaled(self.prob, size);
-        let awake = start.wake();
-        let sum = awake.add(part);
+        let started = start.become_quiescent();
+        let sum = started.add(part);
         sum.draw(target, bytes, part, u)
     }
 }

@@ -1,4 +1,4 @@
-// The delay that queued bytes, credits and the two rates foretell: tick rule 1.
+// The delay estimated from queued bytes, credits and the two rates: tick rule 1.
 use pie::LONGEST;
 use units::Bytes;
 use units::BytesPerSecond;

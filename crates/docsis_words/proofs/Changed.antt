@@ -12,7 +12,7 @@ use Rattle.pie.specs.declared.Verdict.the-variants.{DroppedBytes, DroppedSlots}
 use Rattle.words.proofs.Written.{listed, written-out}
 use Rattle.docsis_pie.specs.Constants.{active, fullAllowance, quiescent}
 use Rattle.docsis_pie.specs.DropDecision.{afterDrop, cleared, decided, drawn, drawnWith, enqueuedWith, inAllowance, isInactive, isQuiescent}
-use Rattle.docsis_pie.specs.DropDecision.{scaledOf, staysInactive, summed, withAccumulated, withActivity, withAllowance, woken}
+use Rattle.docsis_pie.specs.DropDecision.{scaledOf, staysInactive, summed, withAccumulated, withActivity, withAllowance, noLongerInactive}
 use Rattle.docsis_pie.specs.declared.Decided.{Decided}
 use Rattle.docsis_pie.specs.declared.DocsisPie.{DocsisPie}
 use Rattle.docsis_flow.specs.Arrival.{arrivedState, bytesFull, decisionOf, slotsFull, turnedAway}
@@ -36,8 +36,8 @@ Same p q = (q .prob .0 ≡ p .prob .0) × (q .old .0 ≡ p .old .0) × (q .phase
 pub same-cleared : (p q : DocsisPie) → Same p q → Same p (cleared q)
 same-cleared p q h = either (Same p) (eqb (q .prob .0) none) (withAccumulated q none) q h h
 
-pub same-woken : (p q : DocsisPie) → Same p q → Same p (woken q)
-same-woken p q h = either (Same p) (isInactive q) (withActivity q quiescent) q h h
+pub same-no-longer-inactive : (p q : DocsisPie) → Same p q → Same p (noLongerInactive q)
+same-no-longer-inactive p q h = either (Same p) (isInactive q) (withActivity q quiescent) q h h
 
 same-dropped : (p q : DocsisPie) → Same p q → Same p (afterDrop q)
 same-dropped p q h =
@@ -55,14 +55,14 @@ same-decided : (p : DocsisPie) (target buffer bytes size u : ℕ) → Same p ((d
 unfolding decided
 same-decided p target buffer bytes size u =
     let scaled = scaledOf (p .prob .0) size in
-    let sum = summed (woken (cleared p)) scaled in
+    let sum = summed (noLongerInactive (cleared p)) scaled in
     let early = drawnWith sum target bytes scaled u in
     either (λ (d : Decided). Same p (d .pie)) (inAllowance p) (enqueuedWith p)
     (cond (staysInactive p buffer bytes) (enqueuedWith (cleared p)) early)
     (refl, refl, refl)
     (either (λ (d : Decided). Same p (d .pie)) (staysInactive p buffer bytes) (enqueuedWith (cleared p)) early
     (same-cleared p p (refl, refl, refl))
-    (same-drawn p sum target bytes scaled u (same-woken p (cleared p) (same-cleared p p (refl, refl, refl)))))
+    (same-drawn p sum target bytes scaled u (same-no-longer-inactive p (cleared p) (same-cleared p p (refl, refl, refl)))))
 
 same-pie : (s : State) (size u : ℕ) → Same (s .pie) ((decisionOf s size u) .pie)
 unfolding decisionOf

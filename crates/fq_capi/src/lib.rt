@@ -30,7 +30,7 @@ mod words;
 
 pub use words::decode;
 pub use words::decode_lists;
-pub use words::encode;
+use words::encode;
 pub use words::numbered;
 pub use words::sized;
 

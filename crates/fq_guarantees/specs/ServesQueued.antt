@@ -1,6 +1,6 @@
 -- 26 in any well-formed record where a packet is queued: choosing ends at a listed flow that has a packet and a deficit that is not
--- negative, after at most 2,879 moves, and with any more looks allowed at the same (crate schedule_guarantees). So flow 0 is never given for
--- want of another.
+-- negative, after at most 2,879 moves, and with any more looks allowed at the same (crate schedule_guarantees). So flow 0 is never given
+-- for want of another.
 use mathlib.Core.Path.{_≡_}
 use Prim.Native.Nat.{ℕ, _+_, _≤_, _<_}
 use Rattle.schedule.specs.Choosing.{chooseIn, mostLooks}

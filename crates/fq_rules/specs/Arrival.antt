@@ -105,7 +105,7 @@ arrivedCommon c sizes clock size v =
       verdicts = raised (c .verdicts) v;
     }
 
--- a flow in neither list enters the new one; a listed flow, even an emptied one, keeps its place and deficit; a dropped packet moves nothing
+-- a flow in neither list enters the new one; a listed flow, even an empty one, keeps its place and deficit; a dropped packet moves nothing
 unfoldable pub arrivedSchedule : Schedule → (flow : ℕ) → Verdict → Schedule
 arrivedSchedule s flow v = cond (admitted v && not (isListed s flow)) (new.entered s flow) s
 

@@ -31,7 +31,8 @@ ghost use Rattle.schedule.specs.Ring.{scheduleOf};
 ghost use Rattle.schedule.specs.WellFormed.{listsFit};
 ghost use Rattle.fq_state.specs.Words.{stateOf};
 ghost use Rattle.fq_rules.specs.Answer.{arrivalAnswer};
-ghost use Rattle.fq_rules.specs.Arrival.{arrival, arrivedCommon, arrivedFlow, arrivedHandles, arrivedPie, arrivedSizes, beforeVerdict};
+ghost use Rattle.fq_rules.specs.Arrival.{arrival, arrivedCommon, arrivedFlow, arrivedHandles, arrivedPie, arrivedSizes};
+ghost use Rattle.fq_rules.specs.Arrival.{beforeVerdict};
 
 // The flow after an arrival with this verdict; where it admits, the packet stands at `place`.
 fn arrived(f: Flow, size: Bytes, place: u64, v: Verdict, accumulated: Prob) -> Flow

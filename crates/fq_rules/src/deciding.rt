@@ -1,4 +1,4 @@
-// Whether a packet that arrives is refused, and its verdict.
+// The verdict on a packet that arrives, and whether 9 refuses it.
 use fq_state::Common;
 use fq_state::Flow;
 use pie::Decided;

@@ -10,7 +10,8 @@ ghost use Rattle.codec.specs.Records.{decoded};
 ghost use Rattle.log.specs.Answers.{refusalIn};
 ghost use Rattle.log.specs.Reader.{noteOf, placeAfter, readAt, settingsOf};
 ghost use Rattle.log.specs.Writer.{add, begin};
-ghost use Rattle.log_capi.specs.Codes.{answerCode, codeOf, noteWords, partWords, settingsBytes, turnBytes, turnCode, writerOf, writerWords};
+ghost use Rattle.log_capi.specs.Codes.{answerCode, codeOf, noteWords, partWords, settingsBytes, turnBytes, turnCode};
+ghost use Rattle.log_capi.specs.Codes.{writerOf, writerWords};
 
 // What 32 bytes are known to be.
 fn thirty_two(b: [u8; 32])

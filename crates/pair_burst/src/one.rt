@@ -206,7 +206,7 @@ fn of_queue(
 }
 
 // The call at `at`. Where `tested`, the records are ready for it.
-pub fn answer(
+pub(crate) fn answer(
     shared: &mut [u64; 6],
     both: &mut [[u64; 21]; 2],
     handles: &mut [u32],

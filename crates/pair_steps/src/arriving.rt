@@ -3,6 +3,7 @@ use pie::Decided;
 use pie::LARGEST;
 use pie::LATEST;
 use pie::MOST_ACCUMULATED;
+use pie::SMALL_QUEUE;
 use pie::Verdict;
 use store::Ends;
 use store::follow;
@@ -133,7 +134,7 @@ fn decided(
             return undrawn(own, Verdict::Enqueued);
         }
     }
-    let small = bytes <= 3_000;
+    let small = bytes <= SMALL_QUEUE;
     if small {
         return undrawn(own, Verdict::Enqueued);
     }
@@ -155,7 +156,7 @@ fn settle(w: &mut [u64; 21], clock: u64, accumulated: u64, v: Verdict) -> u32
 }
 
 // The head of a queue that had `count` packets, with one more at `place`.
-fn lead(w: &mut [u64; 21], count: u64, place: u64)
+fn set_head(w: &mut [u64; 21], count: u64, place: u64)
     requires { ⌜ length (now w) ≡ 21 ⌝ }
     ensures { λ _. ⌜ now (w .exit) ≡ set (now (w .entry)) 14 (cond (eqb count 0) place (getD (now (w .entry)) 14 0)) ⌝ }
 {
@@ -193,7 +194,7 @@ fn enter(
     };
     let count = own[12];
     write_packet(handles, sizes, ends, count, place, handle, size);
-    lead(own, count, place);
+    set_head(own, count, place);
     own[12] = count + 1;
     own[13] = own[13] + size as u64;
     own[15] = place;

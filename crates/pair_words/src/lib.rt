@@ -2,9 +2,6 @@
 mod records;
 mod testing;
 
-pub use records::decode;
-pub use records::decode_shared;
 pub use records::encode;
 pub use records::encode_shared;
-pub use records::named;
 pub use testing::records_fit;

@@ -18,7 +18,7 @@ ghost use lib.ListN.{length};
 ghost use Rattle.pair_words.specs.Words.{sharedOf, sharedWords, stateOf, stateWords, whichOf};
 
 // The queue that a call names.
-pub fn named(second: bool) -> Which
+pub(crate) fn named(second: bool) -> Which
     ensures { λ r. ⌜ r ≡ whichOf second ⌝ }
 {
     if second {
@@ -28,7 +28,7 @@ pub fn named(second: bool) -> Which
 }
 
 // The shared record that the words hold, and that they are six.
-pub fn decode_shared(w: [u64; 6]) -> Shared
+pub(crate) fn decode_shared(w: [u64; 6]) -> Shared
     ensures { λ r. ⌜ (r ≡ sharedOf w) × (length w ≡ 6) ⌝ }
 {
     let reserves = Reserves {
@@ -48,7 +48,7 @@ pub fn decode_shared(w: [u64; 6]) -> Shared
 }
 
 // The state that the words hold, and that they are twenty-one.
-pub fn decode(w: [u64; 21]) -> State
+pub(crate) fn decode(w: [u64; 21]) -> State
     ensures { λ r. ⌜ (r ≡ stateOf w) × (length w ≡ 21) ⌝ }
 {
     let settings = Settings {

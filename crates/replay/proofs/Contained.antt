@@ -18,7 +18,8 @@ use Rattle.queue.proofs.Kept.{fresh-well-formed}
 use Rattle.words.specs.Words.{stateOf, stateWords}
 use Rattle.words.proofs.Words.{back, words-long}
 use Rattle.codec.specs.declared.Header.{Header}
-use Rattle.steps.specs.Lent.{Ready, lent}
+use Rattle.steps.specs.Lent.{lent}
+use Rattle.steps.specs.Fitting.{Ready}
 use Rattle.log.specs.Answers.{Answer, given, refused}
 use Rattle.log.specs.Faults.{headerRefused}
 use Rattle.log.specs.Layout.{countIn, headerIn, noteIn, offsetIn, recordsFrom, recordsIn}

@@ -9,7 +9,8 @@ use Rattle.codec.specs.declared.Record.{Record}
 use Rattle.refusals.specs.Rows.{firstRefusal}
 use Rattle.guarantees.specs.Handed.{Queue, Request, after, answerOf, askArrival, askDeparture, askTick}
 use Rattle.log.specs.Layout.{recordsFrom}
-use Rattle.steps.specs.Lent.{Lent, Ready, leaves, queueOf as lentQueue}
+use Rattle.steps.specs.Lent.{Lent, leaves, queueOf as lentQueue}
+use Rattle.steps.specs.Fitting.{Ready}
 use Rattle.steps.proofs.Kept.{leaves-queue, ready-kept, stored-long}
 use Rattle.replay.specs.Agreement.{disagreement, disagreements, refusalIn, requestOf, verdictIn}
 use Rattle.replay.specs.Replay.{Replay, disagrees, replayFrom, unlessDisagrees}

@@ -8,7 +8,8 @@ ghost use mathlib.Core.Path.{_≡_};
 ghost use mathlib.Core.Bool.{cond};
 ghost use Prim.Native.Nat.{_-_, _≤_};
 ghost use lib.Dec.{leb};
-ghost use Rattle.steps.specs.Lent.{Ready, leaves, lent, replyTo};
+ghost use Rattle.steps.specs.Lent.{leaves, lent, replyTo};
+ghost use Rattle.steps.specs.Fitting.{Ready};
 ghost use Rattle.replay.specs.Agreement.{refusalIn, requestOf, verdictIn};
 
 // What the code of an answer says: 100 and the number of a refusal, or else the verdict.

@@ -7,7 +7,8 @@ ghost use Prim.Native.Nat.{_+_, _*_, _≤_};
 ghost use lib.ListN.{length};
 ghost use Rattle.words.specs.Words.{stateOf};
 ghost use Rattle.log.specs.Layout.{recordsFrom};
-ghost use Rattle.steps.specs.Lent.{Ready, lent};
+ghost use Rattle.steps.specs.Lent.{lent};
+ghost use Rattle.steps.specs.Fitting.{Ready};
 ghost use Rattle.replay.specs.Replay.{queueOf, replayFrom};
 ghost use Rattle.replay.specs.Replied.{handlesAfter, replayedOf, sizesAfter};
 

@@ -20,7 +20,8 @@ use Rattle.words.specs.Words.{stateOf, stateWords}
 use Rattle.guarantees.specs.Calls.{Call, arrive, depart, reply, update}
 use Rattle.guarantees.specs.Handed.{Request, after, askArrival, askDeparture, askTick, callOf}
 use Rattle.guarantees.proofs.Replies.{acceptance, at-one-reply, reply-well-formed}
-use Rattle.steps.specs.Lent.{Lent, Ready, leaves, queueOf, replyTo}
+use Rattle.steps.specs.Lent.{Lent, leaves, queueOf, replyTo}
+use Rattle.steps.specs.Fitting.{Ready}
 
 abbrev Replied : (w : List ℕ) → Reply → Type 0
 Replied w r =

@@ -1,13 +1,7 @@
--- A queue as a caller lends it, and when its record needs no further test.
-use mathlib.Core.Path.{_≡_}
-use mathlib.Core.Bool.{true}
+-- A queue as a caller lends it, and what the single entry answers and leaves.
 use mathlib.Core.List.{List}
-use Prim.Native.Nat.{ℕ, _+_, _≤_}
-use lib.ListN.{length}
-use Rattle.pie.specs.Constants.{mostVerdicts}
-use Rattle.pie.specs.Verdicts.{total}
+use Prim.Native.Nat.{ℕ}
 use Rattle.queue.specs.Answer.{Reply}
-use Rattle.queue.specs.State.{wellFormed}
 use Rattle.words.specs.Codes.{wordsAfter}
 use Rattle.words.specs.Words.{stateOf}
 use Rattle.guarantees.specs.Calls.{reply}
@@ -34,15 +28,3 @@ abbrev pub leaves : Lent → Request → Lent
 leaves q r =
     let next = returned (queueOf q) r (replyTo q r) in
     record { words = wordsAfter (replyTo q r) (q .words); handles = next .handles; sizes = next .sizes }
-
--- twenty-three words of a well-formed state, and tables that fit it
-abbrev pub Fitting : Lent → Type 0
-Fitting q =
-    (length (q .words) ≡ 23)
-    × (wellFormed (stateOf (q .words)) ≡ true)
-    × (length (q .handles) ≡ stateOf (q .words) .settings .slots)
-    × (length (q .sizes) ≡ stateOf (q .words) .settings .slots)
-
--- and room in its counts for so many arrivals
-abbrev pub Ready : Lent → (arrivals : ℕ) → Type 0
-Ready q arrivals = Fitting q × (total (stateOf (q .words) .verdicts) + arrivals ≤ mostVerdicts)

@@ -4,11 +4,12 @@ use pie::LARGEST;
 use pie::LATEST;
 use pie::MOST_ACCUMULATED;
 use pie::SMALL_QUEUE;
+use ring::tail_place;
 use units::Prob;
 use words::write_restart;
 ghost use mathlib.Core.Path.{_≡_};
 ghost use mathlib.Core.Bool.{true};
-ghost use Prim.Native.Nat.{_+_, _%_, _≤_, _<_};
+ghost use Prim.Native.Nat.{_≤_, _<_};
 ghost use lib.ListN.{getD, length, set};
 ghost use Rattle.units.specs.Kinds.{whole};
 ghost use Rattle.pie.specs.Constants.{largest, mostAccumulated};
@@ -19,7 +20,8 @@ ghost use Rattle.queue.specs.Arrival.{arrival, arrivedState, stored, verdictOf}
 ghost use Rattle.queue.specs.State.{wellFormed};
 ghost use Rattle.words.specs.Codes.{codeOf, wordsAfter};
 ghost use Rattle.words.specs.Words.{pieOf, restartedWords, stateOf, stateWords};
-ghost use Rattle.steps.specs.Lent.{Ready, lent};
+ghost use Rattle.steps.specs.Lent.{lent};
+ghost use Rattle.steps.specs.Fitting.{Ready};
 ghost use Rattle.steps.specs.Words.{decidedWords, drawnWords};
 
 // Past rule 5: the probability accumulates, and its sum or u decides. Gives the place of the verdict.
@@ -81,18 +83,6 @@ fn decide(w: &mut [u64; 23], size: u64, ecn: bool, u: u64) -> usize
         return 0;
     }
     draw(w, ecn, u)
-}
-
-// Where the packet behind `count` from `first` on stands: `ring::place`, without a jump (docs/PERFORMANCE.md).
-fn tail_place(first: u64, count: u64, slots: u64) -> u64
-    requires { ⌜ (first < slots) × (count ≤ slots) × (slots ≤ 65536) ⌝ }
-    ensures { λ r. ⌜ r ≡ (first + count) % slots ⌝ }
-{
-    let left = slots - count;
-    if first < left {
-        return first + count;
-    }
-    first - left
 }
 
 // The rules on the state as it is given, their verdict's count, and an admitted packet at the tail. Gives the place of the verdict.

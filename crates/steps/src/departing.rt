@@ -6,10 +6,11 @@ use pie::LATEST;
 use pie::Rate;
 use pie::THRESHOLD;
 use refusals::wrong_head;
+use ring::following;
 use units::Bytes;
 use units::Micros;
 ghost use mathlib.Core.Path.{_≡_};
-ghost use Prim.Native.Nat.{_+_, _%_, _≤_, _<_};
+ghost use Prim.Native.Nat.{_≤_, _<_};
 ghost use lib.ListN.{getD, length};
 ghost use Rattle.pie.specs.Constants.{largest, longest, threshold};
 ghost use Rattle.pie.specs.DepartureRate.{rateAfter};
@@ -17,20 +18,9 @@ ghost use Rattle.queue.specs.Departure.{departure};
 ghost use Rattle.words.specs.Codes.{wordsAfter};
 ghost use Rattle.words.specs.Words.{rateOf, stateOf};
 ghost use Rattle.bursts.specs.Answers.{answerWord};
-ghost use Rattle.steps.specs.Lent.{Fitting, lent};
+ghost use Rattle.steps.specs.Lent.{lent};
+ghost use Rattle.steps.specs.Fitting.{Fitting};
 ghost use Rattle.steps.specs.Words.{rateWords};
-
-// (first + 1) modulo slots, without a jump (docs/PERFORMANCE.md).
-fn following(first: u64, slots: u64) -> u64
-    requires { ⌜ (first < slots) × (slots ≤ 65536) ⌝ }
-    ensures { λ r. ⌜ r ≡ (first + 1) % slots ⌝ }
-{
-    let last = slots - 1;
-    if first < last {
-        return first + 1;
-    }
-    0
-}
 
 // The departure rate moves on. Only the counted bytes are written where a measurement goes on, and nothing where none runs or starts.
 fn measure(w: &mut [u64; 23], clock: u64, size: u64, count: u64, left: u64)

@@ -1,4 +1,4 @@
--- Slots of two tables, linked into chains of packets (docs/SHARED-TABLES.md, part 1).
+-- Slots of two tables, linked into chains of packets (docs/SHARED-TABLES.md, sections 1 and 2).
 --
 --   Words       1: a size and a link in one word
 --   Fresh       4: no slot was taken

@@ -1,4 +1,4 @@
--- Words and numbers that are lent to C.
+-- The ring's state as words that C lends, and an answer as a number.
 --
 --   Flags  a flag as a word
 --   Words  the ring's state as words

@@ -77,7 +77,7 @@ stateWords w s =
     ∷ flagWord (getD w 22 0) (s .active)
     ∷ []
 
--- the words that turning active changes, but for the accumulated probability, which every arrival writes
+-- the words that turning active changes, but for the accumulated probability, which `arrivalWords` has
 abbrev pub restartedWords : (words : List ℕ) → List ℕ
 restartedWords w =
     let controlled = set (set (set w 5 0) 6 0) 7 fullAllowance in

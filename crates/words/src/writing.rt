@@ -65,7 +65,7 @@ pub fn encode(w: &mut [u64; 23], s: State)
     ];
 }
 
-// The words that turning active changes, but for the accumulated probability, which every arrival writes.
+// The words that turning active changes, but for the accumulated probability, which `write_arrival` writes.
 pub fn write_restart(w: &mut [u64; 23])
     ensures { λ _. ⌜ now (w .exit) ≡ restartedWords (now (w .entry)) ⌝ }
 {

@@ -9,7 +9,7 @@ use lib.ListN.{getD, length-set}
 use denote.Ref.{now}
 use Rattle.docsis_flow.proofs.Facts.{Facts, facts}
 use Rattle.docsis_words.specs.Words.{stateOf}
-use Rattle.docsis_burst.proofs.Decisions.{allowance-decides, awake-fits, awake-long, bytes-decide, drawn-decides, none-cleared, none-decides, slots-decide, some-cleared, stays-decide}
+use Rattle.docsis_burst.proofs.Decisions.{allowance-decides, started-fits, started-long, bytes-decide, drawn-decides, none-cleared, none-decides, slots-decide, some-cleared, stays-decide}
 
 known : (a : tie.Start) → Facts (stateOf (now (a .args .w)))
 known a = facts _ (a .pre .1)
@@ -59,9 +59,9 @@ element-copy-out-none c = search needs
 element-write-w-3 : tie.Need-element-write-w-3
 element-write-w-3 c = search needs
 
-rests-requires : tie.Need-rests-requires
+stays-inactive-requires : tie.Need-stays-inactive-requires
 unfolding stateOf
-rests-requires c κs =
+stays-inactive-requires c κs =
     let a = c .before .before .before .before .before .before .before .before .before .before .before .before in
     let f = known a in (length-set (now (a .args .w)) 8 0 ∙ a .pre .0, omega (arith, f .bytes-fit, f .buffer-high))
 
@@ -69,13 +69,13 @@ returns-4 : tie.Need-returns-4
 returns-4 c =
     let a = c .before .before .before .before .before .before .before .before .before .before .before .before .before in
     let w = now (a .args .w) in
-    let r = c .rests .ensures in
+    let r = c .stays-inactive .ensures in
     let none = c .before .before .if4 .taken in
     none-decides w (a .pre .0) (a .args .size) (uAt a) (c .before .before .before .before .before .before .before .before .before .if1 .left) (c .before .before .before .before .before .before .if2 .left) (c .before .before .before .before .if3 .left) _ _ _ (none-cleared w (a .pre .0) none) (r .0) (r .1) none
 
-rests-requires-2 : tie.Need-rests-requires-2
+stays-inactive-requires-2 : tie.Need-stays-inactive-requires-2
 unfolding stateOf
-rests-requires-2 c κs = let a = c .before .before .before .before .before .before .before .before .before .before .before .before in let f = known a in (a .pre .0, omega (arith, f .bytes-fit, f .buffer-high))
+stays-inactive-requires-2 c κs = let a = c .before .before .before .before .before .before .before .before .before .before .before .before in let f = known a in (a .pre .0, omega (arith, f .bytes-fit, f .buffer-high))
 
 returns-5 : tie.Need-returns-5
 returns-5 c =
@@ -94,11 +94,11 @@ draw-requires c κs =
     let r = c .before .before .rests2 .ensures in
     let some = some-cleared w (a .pre .0) (c .before .before .before .before .if4 .left) in (
       (
-        awake-long w (a .pre .0) (a .args .size) (uAt a) (c .before .before .before .before .before .before .before .before .before .before .before .if1 .left) (c .before .before .before .before .before .before .before .before .if2 .left) (c .before .before .before .before .before .before .if3 .left) _ _ _ some (r .0) (r .1) (c .before .if5 .left),
+        started-long w (a .pre .0) (a .args .size) (uAt a) (c .before .before .before .before .before .before .before .before .before .before .before .if1 .left) (c .before .before .before .before .before .before .before .before .if2 .left) (c .before .before .before .before .before .before .if3 .left) _ _ _ some (r .0) (r .1) (c .before .if5 .left),
         a .pre .2,
         a .pre .3,
       ),
-      awake-fits w (a .pre .0) (a .args .size) (uAt a) (c .before .before .before .before .before .before .before .before .before .before .before .if1 .left) (c .before .before .before .before .before .before .before .before .if2 .left) (c .before .before .before .before .before .before .if3 .left) _ _ _ some (r .0) (r .1) (c .before .if5 .left) (f .prob-high) (f .accumulated-high) (f .old-high),
+      started-fits w (a .pre .0) (a .args .size) (uAt a) (c .before .before .before .before .before .before .before .before .before .before .before .if1 .left) (c .before .before .before .before .before .before .before .before .if2 .left) (c .before .before .before .before .before .before .if3 .left) _ _ _ some (r .0) (r .1) (c .before .if5 .left) (f .prob-high) (f .accumulated-high) (f .old-high),
     )
 
 returns-6 : tie.Need-returns-6
@@ -126,9 +126,9 @@ decide-spec =
     returns-3
     element-copy-out-none
     element-write-w-3
-    rests-requires
+    stays-inactive-requires
     returns-4
-    rests-requires-2
+    stays-inactive-requires-2
     returns-5
     draw-requires
     returns-6)

@@ -9,7 +9,7 @@ use Rattle.units.specs.declared.Prob.{Prob}
 use Rattle.laws.proofs.Choice.{either}
 use Rattle.pie.specs.Constants.{longest}
 use Rattle.docsis_pie.specs.Constants.{high, low, mostProb, quiescent}
-use Rattle.docsis_pie.specs.DropDecision.{cleared, decided, isInactive, scaledOf, summed, withAccumulated, withActivity, woken}
+use Rattle.docsis_pie.specs.DropDecision.{cleared, decided, isInactive, scaledOf, summed, withAccumulated, withActivity, noLongerInactive}
 use Rattle.docsis_pie.specs.declared.DocsisPie.{DocsisPie}
 use Rattle.docsis_pie.proofs.Ranges.{scaled-le}
 use Rattle.docsis_pie.proofs.DocsisPie.decide.Statement.{statement}
@@ -27,8 +27,8 @@ cleared-fits pie f =
     (record { prob-high = f .prob-high; old-high = f .old-high; accumulated-high = omega arith })
     f
 
-woken-fits : (pie : DocsisPie) → Fits pie → Fits (woken pie)
-woken-fits pie f =
+noLongerInactive-fits : (pie : DocsisPie) → Fits pie → Fits (noLongerInactive pie)
+noLongerInactive-fits pie f =
     either Fits (isInactive pie) (withActivity pie quiescent) pie
     (record { prob-high = f .prob-high; old-high = f .old-high; accumulated-high = f .accumulated-high })
     f
@@ -36,11 +36,11 @@ woken-fits pie f =
 start-fits : (c : tie.Start) → Fits (c .args .self)
 start-fits c = record { prob-high = c .pre .0 .0; old-high = c .pre .0 .1; accumulated-high = c .pre .0 .2 }
 
-awake-fits : (c : tie.After-wake) → Fits (c .wake .result)
-awake-fits c =
+started-fits : (c : tie.After-become-quiescent) → Fits (c .become-quiescent .result)
+started-fits c =
     let k = c .before .before .before .before .before .before .before in
     let s = k .before .before .before in
-    rw (c .wake .ensures, k .clear .ensures) (woken-fits _ (cleared-fits _ (start-fits s)))
+    rw (c .become-quiescent .ensures, k .clear .ensures) (noLongerInactive-fits _ (cleared-fits _ (start-fits s)))
 
 part-le : (c : tie.After-scaled) → c .scaled .result .0 ≤ low
 part-le c = rw (c .scaled .ensures) (scaled-le _ _)
@@ -64,15 +64,15 @@ returns-2 c =
 scaled-requires : tie.Need-scaled-requires
 scaled-requires c κs = search needs
 
-wake-requires : tie.Need-wake-requires
-wake-requires c κs = search needs
+become-quiescent-requires : tie.Need-become-quiescent-requires
+become-quiescent-requires c κs = search needs
 
 add-requires : tie.Need-add-requires
-add-requires c κs = (awake-fits c .accumulated-high, part-le (c .before))
+add-requires c κs = (started-fits c .accumulated-high, part-le (c .before))
 
 draw-requires : tie.Need-draw-requires
 draw-requires c κs =
-    let f = awake-fits (c .before) in rw (c .add .ensures) (f .prob-high, f .old-high)
+    let f = started-fits (c .before) in rw (c .add .ensures) (f .prob-high, f .old-high)
 
 returns-3 : tie.Need-returns-3
 unfolding decided
@@ -82,7 +82,7 @@ returns-3 c =
     let p = w .before in
     let e2 = p .before in
     let k = e2 .before .before .before .before .before in
-    rw (k .before .if1 .left, e2 .if2 .left, c .draw .ensures, a .add .ensures, w .wake .ensures, p .scaled .ensures, k .clear .ensures)
+    rw (k .before .if1 .left, e2 .if2 .left, c .draw .ensures, a .add .ensures, w .become-quiescent .ensures, p .scaled .ensures, k .clear .ensures)
 
 pub decide-spec : {M : Type 1} → statement M
 decide-spec =
@@ -93,7 +93,7 @@ decide-spec =
     mul-stays
     returns-2
     scaled-requires
-    wake-requires
+    become-quiescent-requires
     add-requires
     draw-requires
     returns-3)

@@ -14,18 +14,18 @@ use Rattle.pair_steps.proofs.Words.{past-count, past-entered, queued-wo
 use Rattle.pair_steps.proofs.arriving.enter.Statement.{statement}
 use Rattle.pair_steps.proofs.arriving.enter.Tie as tie
 
-abbrev start-of : tie.After-lead → tie.Start
+abbrev start-of : tie.After-set-head → tie.Start
 start-of l = l .before .before .before .before .before .before .before .before .before .before .before .before .before .before
 
 -- the words before the verdict's are written
-entered : (l : tie.After-lead) →
+entered : (l : tie.After-set-head) →
     let a = start-of l in
-    queuedWords (l .lead .last .0) (getD (now (a .args .own)) 12 0) (a .args .size) (a .args .place)
+    queuedWords (l .set-head .last .0) (getD (now (a .args .own)) 12 0) (a .args .size) (a .args .place)
     ≡ enteredWords (now (a .args .own)) (a .args .size) (a .args .place)
 entered l =
     let a = start-of l in
     let ow = now (a .args .own) in
-    ap (λ (w : List ℕ). queuedWords w (getD ow 12 0) (a .args .size) (a .args .place)) (l .lead .ensures)
+    ap (λ (w : List ℕ). queuedWords w (getD ow 12 0) (a .args .size) (a .args .place)) (l .set-head .ensures)
     ∙ queued-words (a .args .size) (a .args .place) ow (a .pre .0 .0)
 
 element-copy-out-count : tie.Need-element-copy-out-count
@@ -40,8 +40,8 @@ element-copy-out-count-2 c = search needs
 write-packet-requires : tie.Need-write-packet-requires
 write-packet-requires c κs = search needs
 
-lead-requires : tie.Need-lead-requires
-lead-requires c κs = search needs
+set-head-requires : tie.Need-set-head-requires
+set-head-requires c κs = search needs
 
 add-own : tie.Need-add-own
 add-own c = search needs
@@ -59,7 +59,7 @@ add-own-2 c =
     let ow = now (a .args .own) in
     let count = getD ow 12 0 + 1 in
     let head = cond (eqb (getD ow 12 0) 0) (a .args .place) (getD ow 14 0) in
-    let led = ap (λ (w : List ℕ). getD (set w 12 count) 13 0) (l .lead .ensures) in
+    let led = ap (λ (w : List ℕ). getD (set w 12 count) 13 0) (l .set-head .ensures) in
     omega (arith, a .pre .0 .2, a .pre .1 .1 .0 .1, led, past-count ow head count)
 
 element-write-own-2 : tie.Need-element-write-own-2
@@ -103,7 +103,7 @@ enter-spec =
     element-copy-out-own
     element-copy-out-count-2
     write-packet-requires
-    lead-requires
+    set-head-requires
     add-own
     element-write-own
     element-copy-out-own-2

@@ -7,7 +7,8 @@ use lib.ListN.{length}
 use denote.Ref.{now}
 use Rattle.words.specs.Words.{stateOf}
 use Rattle.log.specs.Layout.{recordsFrom}
-use Rattle.steps.specs.Lent.{Lent, Ready, lent}
+use Rattle.steps.specs.Lent.{Lent, lent}
+use Rattle.steps.specs.Fitting.{Ready}
 use Rattle.steps.proofs.Kept.{leaves-long, ready-one}
 use Rattle.replay.specs.Agreement.{requestOf}
 use Rattle.replay.specs.Replay.{queueOf, replayFrom}

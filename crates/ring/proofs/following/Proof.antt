@@ -4,8 +4,8 @@ use mathlib.Core.Path.{_≡_, sym}
 use Prim.Native.Nat.{_+_, _<_}
 use native.Mathlib.Nat.{mod-eq-of-lt, mod-self}
 use native.Mathlib.Omega.{arith}
-use Rattle.docsis_burst.proofs.departing.following.Statement.{statement}
-use Rattle.docsis_burst.proofs.departing.following.Tie as tie
+use Rattle.ring.proofs.following.Statement.{statement}
+use Rattle.ring.proofs.following.Tie as tie
 
 sub-last : tie.Need-sub-last
 sub-last c = search needs

@@ -1,10 +1,10 @@
--- `lead`: the head is written where the queue was empty.
+-- `set_head`: the head is written where the queue was empty.
 use borrow.Author.Needs.{needs}
 use mathlib.Core.Path.{refl}
 use denote.Ref.{now}
 use Rattle.pair_steps.proofs.Words.{same-head}
-use Rattle.pair_steps.proofs.arriving.lead.Statement.{statement}
-use Rattle.pair_steps.proofs.arriving.lead.Tie as tie
+use Rattle.pair_steps.proofs.arriving.set_head.Statement.{statement}
+use Rattle.pair_steps.proofs.arriving.set_head.Tie as tie
 
 element-write-w : tie.Need-element-write-w
 element-write-w c = search needs
@@ -15,5 +15,5 @@ returns c = rw (c .if1 .taken) refl
 returns-2 : tie.Need-returns-2
 returns-2 c = let a = c .before in rw (c .if1 .left) (same-head (now (a .args .w)) (a .pre))
 
-pub lead-spec : {M : Type 1} → statement M
-lead-spec = tie.close (tie.spec element-write-w returns returns-2)
+pub set-head-spec : {M : Type 1} → statement M
+set-head-spec = tie.close (tie.spec element-write-w returns returns-2)

@@ -4,9 +4,9 @@ use mathlib.Core.Path.{_≡_, refl}
 use mathlib.Core.Logic.{inl, inr}
 use Prim.Native.Nat.{_+_, _-_, _≤_, _<_}
 use native.Mathlib.Omega.{arith}
 use Rattle.ring.proofs.Places.{place-is-remainder}
-use Rattle.docsis_burst.proofs.arriving.tail_place.Statement.{statement}
-use Rattle.docsis_burst.proofs.arriving.tail_place.Tie as tie
+use Rattle.ring.proofs.tail_place.Statement.{statement}
+use Rattle.ring.proofs.tail_place.Tie as tie
 
 sub-left : tie.Need-sub-left
 sub-left c = search needs
