@@ -14,10 +14,10 @@ unfolding stateOf
 allowance-held w = refl
 
 pub c-grace : CGrace
-c-grace w calls before e later t formed q called accepted full a m =
+c-grace w calls before e later t q called accepted full a m =
     let here = own-in w calls _ q e (Memᴰ·append-right before (List·Memᴰ·head refl)) in
     let there = own-in w calls _ q a (Memᴰ·append-right before (List·Memᴰ·tail m)) in
     let filled = ap (λ (s : State). s .pie .allowance .0) (sym (own-returned e here)) ∙ sym (allowance-held (e .returned)) ∙ full in
     own-by-limits _ a there
-    (grace (stateOf w) calls (map entryOf before) (entryOf e) (map entryOf later) t formed (cut-of w calls before e later q)
+    (grace (stateOf w) calls (map entryOf before) (entryOf e) (map entryOf later) t (cut-of w calls before e later q)
     called (own-ticked e t here called accepted) filled (entryOf a) (Memᴰ·map entryOf m))

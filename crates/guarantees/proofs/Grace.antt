@@ -28,7 +28,7 @@ ticked-by-limits e later t end here ec ea h a m =
 
 -- any state serves: a call that is accepted was given a well-formed one
 pub grace : Grace
-grace start calls before e later t w q ec ea full =
+grace start calls before e later t q ec ea full =
     let here = cut ringCalls (λ n x. tt) (λ n s. Unit {0}) (λ n s h c. tt) (tt {0}) start calls before e later tt q in
     ticked-by-limits e later t _ here ec ea (omega arith)
 
