@@ -1,7 +1,7 @@
 -- Fairness over lists of calls is fairness over the stretch that they are.
 use mathlib.Core.Path.{_≡_}
 use mathlib.Core.List.{List, foldl}
-use Prim.Native.Nat.{_≤_}
+use Prim.Native.Nat.{ℕ, _≤_, min}
 use native.Mathlib.Omega.{arith}
 use lib.ListN.{length}
 use Rattle.calls.specs.Traces.{trace}
@@ -25,13 +25,7 @@ use Rattle.fq_guarantees.proofs.Replies.{by-number}
 use Rattle.fq_guarantees.proofs.Stretches.{all-fit, served-as, stretchOf, waits-as}
 use Rattle.fq_guarantees.proofs.WhenAccepted.{departure-accepted}
 
-pub fairness-by-size : FairnessBySize
-fairness-by-size start calls f g most h ne small fit owed-f owed-g wait-f wait-g =
-    let r = stretch.fairness (lineOf (start .state)) (stretchOf start calls) f g most (lists-sound (start .state) h) ne small
-    (all-fit most start calls fit) (waits-as f most start calls wait-f owed-f) (waits-as g most start calls wait-g owed-g) in
-    omega (arith, r, served-as f start calls, served-as g start calls)
-
--- ── packets of any size ──
+-- ── no packet is larger than 65,535 bytes ──
 
 accepted-size : (s : State) (c : Call) → firstRefusal (rowsOf s c) ≡ 0 → sizeIn ((acceptance s c) .answer) ≤ 65535
 accepted-size s (arrive handles sizes clock key handle size ecn u) e = omega arith
@@ -44,15 +38,30 @@ any-size start calls =
     (λ s k c. by-number (λ r. sizeIn (r .answer) ≤ 65535) (s .state) c (λ n some given. omega arith) (accepted-size (s .state) c))
     start calls tt
 
+-- so `most` or 65,535 serves, whichever is less
+pub smaller-size : (most : ℕ) (start : Record64) (calls : List Call) → HandOutAtMost most (trace fqCalls start calls) →
+    HandOutAtMost (min most 65535) (trace fqCalls start calls)
+smaller-size most start calls fit a m = omega (arith, fit a m, any-size start calls a m)
+
+-- ── fairness ──
+
+pub fairness-by-size : FairnessBySize
+fairness-by-size start calls f g most h ne fit owed-f owed-g wait-f wait-g =
+    let low = min most 65535 in
+    let r = stretch.fairness (lineOf (start .state)) (stretchOf start calls) f g low (lists-sound (start .state) h) ne (omega arith)
+    (all-fit low start calls (smaller-size most start calls fit)) (waits-as f low start calls wait-f (omega arith))
+    (waits-as g low start calls wait-g (omega arith)) in
+    omega (arith, r, served-as f start calls, served-as g start calls)
+
 pub fairness : Fairness
 fairness start calls f g h ne wait-f wait-g =
-    fairness-by-size start calls f g 65535 h ne (omega arith) (any-size start calls) (omega arith) (omega arith) wait-f wait-g
+    fairness-by-size start calls f g 65535 h ne (any-size start calls) (omega arith) (omega arith) wait-f wait-g
 
 -- ── from fresh ──
 
 pub fairness-from-fresh : FairnessFromFresh
-fairness-from-fresh settings clock earlier calls f g most e ne small fit wait-f wait-g =
+fairness-from-fresh settings clock earlier calls f g most e ne fit wait-f wait-g =
     let start = foldl (fqCalls .next) (fresh64 settings clock) earlier in
     let k = from-fresh most settings clock earlier calls e fit in
-    fairness-by-size start calls f g most (k .sound) ne small (k .fit) (owed-by most f start calls k wait-f)
+    fairness-by-size start calls f g most (k .sound) ne (k .fit) (owed-by most f start calls k wait-f)
     (owed-by most g start calls k wait-g) wait-f wait-g

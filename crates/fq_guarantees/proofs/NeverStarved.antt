@@ -3,7 +3,7 @@ use mathlib.Core.Path.{_≡_, refl}
 use mathlib.Core.Bool.{Bool, true, false}
 use mathlib.Core.Logic.{_≢_}
 use mathlib.Core.List.{List, [], _∷_, foldl}
-use Prim.Native.Nat.{ℕ, _+_, _*_, _≤_}
+use Prim.Native.Nat.{ℕ, _+_, _*_, _≤_, min}
 use native.Mathlib.Omega.{arith}
 use lib.Dec.{ltb}
 use lib.ListN.{length}
@@ -25,7 +25,7 @@ use Rattle.fq_guarantees.specs.NeverStarved.{NeverStarved}
 use Rattle.fq_guarantees.specs.NeverStarvedFromFresh.{NeverStarvedFromFresh}
 use Rattle.fq_guarantees.specs.Refusals.{rowsOf}
 use Rattle.fq_guarantees.specs.SixtyFour.{Record64, fresh64}
-use Rattle.fq_guarantees.proofs.Fairness.{any-size}
+use Rattle.fq_guarantees.proofs.Fairness.{any-size, smaller-size}
 use Rattle.fq_guarantees.proofs.Kept.{kept}
 use Rattle.fq_guarantees.proofs.Owed.{Later, from-fresh, owed-by}
 use Rattle.fq_guarantees.proofs.PartsKept.{lists-sound}
@@ -35,19 +35,20 @@ use Rattle.fq_guarantees.proofs.Stretches.{all-fit, served-as, stretchO
 use Rattle.fq_guarantees.proofs.WhenAccepted.{departure-accepted}
 
 -- packets of at most this size, and neither flow owes more at the start
-by-size : (start : Record64) (calls : List Call) (f g most : ℕ) → Sound (start .state) → f ≢ g → most ≤ 65535 →
+by-size : (start : Record64) (calls : List Call) (f g most : ℕ) → Sound (start .state) → f ≢ g →
     HandOutAtMost most (trace fqCalls start calls) →
     zeroDeficit ≤ deficitOf (start .state .schedule) f + most → zeroDeficit ≤ deficitOf (start .state .schedule) g + most →
     Backlogged f start calls →
     bytesServed g (trace fqCalls start calls) ≤ 2 * bytesServed f (trace fqCalls start calls) + (3 * most + 5 * quantum)
-by-size start calls f g most h ne small fit owed-f owed-g wait =
-    let r = stretch.never-starved (lineOf (start .state)) (stretchOf start calls) f g most (lists-sound (start .state) h) ne small
-    (all-fit most start calls fit) (waits-as f most start calls wait owed-f) owed-g in
+by-size start calls f g most h ne fit owed-f owed-g wait =
+    let low = min most 65535 in
+    let r = stretch.never-starved (lineOf (start .state)) (stretchOf start calls) f g low (lists-sound (start .state) h) ne (omega arith)
+    (all-fit low start calls (smaller-size most start calls fit)) (waits-as f low start calls wait (omega arith)) (omega arith) in
     omega (arith, r, served-as f start calls, served-as g start calls)
 
 pub never-starved : NeverStarved
 never-starved start calls f g h ne wait =
-    by-size start calls f g 65535 h ne (omega arith) (any-size start calls) (omega arith) (omega arith) wait
+    by-size start calls f g 65535 h ne (any-size start calls) (omega arith) (omega arith) wait
 
 -- ── from fresh ──
 
@@ -68,7 +69,7 @@ unserved g start (c ∷ calls) h high =
     omega (arith, here, unserved g (fqCalls .next start c) calls (kept s c h) high)
 
 pub never-starved-from-fresh : NeverStarvedFromFresh
-never-starved-from-fresh settings clock earlier calls f g most e ne small fit wait = go (ltb g 64) refl
+never-starved-from-fresh settings clock earlier calls f g most e ne fit wait = go (ltb g 64) refl
   where
     start : Record64
     start = foldl (fqCalls .next) (fresh64 settings clock) earlier
@@ -79,5 +80,5 @@ never-starved-from-fresh settings clock earlier calls f g most e ne small fit wa
     go : (b : Bool) → ltb g 64 ≡ b →
         bytesServed g (trace fqCalls start calls) ≤ 2 * bytesServed f (trace fqCalls start calls) + (3 * most + 5 * quantum)
     go true low =
-        by-size start calls f g most (k .sound) ne small (k .fit) (owed-by most f start calls k wait) (k .owed g (ltb-true g 64 low)) wait
+        by-size start calls f g most (k .sound) ne (k .fit) (owed-by most f start calls k wait) (k .owed g (ltb-true g 64 low)) wait
     go false high = omega (arith, unserved g start calls (k .sound) (ltb-false g 64 high))

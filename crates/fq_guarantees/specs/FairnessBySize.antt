@@ -19,7 +19,7 @@ HandOutAtMost most entries = (a : Entry fqCalls) → List·Memᴰ a entries → 
 
 abbrev pub FairnessBySize : Type 0
 FairnessBySize =
-    (start : Record64) (calls : List Call) (f g most : ℕ) → Sound (start .state) → f ≢ g → most ≤ 65535 →
+    (start : Record64) (calls : List Call) (f g most : ℕ) → Sound (start .state) → f ≢ g →
     HandOutAtMost most (trace fqCalls start calls) →
     zeroDeficit ≤ deficitOf (start .state .schedule) f + most → zeroDeficit ≤ deficitOf (start .state .schedule) g + most →
     Backlogged f start calls → Backlogged g start calls →

@@ -3,7 +3,7 @@
 use mathlib.Core.Path.{_≡_}
 use mathlib.Core.Logic.{_≢_}
 use mathlib.Core.List.{List, _++_, foldl}
-use Prim.Native.Nat.{ℕ, _+_, _*_, _≤_, _<_}
+use Prim.Native.Nat.{ℕ, _+_, _*_, _<_}
 use Rattle.calls.specs.Traces.{trace}
 use Rattle.schedule.specs.Ring.{quantum}
 use Rattle.fq_state.specs.Fresh.{freshRefusal}
@@ -16,7 +16,7 @@ use Rattle.fq_guarantees.specs.FairnessBySize.{HandOutAtMost}
 
 abbrev pub FairnessFromFresh : Type 0
 FairnessFromFresh =
-    (settings : Settings) (clock : ℕ) (earlier calls : List Call) (f g most : ℕ) → freshRefusal settings clock ≡ 0 → f ≢ g → most ≤ 65535 →
+    (settings : Settings) (clock : ℕ) (earlier calls : List Call) (f g most : ℕ) → freshRefusal settings clock ≡ 0 → f ≢ g →
     HandOutAtMost most (trace fqCalls (fresh64 settings clock) (earlier ++ calls)) →
     let start = foldl (fqCalls .next) (fresh64 settings clock) earlier in
     Backlogged f start calls → Backlogged g start calls →

@@ -16,7 +16,7 @@ use Rattle.fq_guarantees.specs.SixtyFour.{fresh64}
 
 abbrev pub NeverStarvedFromFresh : Type 0
 NeverStarvedFromFresh =
-    (settings : Settings) (clock : ℕ) (earlier calls : List Call) (f g most : ℕ) → freshRefusal settings clock ≡ 0 → f ≢ g → most ≤ 65535 →
+    (settings : Settings) (clock : ℕ) (earlier calls : List Call) (f g most : ℕ) → freshRefusal settings clock ≡ 0 → f ≢ g →
     HandOutAtMost most (trace fqCalls (fresh64 settings clock) (earlier ++ calls)) →
     let start = foldl (fqCalls .next) (fresh64 settings clock) earlier in
     Backlogged f start calls →
