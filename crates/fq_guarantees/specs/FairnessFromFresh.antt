@@ -1,5 +1,6 @@
 -- Fairness after any calls from an accepted fresh call, if no call since then handed out a packet larger than `most`: of two flows that
--- have packets, the bytes handed out of one exceed those of the other by less than two such packets and two quanta.
+-- have packets where `calls` begin and wherever a departure among them is accepted, the bytes that `calls` hand out of one exceed those of
+-- the other by less than two packets of `most` bytes and two quanta.
 use mathlib.Core.Path.{_≡_}
 use mathlib.Core.Logic.{_≢_}
 use mathlib.Core.List.{List, _++_, foldl}

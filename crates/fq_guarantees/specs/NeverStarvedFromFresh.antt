@@ -1,5 +1,6 @@
 -- Whatever another flow sends, after any calls from an accepted fresh call, if no call since then handed out a packet larger than `most`:
--- at most twice the bytes of a flow that has packets, three such packets and five quanta are handed out of any other flow.
+-- `calls` hand out at most twice the bytes of a flow that has packets where they begin and wherever a departure among them is accepted, and
+-- three packets of `most` bytes and five quanta, of any other flow.
 use mathlib.Core.Path.{_≡_}
 use mathlib.Core.Logic.{_≢_}
 use mathlib.Core.List.{List, _++_, foldl}

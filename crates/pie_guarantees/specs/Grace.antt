@@ -1,4 +1,6 @@
--- A full allowance lasts 150,000 microseconds after an accepted tick that fills it, of any kind of queue that sheds load by PIE.
+-- A full allowance lasts 150,000 microseconds after an accepted tick that fills it, of any kind of queue that sheds load by PIE, from any
+-- state: each later accepted arrival with a clock below that tick's + 150,000 is answered by rules 1 and 2 alone, whatever ticks are tried
+-- or accepted.
 use mathlib.Core.Path.{_≡_}
 use mathlib.Core.List.{List, _∷_, _++_, List·Memᴰ}
 use Prim.Native.Nat.{_+_}
