@@ -10,12 +10,10 @@ use fq_state::fresh;
 use hash::flow_of;
 use queue::ArrivalAnswer;
 use refusals::Accepted;
-use refusals::Refusal;
 use units::Bytes;
 use units::Micros;
+use words::refused;
 ghost use mathlib.Core.Path.{_≡_};
-ghost use Prim.Native.Nat.{_+_};
-ghost use Rattle.refusals.specs.Numbers.{numberOf};
 ghost use Rattle.hash.specs.OneAtATime.{flowOf};
 ghost use Rattle.fq_state.specs.Fresh.{fresh, freshRefusal, settingsOf};
 ghost use Rattle.fq_state.specs.WellFormed.{wellFormed};
@@ -26,20 +24,13 @@ ghost use Rattle.fq_rules.specs.Tick.{tick};
 ghost use Rattle.fq_capi.specs.Codes.{codeOf, commonAfter, deficitsAfter, flowsAfter, freshCode, orderAfter, packetOf, wordsOf};
 ghost use Rattle.fq_capi.specs.Words.{lent};
 
-mod words;
+mod records;
 
-pub use words::decode;
-pub use words::decode_lists;
-use words::encode;
-pub use words::numbered;
-pub use words::sized;
-
-// The number of a refusal, with 100.
-pub fn refused(r: Refusal) -> u32
-    ensures { λ n. ⌜ n ≡ 100 + numberOf r ⌝ }
-{
-    100 + r.number()
-}
+pub use records::decode;
+pub use records::decode_lists;
+use records::encode;
+pub use records::numbered;
+pub use records::sized;
 
 #[no_mangle]
 pub extern "C" fn obikuteru_fq_flow(key: &[u8; 13], salt: u32) -> u32

@@ -30,7 +30,8 @@ use Rattle.store.specs.Put.{endsAfterPut}
 use Rattle.store.specs.Take.{endsAfterTake}
 use Rattle.store.specs.Words.{linkAt}
 use Rattle.store.specs.declared.Ends.{Ends}
-use Rattle.fq_state.specs.Flow.{backlogOf, endsOf, flagWord, flowWith, isSet, pieOf}
+use Rattle.words.proofs.Flags.{flag-says}
+use Rattle.fq_state.specs.Flow.{backlogOf, endsOf, flowWith, pieOf}
 use Rattle.fq_state.specs.declared.Common.{Common}
 use Rattle.fq_state.specs.declared.Flow.{Flow}
 use Rattle.fq_rules.specs.Arrival.{arrivedFlow, arrivedPie, bytesFull, slotsFull, verdictOf}
@@ -39,16 +40,6 @@ use Rattle.fq_rules.specs.Tick.{tickedFlow}
 use Rattle.fq_state.proofs.Facts.{CommonFits, FlowFits}
 
 -- ── a flow by its PIE state, its packets and its chain ──
-
--- the word of the flag says what it is to say
-pub flag-says : (word : ℕ) (said : Bool) → isSet (flagWord word said) ≡ said
-flag-says word said = go (isSet word) refl said
-  where
-    go : (b : Bool) → isSet word ≡ b → (said : Bool) → isSet (cond b (cond said word 0) (cond said 1 0)) ≡ said
-    go true e true = e
-    go true e false = refl
-    go false e true = refl
-    go false e false = refl
 
 pub pie-with : (f : Flow) (pie : Pie) (b : Backlog) (e : Ends) → pieOf (flowWith f pie b e) ≡ pie
 unfolding flowWith

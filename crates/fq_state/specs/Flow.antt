@@ -1,17 +1,12 @@
 -- 18: a flow is its PIE state, its count and bytes, and the head and tail of its chain.
-use mathlib.Core.Bool.{Bool, cond, not}
 use Prim.Native.Nat.{ℕ}
-use lib.Dec.{eqb}
 use Rattle.units.specs.Kinds.{bytes, micros, prob}
 use Rattle.pie.specs.declared.Backlog.{Backlog}
 use Rattle.pie.specs.declared.Pie.{Pie}
 use Rattle.pie.specs.declared.Rate.{Rate}
 use Rattle.store.specs.declared.Ends.{Ends}
+use Rattle.words.specs.Flags.{flagWord, isSet}
 use Rattle.fq_state.specs.declared.Flow.{Flow}
-
--- a word that is not 0 says yes
-abbrev pub isSet : (word : ℕ) → Bool
-isSet word = not (eqb word 0)
 
 abbrev pub rateOf : Flow → Rate
 rateOf f =
@@ -32,10 +27,6 @@ backlogOf f = record { count = f .count; bytes = bytes (f .bytes) }
 
 abbrev pub endsOf : Flow → Ends
 endsOf f = record { head = f .head; tail = f .tail }
-
--- the word of the flag `measuring`: left as it is where it says so already, else 1 or 0
-abbrev pub flagWord : (word : ℕ) (said : Bool) → ℕ
-flagWord word said = cond (isSet word) (cond said word 0) (cond said 1 0)
 
 -- a flow with this PIE state, these packets and this chain
 unfoldable pub flowWith : Flow → Pie → Backlog → Ends → Flow

@@ -7,10 +7,11 @@ use store::Ends;
 use units::Bytes;
 use units::Micros;
 use units::Prob;
+use words::flag;
 ghost use mathlib.Core.Path.{_≡_};
 ghost use Prim.Native.Nat.{_<_, _*_};
 ghost use lib.ListN.{length, set};
-ghost use Rattle.fq_state.specs.Flow.{backlogOf, endsOf, flagWord, flowWith, pieOf};
+ghost use Rattle.fq_state.specs.Flow.{backlogOf, endsOf, flowWith, pieOf};
 ghost use Rattle.fq_state.specs.State.{flowAt};
 ghost use Rattle.fq_state.specs.Words.{flowFrom, flowsOf};
 ghost use Rattle.fq_state.specs.Written.{fieldsOf, written};
@@ -76,20 +77,6 @@ pub fn set_flow(w: &mut [u64; 768], i: usize, f: Flow)
 {
     sized(*w);
     write(w, i, f);
-}
-
-// The word of the flag `measuring`, left as it is where it says so already.
-fn flag(word: u64, said: bool) -> u64
-    ensures { λ r. ⌜ r ≡ flagWord word said ⌝ }
-{
-    let set = word != 0;
-    if set {
-        if said {
-            return word;
-        }
-        return 0;
-    }
-    said as u64
 }
 
 impl Flow {

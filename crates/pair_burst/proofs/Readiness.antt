@@ -25,7 +25,7 @@ use Rattle.pair_rules.specs.Departure.{departedState, departure, departureRefus
 use Rattle.pair_rules.specs.Tick.{tick, tickRefusal, tickedState}
 use Rattle.pair_isolation.specs.Handed.{Queues, replyTo, returned}
 use Rattle.pair_words.specs.After.{ownAfter, sharedAfter}
-use Rattle.words.specs.Flags.{flagWord, isSet}
+use Rattle.words.proofs.Flags.{flag-says}
 use Rattle.words.proofs.Written.{written-out}
 use Rattle.pair_words.specs.Words.{sharedOf, sharedWords, stateOf, stateWords}
 use Rattle.pair_burst.specs.Calls.{Call, asked, unknown}
@@ -38,15 +38,6 @@ pub ready-one : (q : Lent) (n : ℕ) → 1 ≤ n → Ready q n → Ready q 1
 ready-one q n some (a, b, c, formed, h, z, r, s) = (a, b, c, formed, h, z, omega arith, omega arith)
 
 -- ── words hold the record that was written to them ──
-
-flag-says : (word : ℕ) (said : Bool) → isSet (flagWord word said) ≡ said
-flag-says word said = go (eqb word 0) refl said
-  where
-    go : (b : Bool) → eqb word 0 ≡ b → (said : Bool) → isSet (cond (not b) (cond said word 0) (cond said 1 0)) ≡ said
-    go true e true = refl
-    go true e false = refl
-    go false e true = rw e
-    go false e false = refl
 
 back : (w : List ℕ) (s : State) → length (s .verdicts) ≡ 5 → stateOf (stateWords w s) ≡ s
 unfolding stateOf stateWords

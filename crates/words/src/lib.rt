@@ -10,6 +10,7 @@ mod writing;
 
 pub use reading::decode;
 pub use writing::encode;
+pub use writing::flag;
 pub use writing::write_arrival;
 pub use writing::write_departure;
 pub use writing::write_restart;

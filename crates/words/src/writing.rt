@@ -14,7 +14,7 @@ ghost use Rattle.words.specs.Flags.{flagWord};
 ghost use Rattle.words.specs.Words.{arrivalWords, restartedWords, stateOf, stateWords};
 
 // The word of a flag, left as it is where it says so already.
-fn flag(word: u64, said: bool) -> u64
+pub fn flag(word: u64, said: bool) -> u64
     ensures { λ r. ⌜ r ≡ flagWord word said ⌝ }
 {
     let set = word != 0;

@@ -81,7 +81,7 @@ returns-5 : tie.Need-returns-5
 returns-5 c =
     let a = c .before .before .before .before .before .before .before .before .before .before .before .before .before .before in
     let w = now (a .args .w) in
-    let r = c .before .rests2 .ensures in
+    let r = c .before .stays-inactive2 .ensures in
     let some = some-cleared w (a .pre .0) (c .before .before .before .if4 .left) in
     stays-decide w (a .pre .0) (a .args .size) (uAt a) (c .before .before .before .before .before .before .before .before .before .before .if1 .left) (c .before .before .before .before .before .before .before .if2 .left) (c .before .before .before .before .before .if3 .left) _ _ _ some (r .0) (r .1) (c .if5 .taken)
 
@@ -91,7 +91,7 @@ draw-requires c κs =
     let a = c .before .before .before .before .before .before .before .before .before .before .before .before .before .before .before in
     let f = known a in
     let w = now (a .args .w) in
-    let r = c .before .before .rests2 .ensures in
+    let r = c .before .before .stays-inactive2 .ensures in
     let some = some-cleared w (a .pre .0) (c .before .before .before .before .if4 .left) in (
       (
         started-long w (a .pre .0) (a .args .size) (uAt a) (c .before .before .before .before .before .before .before .before .before .before .before .if1 .left) (c .before .before .before .before .before .before .before .before .if2 .left) (c .before .before .before .before .before .before .if3 .left) _ _ _ some (r .0) (r .1) (c .before .if5 .left),
@@ -105,7 +105,7 @@ returns-6 : tie.Need-returns-6
 returns-6 c =
     let a = c .before .before .before .before .before .before .before .before .before .before .before .before .before .before .before .before in
     let w = now (a .args .w) in
-    let r = c .before .before .before .rests2 .ensures in
+    let r = c .before .before .before .stays-inactive2 .ensures in
     let some = some-cleared w (a .pre .0) (c .before .before .before .before .before .if4 .left) in
     drawn-decides w (a .pre .0) (a .args .size) (uAt a) (c .before .before .before .before .before .before .before .before .before .before .before .before .if1 .left) (c .before .before .before .before .before .before .before .before .before .if2 .left) (c .before .before .before .before .before .before .before .if3 .left) _ _ _ some (r .0) (r .1) (c .before .before .if5 .left) _ _ (c .draw .ensures)
 

@@ -2,8 +2,8 @@
 use mathlib.Core.Path.{refl}
 use Rattle.fq_capi.specs.Words.{listsOf}
 use borrow.Author.Needs.{needs}
-use Rattle.fq_capi.proofs.words.decode_lists.Statement.{statement}
-use Rattle.fq_capi.proofs.words.decode_lists.Tie as tie
+use Rattle.fq_capi.proofs.records.decode_lists.Statement.{statement}
+use Rattle.fq_capi.proofs.records.decode_lists.Tie as tie
 
 array-read-t5 : tie.Need-array-read-t5
 array-read-t5 c = search needs

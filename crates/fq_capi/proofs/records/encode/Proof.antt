@@ -2,8 +2,8 @@
 use mathlib.Core.Path.{refl}
 use Rattle.fq_capi.specs.Words.{commonWords}
 use borrow.Author.Needs.{needs}
-use Rattle.fq_capi.proofs.words.encode.Statement.{statement}
-use Rattle.fq_capi.proofs.words.encode.Tie as tie
+use Rattle.fq_capi.proofs.records.encode.Statement.{statement}
+use Rattle.fq_capi.proofs.records.encode.Tie as tie
 
 element-copy-out-v0 : tie.Need-element-copy-out-v0
 element-copy-out-v0 c = search needs

@@ -2,8 +2,8 @@
 use mathlib.Core.Path.{refl}
 use Rattle.fq_capi.specs.Words.{commonOf}
 use borrow.Author.Needs.{needs}
-use Rattle.fq_capi.proofs.words.decode.Statement.{statement}
-use Rattle.fq_capi.proofs.words.decode.Tie as tie
+use Rattle.fq_capi.proofs.records.decode.Statement.{statement}
+use Rattle.fq_capi.proofs.records.decode.Tie as tie
 
 array-read-t9 : tie.Need-array-read-t9
 array-read-t9 c = search needs
