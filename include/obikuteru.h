@@ -1,8 +1,9 @@
 /*
  * Obikuteru: queues of packet records that shed load by PIE (RFC 8033), proved in Rattle.
  *
- * The library holds no memory of its own, calls nothing, and never fails but by the refusals
- * below. A queue is three things that the caller owns and lends to each call:
+ * The library holds no memory of its own, calls nothing but memcpy and memset (64 flows, and
+ * bursts on two queues), and never fails but by the refusals below. A queue is three things that
+ * the caller owns and lends to each call:
  *
  *   - a state record, struct obikuteru_state;
  *   - a table of handles and a table of sizes, each of exactly `slots` 32-bit numbers.
