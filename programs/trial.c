@@ -26,9 +26,12 @@
 #include <time.h>
 #include <unistd.h>
 
+enum { MOST_LAG = 5000 }; /* the most microseconds of a stall of this program that the line makes up for; more would be a burst */
+
 static const struct queueing *queueing;
 static uint64_t rate, delay, began;
 static uint64_t free_at; /* the clock at which the bottleneck has sent its last packet */
+static bool idle = true; /* the last departure found no packet */
 static uint64_t sent, sent_bytes, waited, voice_sent, voice_waited;
 static struct line forward, back; /* what is under way after the bottleneck, and the other way */
 static volatile sig_atomic_t ended;
@@ -99,16 +102,30 @@ static void take_answers(int device)
             give_back(number);
 }
 
-/* The bottleneck is free: the next packet leaves the queue, and is sent at the rate. */
-static void send_next(uint64_t clock)
+static uint64_t least(uint64_t a, uint64_t b)
+{
+    return a < b ? a : b;
+}
+
+static uint64_t most(uint64_t a, uint64_t b)
+{
+    return a > b ? a : b;
+}
+
+/*
+ * The bottleneck is free: the next packet leaves the queue, and is sent at the rate. A line needs no waking, so it is sent from when the
+ * line was free and the packet was there, although this program may have slept longer. Whether there was a packet.
+ */
+static bool send_next(uint64_t clock)
 {
     int number = queueing->departure(clock);
+    uint64_t begin;
 
-    if (number == NO_PACKET)
-        return;
-    if (free_at < clock)
-        free_at = clock;
-    free_at += packets[number].length * 1000000u / rate;
+    idle = number == NO_PACKET;
+    if (idle)
+        return false;
+    begin = most(most(free_at, packets[number].clock), clock - least(clock, MOST_LAG));
+    free_at = begin + packets[number].length * 1000000u / rate;
     sent++;
     sent_bytes += packets[number].length;
     waited += clock - packets[number].clock;
@@ -118,6 +135,7 @@ static void send_next(uint64_t clock)
     }
     if (!put_on_line(&forward, number, free_at + delay))
         give_back(number);
+    return true;
 }
 
 static void deliver(struct line *line, int device, uint64_t clock)
@@ -131,18 +149,13 @@ static void deliver(struct line *line, int device, uint64_t clock)
     }
 }
 
-static uint64_t least(uint64_t a, uint64_t b)
-{
-    return a < b ? a : b;
-}
-
 /* Waits for a packet, or for what is due next. */
 static void wait_for(struct pollfd *devices, uint64_t clock)
 {
     uint64_t next = least(least(queueing->due(), least(due_on_line(&forward), due_on_line(&back))), clock + 1000);
     struct timespec time = {0, 0};
 
-    if (free_at > clock)
+    if (!idle)
         next = least(next, free_at);
     if (next > clock)
         time.tv_nsec = (long)(next - clock) * 1000;
@@ -162,8 +175,8 @@ static void run(struct pollfd *devices)
         clock = now();
         if (queueing->due() <= clock)
             queueing->tick(clock);
-        if (free_at <= clock)
-            send_next(clock);
+        while (free_at <= clock && send_next(clock))
+            ;
         deliver(&forward, devices[1].fd, clock);
         deliver(&back, devices[0].fd, clock);
     }
