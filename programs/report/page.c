@@ -90,7 +90,7 @@ static void write_replay(FILE *to, const struct found *found)
 
     fputs("<h2>What the replay found</h2>\n", to);
     if (found->answer == OBIKUTERU_ACCEPTED) {
-        fprintf(to, "<p class=good>Accepted: the rules give each of the %" PRIu64 " records, verdict, probability and bytes.</p>\n",
+        fprintf(to, "<p class=good>Accepted. Records: %" PRIu64 "; the rules give verdict, probability and bytes of each.</p>\n",
                 found->replayed.record);
         return;
     }
@@ -150,8 +150,8 @@ static void write_first_two(FILE *to, const struct found *found, const struct wa
     const uint64_t *verdicts = walk->state.verdicts;
 
     question(to, "Was that packet shed because the rule required it?", "WhichVerdict", "crates/guarantees/specs/WhichVerdict.antt");
-    fprintf(to, "%" PRIu64 " packets were dropped and %" PRIu64 " marked by the rules, %s.</p>\n", verdicts[2] + verdicts[3] + verdicts[4],
-            verdicts[1], found->answer == OBIKUTERU_ACCEPTED ? "and the log records the same" : "up to the record that disagrees");
+    fprintf(to, "packets dropped by the rules: %" PRIu64 ", marked: %" PRIu64 "; %s.</p>\n", verdicts[2] + verdicts[3] + verdicts[4],
+            verdicts[1], found->answer == OBIKUTERU_ACCEPTED ? "the log records the same" : "counted up to the record that disagrees");
     question(to, "Could the burst allowance have run out early if the timer fired twice?", "AllowanceLasts",
              "crates/guarantees/specs/AllowanceLasts.antt");
     if (walk->allowance_ran)
@@ -167,15 +167,15 @@ static void write_last_two(FILE *to, const struct walk *walk)
 
     question(to, "Do the queued bytes equal what went in less what came out?", "Conservation", "crates/guarantees/specs/Conservation.antt");
     fprintf(to,
-            "%" PRIu64 " bytes in less %" PRIu64 " bytes out are %" PRIu64 "; the queue holds %" PRIu64 " in %" PRIu64
-            " packets.</p>\n",
+            "bytes in: %" PRIu64 ", bytes out: %" PRIu64 ", the difference: %" PRIu64 "; bytes queued at the end: %" PRIu64
+            ", packets: %" PRIu64 ".</p>\n",
             walk->bytes_in, walk->bytes_out, walk->bytes_in - walk->bytes_out, walk->state.bytes, walk->state.count);
     question(to, "Once a crowd has left, how long does the queue go on dropping?", "RecoveryByTarget",
              "crates/guarantees/specs/RecoveryByTarget.antt");
     fprintf(to, "at a target of %" PRIu64 " the theorem says at most %" PRIu64 " ticks on an empty queue. ", target,
             obikuteru_ticks_to_recover(target));
     if (walk->longest_fade > 0)
-        fprintf(to, "The longest stretch of them until the probability was 0 was %" PRIu64 " ticks.</p>\n", walk->longest_fade);
+        fprintf(to, "Ticks in the longest stretch of them until the probability was 0: %" PRIu64 ".</p>\n", walk->longest_fade);
     else
         fputs("No stretch of ticks on an empty queue brought a probability down to 0 in it.</p>\n", to);
 }
