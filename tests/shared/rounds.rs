@@ -1,17 +1,18 @@
 //! Rounds on new seeds, and the words of the command line.
 
 use super::random::Random;
+use crate::NAME;
 use std::time::{Duration, Instant, SystemTime, UNIX_EPOCH};
 
 extern "C" {
     fn isatty(descriptor: i32) -> i32;
 }
 
-/// On a terminal, how far a soak is.
+/// On a terminal, how far this program's soak is; a soak of all kinds runs one after the other.
 fn tell(begin: Instant, seconds: u64) {
     // Safety: it reads nothing but what stands behind the descriptor of standard error.
     if unsafe { isatty(2) } != 0 {
-        eprintln!("{} of {seconds} seconds", begin.elapsed().as_secs());
+        eprintln!("{NAME}: {} of {seconds} seconds", begin.elapsed().as_secs());
     }
 }
 
