@@ -23,18 +23,6 @@ static void begin_line(const char *word)
     printf("%s ", word);
 }
 
-static const char *field_of(uint32_t answer)
-{
-    switch (answer) {
-    case OBIKUTERU_DISAGREES_VERDICT:
-        return "verdict";
-    case OBIKUTERU_DISAGREES_PROBABILITY:
-        return "probability";
-    default:
-        return "bytes";
-    }
-}
-
 /* The call of a record, with the rules' answer in place of the recorded one. */
 static void print_rules(struct obikuteru_record record, const struct obikuteru_replayed *found)
 {

@@ -56,13 +56,6 @@ static void write_settings(FILE *to, const struct obikuteru_settings *settings, 
     fputs("</p>\n", to);
 }
 
-static const char *field_of(uint32_t answer)
-{
-    if (answer == OBIKUTERU_DISAGREES_VERDICT)
-        return "verdict";
-    return answer == OBIKUTERU_DISAGREES_PROBABILITY ? "probability" : "bytes";
-}
-
 /* A call's answer in words: a verdict, the handle that left, or a refusal. */
 static void write_answer(FILE *to, const struct obikuteru_record *call, uint64_t verdict, uint64_t refusal)
 {

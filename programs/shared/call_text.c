@@ -29,3 +29,15 @@ void print_record(const struct obikuteru_record *record)
     print_answer(record);
     printf(" %" PRIu64 " %" PRIu32 "\n", record->probability, record->bytes);
 }
+
+const char *field_of(uint32_t answer)
+{
+    switch (answer) {
+    case OBIKUTERU_DISAGREES_VERDICT:
+        return "verdict";
+    case OBIKUTERU_DISAGREES_PROBABILITY:
+        return "probability";
+    default:
+        return "bytes";
+    }
+}

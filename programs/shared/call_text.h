@@ -13,4 +13,7 @@ void print_call(const struct obikuteru_record *record);
 /* The call, its answer, the probability and the bytes of a record, and the line's end. */
 void print_record(const struct obikuteru_record *record);
 
+/* The field in which a record disagrees with the rules, by the replay's answer. */
+const char *field_of(uint32_t answer);
+
 #endif
