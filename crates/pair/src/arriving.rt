@@ -19,18 +19,17 @@ use units::Bytes;
 use units::Micros;
 use units::Prob;
 ghost use mathlib.Core.Path.{_≡_};
-ghost use mathlib.Core.List.{[], _∷_};
 ghost use Prim.Native.Nat.{_≤_, _<_};
+ghost use lib.ListN.{length};
 ghost use Rattle.pie.specs.Constants.{largest, mostVerdicts};
 ghost use Rattle.pie.specs.Verdicts.{total};
 ghost use Rattle.refusals.specs.Numbers.{refusalIn};
 ghost use Rattle.refusals.specs.Rows.{firstRefusal};
-ghost use Rattle.refusals.specs.Tests.{sizeRefused};
 ghost use Rattle.pair_rules.specs.Answer.{arrivalReply};
 ghost use Rattle.pair_rules.specs.Arrival.{arrival, arrivedHandles, arrivedPie, arrivedSizes, arrivedState};
+ghost use Rattle.pair_state.specs.Facing.{facing};
 ghost use Rattle.pair_state.specs.Queues.{paired};
-ghost use Rattle.pair_rules.specs.Refusals.{clockRefused, countsRefused, pairRefused, tablesRefused};
-ghost use Rattle.pair_state.specs.declared.Which.the-variants.{Intercom};
+ghost use Rattle.pair.specs.BeforeVerdict.{beforeVerdict};
 
 // Refusals 2, 3, 4, 7 and 8, where the first queue is called.
 fn check_arrival(
@@ -42,13 +41,7 @@ fn check_arrival(
     clock: Micros,
     size: Bytes,
 ) -> Accepted
-    ensures { λ r. ⌜ refusalIn r ≡ firstRefusal (
-        (2, pairRefused (paired Intercom shared own other))
-        ∷ (3, tablesRefused shared handles sizes)
-        ∷ (4, clockRefused own (clock .0))
-        ∷ (7, sizeRefused (size .0))
-        ∷ (8, countsRefused own)
-        ∷ []) ⌝ }
+    ensures { λ r. ⌜ refusalIn r ≡ firstRefusal (beforeVerdict shared own other handles sizes (clock .0) (size .0)) ⌝ }
 {
     let shared_fits = shared.fits();
     if !shared_fits {
@@ -131,6 +124,69 @@ fn arrived(
     }
 }
 
+// The packet is decided on, and refused by 9, or counted; where its verdict admits, it is written.
+fn receive(
+    which: Which,
+    shared: Shared,
+    own: State,
+    other: State,
+    handles: &mut [u32],
+    sizes: &mut [u32],
+    clock: Micros,
+    handle: u32,
+    size: Bytes,
+    ecn: bool,
+    u: u32,
+) -> Arrived
+    requires { ⌜ firstRefusal (beforeVerdict (facing which shared) own other
+        (length (now handles)) (length (now sizes)) (clock .0) (size .0)) ≡ 0 ⌝ }
+    ensures { λ r. ⌜ arrivalReply which shared other r
+        ≡ arrival (paired which shared own other) which (now (handles .entry)) (now (sizes .entry)) (clock .0) (size .0) ecn u ⌝ }
+    ensures { λ _. ⌜ (let p = paired which shared own other in
+        let a = arrival p which (now (handles .entry)) (now (sizes .entry)) (clock .0) (size .0) ecn u in
+        (now (handles .exit) ≡ arrivedHandles p (a .answer) (now (handles .entry)) handle)
+        × (now (sizes .exit) ≡ arrivedSizes p which (a .answer) (now (sizes .entry)) (size .0))) ⌝ }
+{
+    let seen = shared.facing(which);
+    let store = shared.store;
+    let decided = decide(seen, own, other, size, ecn, u);
+    let v = decided.verdict;
+    let accumulated = decided.accumulated;
+    let place = store.free_place();
+    let state = arrived(own, clock, size, place, v, accumulated);
+    let admits = v.admits();
+    if !admits {
+        return Arrived {
+            answer: ArrivalAnswer::Decided(v),
+            store,
+            state,
+        };
+    }
+    let lost = leads_nowhere(sizes, store.freed, store.spare, shared.slots);
+    if lost {
+        return Arrived {
+            answer: ArrivalAnswer::Refused(Refusal::Head),
+            store,
+            state: own,
+        };
+    }
+    let next = store.put(sizes);
+    write_packet(
+        handles,
+        sizes,
+        own.ends,
+        own.backlog.count,
+        place,
+        handle,
+        size.0 as u32,
+    );
+    Arrived {
+        answer: ArrivalAnswer::Decided(v),
+        store: next,
+        state,
+    }
+}
+
 // A packet of `size` bytes arrives at the queue that `which` names, whose state is `own`; `u` is its random number.
 pub fn arrival(
     which: Which,
@@ -169,43 +225,18 @@ pub fn arrival(
             store,
             state: own,
         },
-        Accepted::Yes => {
-            let decided = decide(seen, own, other, size, ecn, u);
-            let v = decided.verdict;
-            let accumulated = decided.accumulated;
-            let place = store.free_place();
-            let state = arrived(own, clock, size, place, v, accumulated);
-            let admits = v.admits();
-            if !admits {
-                return Arrived {
-                    answer: ArrivalAnswer::Decided(v),
-                    store,
-                    state,
-                };
-            }
-            let lost = leads_nowhere(sizes, store.freed, store.spare, shared.slots);
-            if lost {
-                return Arrived {
-                    answer: ArrivalAnswer::Refused(Refusal::Head),
-                    store,
-                    state: own,
-                };
-            }
-            let next = store.put(sizes);
-            write_packet(
-                handles,
-                sizes,
-                own.ends,
-                own.backlog.count,
-                place,
-                handle,
-                size.0 as u32,
-            );
-            Arrived {
-                answer: ArrivalAnswer::Decided(v),
-                store: next,
-                state,
-            }
-        }
+        Accepted::Yes => receive(
+            which,
+            shared,
+            own,
+            other,
+            handles,
+            sizes,
+            clock,
+            handle,
+            size,
+            ecn,
+            u,
+        ),
     }
 }

@@ -1,0 +1,2 @@
+-- What inner functions ask for.
+pub mod BeforeVerdict
