@@ -1,6 +1,5 @@
 // A line answered by its command.
 use crate::Answered;
-use crate::Called;
 use crate::Held;
 use crate::Packet;
 use crate::calling::arrival_line;
@@ -11,6 +10,7 @@ use crate::record::settings;
 use answers::put_bad;
 use fq_command::Command;
 use fq_command::Line;
+ghost use mathlib.Core.Path.{_≡_};
 ghost use Prim.Native.Nat.{_+_, _≤_};
 ghost use lib.ListN.{length};
 ghost use Rattle.answers.specs.Output.{badText};
@@ -50,14 +50,14 @@ fn bad_line(line: u64, held: Held, out: &mut [u8], at: usize) -> Answered
     }
 }
 
-fn good_line(called: Called) -> Answered
-    ensures { λ r. ⌜ r .end ≤ called .end ⌝ }
+fn packet_of(handle: u32, size: u32, ecn: bool, u: u32) -> Packet
+    ensures { λ r. ⌜ r ≡ record { handle = handle; size = size; ecn = ecn; u = u } ⌝ }
 {
-    let held = called.held;
-    Answered {
-        bad: false,
-        held,
-        end: called.end,
+    Packet {
+        handle,
+        size,
+        ecn,
+        u,
     }
 }
 
@@ -89,7 +89,7 @@ pub fn answer(
             salt,
         } => {
             let made = settings(target, buffer, slots, salt);
-            good_line(configure_line(made, order, deficits, flows, out, at))
+            configure_line(made, order, deficits, flows, out, at)
         }
         Command::Arrival {
             clock,
@@ -97,44 +97,22 @@ pub fn answer(
             size,
             ecn,
             u,
-        } => {
-            let packet = Packet {
-                handle,
-                size,
-                ecn,
-                u,
-            };
-            let called = arrival_line(
-                held,
-                order,
-                deficits,
-                flows,
-                clock,
-                key,
-                packet,
-                handles,
-                sizes,
-                out,
-                at,
-            );
-            good_line(called)
-        }
+        } => arrival_line(
+            held,
+            order,
+            deficits,
+            flows,
+            clock,
+            key,
+            packet_of(handle, size, ecn, u),
+            handles,
+            sizes,
+            out,
+            at,
+        ),
         Command::Departure { clock } => {
-            let called = departure_line(
-                held,
-                order,
-                deficits,
-                flows,
-                clock,
-                handles,
-                sizes,
-                out,
-                at,
-            );
-            good_line(called)
+            departure_line(held, order, deficits, flows, clock, handles, sizes, out, at)
         }
-        Command::Tick { clock } => {
-            good_line(tick_line(held, order, deficits, flows, clock, out, at))
-        }
+        Command::Tick { clock } => tick_line(held, order, deficits, flows, clock, out, at),
     }
 }

@@ -1,5 +1,5 @@
 // The four calls: what a call returns is held and written.
-use crate::Called;
+use crate::Answered;
 use crate::Held;
 use crate::Packet;
 use crate::record::flow_number;
@@ -26,7 +26,7 @@ pub(crate) fn configure_line(
     flows: &mut [u64; 768],
     out: &mut [u8],
     at: usize,
-) -> Called
+) -> Answered
     requires { ⌜ at + 128 ≤ length (now out) ⌝ }
     ensures { λ r. ⌜ r .end ≤ at + 128 ⌝ }
 {
@@ -34,7 +34,8 @@ pub(crate) fn configure_line(
     let end = put_made(done, flows, out, at);
     let common = done.common;
     let lists = done.lists;
-    Called {
+    Answered {
+        bad: false,
         held: Held { common, lists },
         end,
     }
@@ -52,7 +53,7 @@ pub(crate) fn arrival_line(
     sizes: &mut [u32],
     out: &mut [u8],
     at: usize,
-) -> Called
+) -> Answered
     requires { ⌜ at + 128 ≤ length (now out) ⌝ }
     ensures { λ r. ⌜ r .end ≤ at + 128 ⌝ }
 {
@@ -79,7 +80,8 @@ pub(crate) fn arrival_line(
     let end = put_arrived(done, flow, flows, out, at);
     let common = done.common;
     let lists = done.lists;
-    Called {
+    Answered {
+        bad: false,
         held: Held { common, lists },
         end,
     }
@@ -95,7 +97,7 @@ pub(crate) fn departure_line(
     sizes: &mut [u32],
     out: &mut [u8],
     at: usize,
-) -> Called
+) -> Answered
     requires { ⌜ at + 128 ≤ length (now out) ⌝ }
     ensures { λ r. ⌜ r .end ≤ at + 128 ⌝ }
 {
@@ -116,7 +118,8 @@ pub(crate) fn departure_line(
     let end = put_departed(done, flows, out, at);
     let common = done.common;
     let lists = done.lists;
-    Called {
+    Answered {
+        bad: false,
         held: Held { common, lists },
         end,
     }
@@ -130,7 +133,7 @@ pub(crate) fn tick_line(
     clock: u64,
     out: &mut [u8],
     at: usize,
-) -> Called
+) -> Answered
     requires { ⌜ at + 128 ≤ length (now out) ⌝ }
     ensures { λ r. ⌜ r .end ≤ at + 128 ⌝ }
 {
@@ -138,7 +141,8 @@ pub(crate) fn tick_line(
     let done = tick(held.common, lists, order, deficits, flows, Micros(clock));
     let end = put_ticked(done, flows, out, at);
     let common = done.common;
-    Called {
+    Answered {
+        bad: false,
         held: Held { common, lists },
         end,
     }

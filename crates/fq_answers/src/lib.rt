@@ -24,13 +24,7 @@ pub struct Packet {
     pub u: u32,
 }
 
-// What is held after a line, and where its output ends.
-pub struct Called {
-    pub held: Held,
-    pub end: usize,
-}
-
-// The same, and whether the line was bad, which ends the run.
+// Whether a line was bad, which ends the run, what is held after it, and where its output ends.
 pub struct Answered {
     pub bad: bool,
     pub held: Held,
