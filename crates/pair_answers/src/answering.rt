@@ -1,6 +1,5 @@
 // A line answered by its command.
 use crate::Answered;
-use crate::Called;
 use crate::Packet;
 use crate::calling::arrival_line;
 use crate::calling::configure_line;
@@ -49,17 +48,6 @@ fn bad_line(line: u64, queues: Pair, out: &mut [u8], at: usize) -> Answered
     }
 }
 
-fn good_line(called: Called) -> Answered
-    ensures { λ r. ⌜ r .end ≤ called .end ⌝ }
-{
-    let queues = called.queues;
-    Answered {
-        bad: false,
-        queues,
-        end: called.end,
-    }
-}
-
 // Answers the line of this number, and writes its output at `at`.
 pub fn answer(
     line: u64,
@@ -87,7 +75,7 @@ pub fn answer(
         } => {
             let intercom = setup(target0, buffer0, reserve0);
             let passengers = setup(target1, buffer1, reserve1);
-            good_line(configure_line(slots, intercom, passengers, out, at))
+            configure_line(slots, intercom, passengers, out, at)
         }
         Command::Arrival {
             passengers,
@@ -103,15 +91,11 @@ pub fn answer(
                 ecn,
                 u,
             };
-            let called = arrival_line(queues, passengers, clock, packet, handles, sizes, out, at);
-            good_line(called)
+            arrival_line(queues, passengers, clock, packet, handles, sizes, out, at)
         }
         Command::Departure { passengers, clock } => {
-            let called = departure_line(queues, passengers, clock, handles, sizes, out, at);
-            good_line(called)
+            departure_line(queues, passengers, clock, handles, sizes, out, at)
         }
-        Command::Tick { passengers, clock } => {
-            good_line(tick_line(queues, passengers, clock, out, at))
-        }
+        Command::Tick { passengers, clock } => tick_line(queues, passengers, clock, out, at),
     }
 }

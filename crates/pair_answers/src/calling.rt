@@ -1,5 +1,5 @@
 // The four calls: what a call returns is kept in the queues and written.
-use crate::Called;
+use crate::Answered;
 use crate::Packet;
 use crate::queues::other;
 use crate::queues::own;
@@ -27,14 +27,18 @@ pub(crate) fn configure_line(
     passengers: Setup,
     out: &mut [u8],
     at: usize,
-) -> Called
+) -> Answered
     requires { ⌜ at + 128 ≤ length (now out) ⌝ }
     ensures { λ r. ⌜ r .end ≤ at + 128 ⌝ }
 {
     let done = fresh(slots, intercom, passengers);
     let end = put_made(done, out, at);
     let queues = done.pair;
-    Called { queues, end }
+    Answered {
+        bad: false,
+        queues,
+        end,
+    }
 }
 
 pub(crate) fn arrival_line(
@@ -46,7 +50,7 @@ pub(crate) fn arrival_line(
     sizes: &mut [u32],
     out: &mut [u8],
     at: usize,
-) -> Called
+) -> Answered
     requires { ⌜ at + 128 ≤ length (now out) ⌝ }
     ensures { λ r. ⌜ r .end ≤ at + 128 ⌝ }
 {
@@ -67,7 +71,8 @@ pub(crate) fn arrival_line(
         packet.u,
     );
     let end = put_arrived(done, out, at);
-    Called {
+    Answered {
+        bad: false,
         queues: with(queues, passengers, done.store, done.state),
         end,
     }
@@ -81,7 +86,7 @@ pub(crate) fn departure_line(
     sizes: &mut [u32],
     out: &mut [u8],
     at: usize,
-) -> Called
+) -> Answered
     requires { ⌜ at + 128 ≤ length (now out) ⌝ }
     ensures { λ r. ⌜ r .end ≤ at + 128 ⌝ }
 {
@@ -98,7 +103,8 @@ pub(crate) fn departure_line(
         Micros(clock),
     );
     let end = put_departed(done, out, at);
-    Called {
+    Answered {
+        bad: false,
         queues: with(queues, passengers, done.store, done.state),
         end,
     }
@@ -110,7 +116,7 @@ pub(crate) fn tick_line(
     clock: u64,
     out: &mut [u8],
     at: usize,
-) -> Called
+) -> Answered
     requires { ⌜ at + 128 ≤ length (now out) ⌝ }
     ensures { λ r. ⌜ r .end ≤ at + 128 ⌝ }
 {
@@ -123,7 +129,8 @@ pub(crate) fn tick_line(
         Micros(clock),
     );
     let end = put_ticked(done, out, at);
-    Called {
+    Answered {
+        bad: false,
         queues: with(queues, passengers, shared.store, done.state),
         end,
     }

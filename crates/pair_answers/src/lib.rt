@@ -17,13 +17,7 @@ pub struct Packet {
     pub u: u32,
 }
 
-// The queues after a line, and where its output ends.
-pub struct Called {
-    pub queues: Pair,
-    pub end: usize,
-}
-
-// The same, and whether the line was bad, which ends the run.
+// Whether a line was bad, which ends the run, the queues after it, and where its output ends.
 pub struct Answered {
     pub bad: bool,
     pub queues: Pair,
