@@ -46,6 +46,25 @@ fn next(line: u64) -> u64 {
     line
 }
 
+fn fed_of(over: bool, line: u64, reader: Reader, queues: Pair, taken: usize, written: usize) -> Fed
+    ensures { λ r. ⌜ r ≡ record {
+      runner = record { over = over; line = line; reader = reader; queues = queues };
+      taken = taken;
+      written = written;
+    } ⌝ }
+{
+    Fed {
+        runner: Runner {
+            over,
+            line,
+            reader,
+            queues,
+        },
+        taken,
+        written,
+    }
+}
+
 // Takes input until it is used up, the run has ended or the output has no room for another line.
 // A turn takes a line, or the rest of the input where that holds no newline.
 pub fn feed(
@@ -65,16 +84,7 @@ pub fn feed(
     let mut written = 0;
     while taken < input.len() {
         if over | (output.len() - written < 128) {
-            return Fed {
-                runner: Runner {
-                    over,
-                    line,
-                    reader,
-                    queues,
-                },
-                taken,
-                written,
-            };
+            return fed_of(over, line, reader, queues, taken, written);
         }
         let scanned = scan(reader, input, taken);
         reader = scanned.reader;
@@ -90,16 +100,7 @@ pub fn feed(
             written = answered.end;
         }
     }
-    Fed {
-        runner: Runner {
-            over,
-            line,
-            reader,
-            queues,
-        },
-        taken,
-        written,
-    }
+    fed_of(over, line, reader, queues, taken, written)
 }
 
 // The end of the input: a last line that lacks its newline is answered, given room for its output.

@@ -1,6 +1,6 @@
 -- `feed`: lengths stay, and what is taken and written stays within them.
-use mathlib.Core.Path.{_≡_, refl, sym, _∙_}
-use Prim.Native.Nat.{_+_, _-_, _<_, _≤_}
+use mathlib.Core.Path.{_≡_, refl, _∙_}
+use Prim.Native.Nat.{_-_, _≤_}
 use native.Mathlib.Omega.{arith}
 use lib.ListN.{drop, length, length-drop}
 use Rattle.lines.proofs.LineEnds.{line-within}
@@ -26,17 +26,21 @@ loop-holds c = (refl, refl, refl, omega arith, omega arith)
 sub-if1 : tie.Need-sub-if1 Inv-loop μ-loop
 sub-if1 c = omega (arith, c .before .loop .inv .4)
 
+fed-of-requires : tie.Need-fed-of-requires Inv-loop μ-loop
+fed-of-requires c κs = tt
+
 same-length : tie.Need-same-length Inv-loop μ-loop
-same-length c = c .before .before .loop .inv .0
+same-length c = c .before .before .before .loop .inv .0
 
 same-length-2 : tie.Need-same-length-2 Inv-loop μ-loop
-same-length-2 c = c .before .before .loop .inv .1
+same-length-2 c = c .before .before .before .loop .inv .1
 
 same-length-3 : tie.Need-same-length-3 Inv-loop μ-loop
-same-length-3 c = c .before .before .loop .inv .2
+same-length-3 c = c .before .before .before .loop .inv .2
 
 returns : tie.Need-returns Inv-loop μ-loop
-returns c = (c .before .before .loop .inv .3, c .before .before .loop .inv .4)
+returns c =
+    let l = c .before .before .before .loop in rw (c .fed-of .ensures) (l .inv .3, l .inv .4)
 
 scan-requires : tie.Need-scan-requires Inv-loop μ-loop
 scan-requires c κs = c .before .before .loop .inv .3
@@ -45,7 +49,9 @@ finish-requires : tie.Need-finish-requires Inv-loop μ-loop
 finish-requires c κs = tt
 
 answer-requires : tie.Need-answer-requires Inv-loop μ-loop
-answer-requires c κs = room-left (c .before .before .before .before .before .before .before .before .before .loop .over) (length (c .before .before .before .before .before .before .before .before .before .loop .output)) (c .before .before .before .before .before .before .before .before .before .loop .written) (c .before .before .before .before .before .before .before .if1 .left) (c .before .before .before .before .before .before .before .before .before .loop .inv .4)
+answer-requires c κs =
+    let e = c .before .before .before .before .before .before .before in
+    let l = e .before .before .loop in room-left (l .over) (length (l .output)) (l .written) (e .if1 .left) (l .inv .4)
 
 next-requires : tie.Need-next-requires Inv-loop μ-loop
 next-requires c κs = tt
@@ -54,21 +60,28 @@ begin-requires : tie.Need-begin-requires Inv-loop μ-loop
 begin-requires c κs = tt
 
 add-taken : tie.Need-add-taken Inv-loop μ-loop
-add-taken c = omega (arith, c .before .before .before .before .before .before .before .before .before .before .before .before .before .before .if2 .taken, c .before .before .before .before .before .before .before .before .before .before .before .before .before .before .before .before .before .before .before .before .before .before .before .before .before .before .good .1)
+add-taken c =
+    let a = c .before .before .before .before .before .before .before .before .before in
+    let n = a .before .before .before .before .before in
+    let start = n .before .before .before .before .before .before .before .before .before .before .before .before in omega (arith, n .if2 .taken, start .good .1)
 
 loop-less : tie.Need-loop-less Inv-loop μ-loop
-loop-less c = omega (arith, c .before .before .before .before .before .before .before .before .before .before .before .before .before .before .before .before .scan .ensures .0, c .before .before .before .before .before .before .before .before .before .before .before .before .before .before .if2 .taken)
+loop-less c =
+    let a = c .before .before .before .before .before .before .before .before .before in
+    let n = a .before .before .before .before .before in omega (arith, n .before .before .scan .ensures .0, n .if2 .taken)
 
 loop-again : tie.Need-loop-again Inv-loop μ-loop
 loop-again c =
-    let l = c .before .before .before .before .before .before .before .before .before .before .before .before .before .before .before .before .before .before .before .loop in
-    let k = c .before .before .before .before .before .before .before .before .before .before .before .before .before .before .if2 .taken in
-    let r = c .before .before .before .before .before .before .before .before .before .answer in
-    let roomy = room-left (c .before .before .before .before .before .before .before .before .before .before .before .before .before .before .before .before .before .before .before .loop .over) (length (c .before .before .before .before .before .before .before .before .before .before .before .before .before .before .before .before .before .before .before .loop .output)) (c .before .before .before .before .before .before .before .before .before .before .before .before .before .before .before .before .before .before .before .loop .written) (c .before .before .before .before .before .before .before .before .before .before .before .before .before .before .before .before .before .if1 .left) (c .before .before .before .before .before .before .before .before .before .before .before .before .before .before .before .before .before .before .before .loop .inv .4) in (
+    let a = c .before .before .before .before .before .before .before .before .before in
+    let n = a .before .before .before .before .before in
+    let e = n .before .before .before in
+    let l = e .before .before .loop in
+    let roomy = room-left (l .over) (length (l .output)) (l .written) (e .if1 .left) (l .inv .4) in
+    let r = a .answer in (
       r .kept .1 .1 .1 .0 ∙ l .inv .0,
       r .kept .1 .1 .1 .1 .0 ∙ l .inv .1,
       r .kept .1 .1 .1 .1 .1 .0 ∙ l .inv .2,
-      omega (arith, k),
+      omega (arith, n .if2 .taken),
       omega (arith, roomy, r .ensures, r .kept .1 .1 .1 .1 .1 .0),
     )
 
@@ -77,23 +90,29 @@ loop-less-2 c = omega (arith, c .if2 .left, c .before .before .before .before .l
 
 loop-again-2 : tie.Need-loop-again-2 Inv-loop μ-loop
 loop-again-2 c =
-    let l = c .before .before .before .before .before .loop in
-    let input = c .before .before .before .before .before .before .before .before .before .before .before .before .args .input .now in
+    let s = c .before .before in
+    let t = s .before .before in
+    let l = t .before .loop in
+    let input = t .before .before .before .before .before .before .before .before .args .input .now in
     let w = line-within (drop (l .taken) input) in
     let d = length-drop (l .taken) input in
-    (l .inv .0, l .inv .1, l .inv .2, omega (arith, c .before .before .scan .ensures .0, c .before .before .before .before .loop-test .taken, w, d), l .inv .4)
+    (l .inv .0, l .inv .1, l .inv .2, omega (arith, s .scan .ensures .0, t .loop-test .taken, w, d), l .inv .4)
+
+fed-of-requires-2 : tie.Need-fed-of-requires-2 Inv-loop μ-loop
+fed-of-requires-2 c κs = tt
 
 same-length-4 : tie.Need-same-length-4 Inv-loop μ-loop
-same-length-4 c = c .before .loop .inv .0
+same-length-4 c = c .before .before .loop .inv .0
 
 same-length-5 : tie.Need-same-length-5 Inv-loop μ-loop
-same-length-5 c = c .before .loop .inv .1
+same-length-5 c = c .before .before .loop .inv .1
 
 same-length-6 : tie.Need-same-length-6 Inv-loop μ-loop
-same-length-6 c = c .before .loop .inv .2
+same-length-6 c = c .before .before .loop .inv .2
 
 returns-2 : tie.Need-returns-2 Inv-loop μ-loop
-returns-2 c = (c .before .loop .inv .3, c .before .loop .inv .4)
+returns-2 c =
+    let l = c .before .before .loop in rw (c .fed-of2 .ensures) (l .inv .3, l .inv .4)
 
 pub feed-spec : {M : Type 1} → statement M
 feed-spec =
@@ -103,6 +122,7 @@ feed-spec =
     μ-loop
     loop-holds
     sub-if1
+    fed-of-requires
     same-length
     same-length-2
     same-length-3
@@ -117,6 +137,7 @@ feed-spec =
     loop-again
     loop-less-2
     loop-again-2
+    fed-of-requires-2
     same-length-4
     same-length-5
     same-length-6
