@@ -239,45 +239,72 @@ uint32_t plain_fq_arrival(struct plain_fq *fq, uint32_t *handles, size_t handles
     return arrive(fq, &marks, handles, sizes, clock, key, handle, size, ecn, u, false);
 }
 
-/* The lists and deficits while a flow is chosen: they go back only where the departure is accepted. */
-struct schedule {
+/* What choosing a flow changes: it comes back where the departure is refused by 9. The arrays are
+ * copied only where one of them is to be written. */
+struct kept {
     uint64_t first;
     uint64_t old;
     uint64_t listed;
+    bool copied;
     uint64_t order[FLOWS];
     uint32_t deficits[FLOWS];
 };
 
-/* One move of the flow at the head, which has a negative deficit or no packet. */
-static inline void move(struct schedule *s, uint64_t flow)
+static inline void copy(struct kept *k, const struct plain_fq *q)
 {
-    bool negative = s->deficits[flow] < ZERO;
-    if (negative)
-        s->deficits[flow] += QUANTUM;
-    if (s->old < s->listed) { /* the new list's head becomes the old list's last */
-        s->old++;
+    k->copied = true;
+    memcpy(k->order, q->order, sizeof k->order);
+    memcpy(k->deficits, q->deficits, sizeof k->deficits);
+}
+
+static inline void put_back(struct plain_fq *q, const struct kept *k)
+{
+    q->first = k->first;
+    q->old = k->old;
+    q->listed = k->listed;
+    if (k->copied) {
+        memcpy(q->order, k->order, sizeof k->order);
+        memcpy(q->deficits, k->deficits, sizeof k->deficits);
+    }
+}
+
+/* One move of the flow at the head, which has a negative deficit or no packet. */
+static inline void move(struct plain_fq *q, uint64_t flow, struct kept *k)
+{
+    bool negative = q->deficits[flow] < ZERO;
+    if (negative) {
+        if (!k->copied)
+            copy(k, q);
+        q->deficits[flow] += QUANTUM;
+    }
+    if (q->old < q->listed) { /* the new list's head becomes the old list's last */
+        q->old++;
         return;
     }
     if (negative) {
-        s->order[(s->first + s->listed) % FLOWS] = flow;
+        q->order[(q->first + q->listed) % FLOWS] = flow;
     } else {
-        s->old--;
-        s->listed--;
+        q->old--;
+        q->listed--;
     }
-    s->first = (s->first + 1) % FLOWS;
+    q->first = (q->first + 1) % FLOWS;
 }
 
 /* The flow that is served next. Some flow holds a packet, and each that does is listed. */
-static uint64_t choose(struct schedule *s, const struct plain_flow *flows)
+static inline uint64_t choose(struct plain_fq *q, struct kept *k)
 {
+    k->first = q->first;
+    k->old = q->old;
+    k->listed = q->listed;
+    k->copied = false;
     for (uint32_t look = 0; look < LOOKS; look++) {
-        if (s->listed == 0)
+        if (q->listed == 0)
             break;
-        uint64_t at = s->old < s->listed ? s->first + s->old : s->first;
-        uint64_t flow = s->order[at % FLOWS];
-        if (ZERO <= s->deficits[flow] && 0 < flows[flow].count)
+        uint64_t at = q->old < q->listed ? q->first + q->old : q->first;
+        uint64_t flow = q->order[at % FLOWS];
+        if (ZERO <= q->deficits[flow] && 0 < q->flow[flow].count)
             return flow;
-        move(s, flow);
+        move(q, flow, k);
     }
     return 0;
 }
@@ -328,38 +355,38 @@ static inline void leave(struct plain_fq *q, struct plain_flow *f, uint64_t next
     q->bytes -= size;
 }
 
+/* Whether the head, of this word, can leave; `next` is the head after it. */
+static inline bool head_fits(const struct plain_fq *q, const struct plain_flow *f, uint32_t word,
+                             uint64_t *next)
+{
+    uint32_t size = word % LINK;
+    if (size == 0 || f->bytes < size)
+        return false;
+    uint64_t count = f->count - 1, bytes = f->bytes - size;
+    *next = count == 0 ? f->head : word / LINK;
+    return count <= bytes && bytes <= LARGEST * count && *next < q->slots;
+}
+
 /* A departure of a well-formed record with tables that fit; the packet is {0, 0, 0} before. */
 static inline uint32_t depart(struct plain_fq *q, const uint32_t *handles, uint32_t *sizes,
                               uint64_t clock, struct plain_flow_packet *packet)
 {
-    struct schedule s;
+    struct kept before;
     if (clock < q->clock || LIMIT < clock)
         return PLAIN_REFUSED_CLOCK; /* 4 */
     if (q->count == 0)
         return PLAIN_REFUSED_EMPTY; /* 6 */
 
-    s.first = q->first;
-    s.old = q->old;
-    s.listed = q->listed;
-    memcpy(s.order, q->order, sizeof s.order);
-    memcpy(s.deficits, q->deficits, sizeof s.deficits);
-    uint64_t flow = choose(&s, q->flow);
+    uint64_t flow = choose(q, &before);
     struct plain_flow *f = &q->flow[flow];
-    uint32_t word = sizes[f->head], size = word % LINK;
-    if (size == 0 || f->bytes < size)
+    uint64_t next;
+    uint32_t size = sizes[f->head] % LINK;
+    if (!head_fits(q, f, sizes[f->head], &next)) {
+        put_back(q, &before);
         return PLAIN_REFUSED_HEAD; /* 9 */
-    uint64_t count = f->count - 1, bytes = f->bytes - size;
-    uint64_t next = count == 0 ? f->head : word / LINK;
-    if (bytes < count || LARGEST * count < bytes || q->slots <= next)
-        return PLAIN_REFUSED_HEAD; /* 9 */
-
+    }
     *packet = (struct plain_flow_packet){(uint32_t)flow, handles[f->head], size};
-    s.deficits[flow] -= size;
-    q->first = s.first;
-    q->old = s.old;
-    q->listed = s.listed;
-    memcpy(q->order, s.order, sizeof s.order);
-    memcpy(q->deficits, s.deficits, sizeof s.deficits);
+    q->deficits[flow] -= size;
     leave(q, f, next, sizes, size);
     q->clock = clock;
     measure(f, size, clock);
