@@ -1,5 +1,6 @@
 // A departure.
 use crate::Departed;
+use crate::picking::pick;
 use fq_state::Common;
 use fq_state::Flow;
 use fq_state::flow_at;
@@ -7,11 +8,8 @@ use fq_state::set_flow;
 use pie::Pie;
 use refusals::Accepted;
 use refusals::Refusal;
-use refusals::wrong_head;
 use schedule::Lists;
 use schedule::charge;
-use schedule::choose;
-use store::leads_nowhere;
 use store::size_at;
 use store::write_freed;
 use units::Bytes;
@@ -29,22 +27,6 @@ ghost use Rattle.fq_state.specs.WellFormed.{flowConditions};
 ghost use Rattle.fq_state.specs.Words.{flowsOf, stateOf};
 ghost use Rattle.fq_rules.specs.Answer.{acceptedAnswer, departed, flowIn, handleIn, sizeIn};
 ghost use Rattle.fq_rules.specs.Departure.{beforeChoosing, departedCommon, departedFlow, departedSizes, departure, headWordRefused};
-
-// Refusal 9: the word of the flow's head. A flow without a packet has none.
-fn wrong_word(f: Flow, slots: u64, sizes: &[u32]) -> bool
-    requires { ⌜ (f .head < length (now sizes)) × (f .head < 65536) × (f .count ≤ 65536) × (f .bytes ≤ largest * f .count) ⌝ }
-    ensures { λ r. ⌜ r ≡ headWordRefused slots f (now (sizes .entry)) ⌝ }
-{
-    let none = f.count == 0;
-    if none {
-        return true;
-    }
-    let wrong = wrong_head(f.backlog(), size_at(sizes, f.head) as u64);
-    if wrong {
-        return true;
-    }
-    leads_nowhere(sizes, f.head, f.count, slots)
-}
 
 // The flow after its head, of this size, has left.
 fn departed(f: Flow, common: Common, sizes: &[u32], clock: Micros, size: Bytes) -> Flow
@@ -93,7 +75,7 @@ pub fn refuse(refusal: Refusal, common: Common, lists: Lists) -> Departed
     }
 }
 
-// A flow is chosen, and its head leaves, or is refused by 9: then the lists and deficits, in which the choosing moves flows, are put back.
+// A flow is chosen, and its head leaves, or is refused by 9.
 pub fn serve(
     common: Common,
     lists: Lists,
@@ -115,18 +97,22 @@ pub fn serve(
         × (stateOf (r .common) (r .lists) (now (order .exit)) (now (deficits .exit)) (now (flows .exit)) ≡ a .state)
         × (now (sizes .exit) ≡ departedSizes s (a .answer) (now (sizes .entry)))) ⌝ }
 {
-    let listed = *order;
-    let owed = *deficits;
-    let choice = choose(order, deficits, counts, lists);
-    let flow = choice.flow;
-    let after = choice.lists;
-    let f = flow_at(flows, flow);
-    let wrong = wrong_word(f, common.settings.slots, sizes);
+    let picked = pick(
+        order,
+        deficits,
+        flows,
+        counts,
+        sizes,
+        common.settings.slots,
+        lists,
+    );
+    let flow = picked.flow;
+    let after = picked.lists;
+    let wrong = picked.wrong;
     if wrong {
-        *order = listed;
-        *deficits = owed;
         return refuse(Refusal::Head, common, lists);
     }
+    let f = flow_at(flows, flow);
     let handle = handles[f.head as usize];
     let size = size_at(sizes, f.head);
     let bytes = Bytes(size as u64);

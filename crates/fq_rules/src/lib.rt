@@ -9,6 +9,7 @@ use schedule::Lists;
 mod arriving;
 mod deciding;
 mod departing;
+mod picking;
 mod ticking;
 
 pub struct Arrived {
@@ -25,6 +26,13 @@ pub struct Departed {
     pub size: u32,
     pub common: Common,
     pub lists: Lists,
+}
+
+// The flow that is chosen, whether the word of its head is refused, and where the lists stand after the moves that led to it.
+struct Picked {
+    wrong: bool,
+    flow: usize,
+    lists: Lists,
 }
 
 pub struct Ticked {

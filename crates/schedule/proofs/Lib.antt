@@ -7,6 +7,7 @@
 --   Tallied   the test of the flows: how often each is listed
 --   Moves     what a look moves stays in range
 --   Chosen    choosing goes on after a look
+--   HeadPassed  a look that writes nothing
 pub mod Facts
 pub mod Ring
 pub mod Occurs
@@ -14,3 +15,4 @@ pub mod Flows
 pub mod Tallied
 pub mod Moves
 pub mod Chosen
+pub mod HeadPassed

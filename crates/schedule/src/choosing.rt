@@ -20,7 +20,7 @@ struct Found {
 }
 
 // Whether a deficit is below 0.
-fn is_negative(deficit: u32) -> bool
+pub(crate) fn is_negative(deficit: u32) -> bool
     ensures { λ r. ⌜ r ≡ ltb deficit zeroDeficit ⌝ }
 {
     deficit < 65_535
@@ -152,21 +152,22 @@ fn look(order: &mut [u64; 64], deficits: &mut [u32; 64], counts: &[u32; 64], lis
     look_old(order, deficits, counts, lists, flow)
 }
 
-// Looks at the heads of the lists until a flow is found, at most 2,880 times, and moves flows as it goes.
+// Looks at the heads of the lists until a flow is found, at most so many times, and moves flows as it goes.
 pub fn choose(
     order: &mut [u64; 64],
     deficits: &mut [u32; 64],
     counts: &[u32; 64],
     lists: Lists,
+    looks: usize,
 ) -> Choice
     requires { ⌜ (listsFit lists ≡ true) × (areFlows (entries (scheduleOf lists (now order) (now deficits))) ≡ true) ⌝ }
-    ensures { λ r. ⌜ (let c = spec.choose (now (counts .entry)) (scheduleOf lists (now (order .entry)) (now (deficits .entry))) in
+    ensures { λ r. ⌜ (let c = spec.chooseIn looks (now (counts .entry)) (scheduleOf lists (now (order .entry)) (now (deficits .entry))) in
         (r .flow ≡ c .flow) × (scheduleOf (r .lists) (now (order .exit)) (now (deficits .exit)) ≡ c .schedule)) ⌝ }
     ensures { λ r. ⌜ r .flow < 64 ⌝ }
 {
     let mut at = lists;
-    let mut looks: usize = 2_880;
-    while 0 < looks {
+    let mut left = looks;
+    while 0 < left {
         let found = look(order, deficits, counts, at);
         at = found.lists;
         if found.ends {
@@ -175,7 +176,7 @@ pub fn choose(
                 lists: at,
             };
         }
-        looks -= 1;
+        left -= 1;
     }
     Choice { flow: 0, lists: at }
 }

@@ -10,8 +10,8 @@ use lib.Dec.{ltb}
 use Rattle.pie.specs.Constants.{largest}
 use Rattle.pie.specs.declared.Backlog.{Backlog}
 use Rattle.refusals.specs.Tests.{headRefused}
-use Rattle.fq_rules.proofs.departing.wrong_word.Statement.{statement}
-use Rattle.fq_rules.proofs.departing.wrong_word.Tie as tie
+use Rattle.fq_rules.proofs.picking.wrong_word.Statement.{statement}
+use Rattle.fq_rules.proofs.picking.wrong_word.Tie as tie
 
 nothing-fits : (b : Backlog) (size : ℕ) → b .count ≡ 0 → b .bytes .0 ≤ largest * b .count → headRefused b size ≡ true
 unfolding headRefused
