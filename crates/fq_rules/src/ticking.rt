@@ -3,6 +3,7 @@ use fq_state::Common;
 use fq_state::Flow;
 use fq_state::flow_at;
 use fq_state::set_flow;
+use pie::FULL_ALLOWANCE;
 use units::Bytes;
 ghost use mathlib.Core.Path.{_≡_};
 ghost use mathlib.Core.Bool.{true};
@@ -12,11 +13,18 @@ ghost use Rattle.fq_state.specs.WellFormed.{commonConditions, flowConditions, f
 ghost use Rattle.fq_state.specs.Words.{flowsOf};
 ghost use Rattle.fq_rules.specs.Tick.{tickedFlow};
 
-// A flow after a tick.
+// A flow after a tick. One at rest, with no probability, delay or byte, only has its allowance filled: most flows are, at most ticks.
 fn tick_flow(f: Flow, common: Common) -> Flow
     requires { ⌜ (all (commonConditions common) ≡ true) × (all (flowConditions common f) ≡ true) ⌝ }
     ensures { λ r. ⌜ r ≡ tickedFlow (common .settings .target .0) f ⌝ }
 {
+    let rests = (f.prob == 0) & (f.old == 0) & (f.bytes == 0);
+    if rests {
+        return Flow {
+            allowance: FULL_ALLOWANCE,
+            ..f
+        };
+    }
     let before = f.pie();
     let settings = common.settings;
     let next = before.update(false, settings.target, Bytes(f.bytes));
