@@ -7,8 +7,8 @@ use native.Mathlib.Omega.{arith}
 use lib.Dec.{leb}
 use lib.ListN.{getD, length, length-set, set}
 use Rattle.laws.proofs.Choice.{at-cond}
-use Rattle.pie.specs.Verdicts.{raised}
-use Rattle.pie.proofs.Counts.{length-raised}
+use Rattle.pie.specs.Verdicts.{raised, total}
+use Rattle.pie.proofs.Counts.{length-raised, total-raised}
 use Rattle.schedule.specs.declared.Lists.{Lists}
 use Rattle.store.specs.Put.{linked, sizesAfterPut}
 use Rattle.store.specs.declared.Ends.{Ends}
@@ -113,6 +113,33 @@ sound-after q (departs clock) h =
 sound-after q (ticks clock) h =
     rw (holds (q .common) (q .order) (q .flows) (q .deficits) (update clock) (five-words (q .common)) h) (kept (stateIn q) (update clock) h)
 sound-after q unknown h = h
+
+-- ── a call counts at most one verdict ──
+
+accepted-total : (s : State) (c : Call) → total (acceptance s c .state .common .verdicts) ≤ total (s .common .verdicts) + 1
+unfolding arrivedCommon departedCommon
+accepted-total s (arrive handles sizes clock key handle size ecn u) = total-raised (s .common .verdicts) _
+accepted-total s (depart handles sizes clock) = omega arith
+accepted-total s (update clock) = omega arith
+
+reply-total : (s : State) (c : Call) → total (reply s c .state .common .verdicts) ≤ total (s .common .verdicts) + 1
+reply-total s c =
+    by-number (λ (r : Reply). total (r .state .common .verdicts) ≤ total (s .common .verdicts) + 1) s c
+    (λ n some given. omega arith)
+    (λ none. accepted-total s c)
+
+left-total : (q : Lent) (c : Call) → Sound (stateIn q) →
+    let r = reply (stateIn q) c in total (commonOf (commonAfter r (q .common)) .verdicts) ≤ total (commonOf (q .common) .verdicts) + 1
+left-total q c h =
+    let back = holds (q .common) (q .order) (q .flows) (q .deficits) c (five-words (q .common)) h in
+    rw (ap (λ (s : State). s .common .verdicts) back) (reply-total (stateIn q) c)
+
+pub total-after : (q : Lent) (c : Asked) → Sound (stateIn q) →
+    total (commonOf (after q c .common) .verdicts) ≤ total (commonOf (q .common) .verdicts) + 1
+total-after q (arrives clock key handle size ecn u) h = left-total q (arrive (q .handles) (q .sizes) clock key handle size ecn u) h
+total-after q (departs clock) h = left-total q (depart (q .handles) (q .sizes) clock) h
+total-after q (ticks clock) h = left-total q (update clock) h
+total-after q unknown h = omega arith
 
 -- ── the tables keep their lengths ──
 

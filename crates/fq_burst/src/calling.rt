@@ -17,6 +17,9 @@ use units::Bytes;
 use units::Micros;
 ghost use mathlib.Core.Path.{_≡_};
 ghost use mathlib.Core.Bool.{true};
+ghost use Prim.Native.Nat.{_<_};
+ghost use Rattle.pie.specs.Constants.{mostVerdicts};
+ghost use Rattle.pie.specs.Verdicts.{total};
 ghost use Rattle.fq_state.specs.State.{countsOf};
 ghost use Rattle.fq_state.specs.WellFormed.{wellFormed};
 ghost use Rattle.fq_state.specs.Words.{flowsOf, stateOf};
@@ -25,7 +28,7 @@ ghost use Rattle.fq_rules.specs.Arrival.{arrival, arrivedHandles, arrivedSizes}
 ghost use Rattle.fq_rules.specs.Departure.{departedSizes, departure};
 ghost use Rattle.fq_rules.specs.Tick.{tick};
 
-// A packet with this key, of `size` bytes, arrives; `u` is its random number.
+// A packet with this key, of `size` bytes, arrives; `u` is its random number. Where `room`, the counts are not full.
 pub(crate) fn arrival_of(
     common: Common,
     lists: Lists,
@@ -40,8 +43,10 @@ pub(crate) fn arrival_of(
     size: Bytes,
     ecn: bool,
     u: u32,
+    room: bool,
 ) -> Arrived
     requires { ⌜ wellFormed (stateOf common lists (now order) (now deficits) (now flows)) ≡ true ⌝ }
+    requires { ⌜ ((room ≡ true) → (total (common .verdicts) < mostVerdicts)) ⌝ }
     ensures { λ r. ⌜ (let s = stateOf common lists (now (order .entry)) (now (deficits .entry)) (now (flows .entry)) in
         let a = arrival s (now (handles .entry)) (now (sizes .entry)) (clock .0) (now (key .entry)) (size .0) ecn u in
         (arrivalAnswer (r .answer) ≡ a .answer)
@@ -55,6 +60,7 @@ pub(crate) fn arrival_of(
         sizes.len() as u64,
         clock,
         size,
+        room,
     );
     match checked {
         Accepted::No(refusal) => Arrived {

@@ -2,6 +2,7 @@
 use fq_state::Common;
 use pie::LARGEST;
 use pie::LATEST;
+use pie::MOST_VERDICTS;
 use pie::PERIOD;
 use refusals::Accepted;
 use refusals::Refusal;
@@ -10,6 +11,10 @@ use units::Bytes;
 use units::Micros;
 ghost use mathlib.Core.Path.{_≡_};
 ghost use mathlib.Core.Bool.{true};
+ghost use Prim.Native.Nat.{_+_, _≤_, _<_};
+ghost use lib.Dec.{eqb};
+ghost use Rattle.pie.specs.Constants.{mostVerdicts};
+ghost use Rattle.pie.specs.Verdicts.{total};
 ghost use Rattle.refusals.specs.Numbers.{refusalIn};
 ghost use Rattle.refusals.specs.Rows.{firstRefusal};
 ghost use Rattle.fq_state.specs.State.{State};
@@ -19,15 +24,42 @@ ghost use Rattle.fq_rules.specs.Arrival.{beforeVerdict};
 ghost use Rattle.fq_rules.specs.Tick.{tickRefusal};
 ghost use Rattle.laws.specs.Tests.{all};
 
-// Refusals 3, 4, 7 and 8 of an arrival.
+// Whether the counts, which sum to at most 2^48, have room for `n` arrivals.
+pub(crate) fn has_room(counts: [u64; 5], n: u64) -> bool
+    requires { ⌜ total counts ≤ mostVerdicts ⌝ }
+    ensures { λ r. ⌜ ((r ≡ true) → (total counts + n ≤ mostVerdicts)) ⌝ }
+{
+    let a = counts[0];
+    let b = counts[1];
+    let c = counts[2];
+    let d = counts[3];
+    let e = counts[4];
+    n <= MOST_VERDICTS - a - b - c - d - e
+}
+
+// Refusal 8, which is not due where there is known to be room.
+fn are_full(counts: [u64; 5], room: bool) -> bool
+    requires { ⌜ total counts ≤ mostVerdicts ⌝ }
+    requires { ⌜ ((room ≡ true) → (total counts < mostVerdicts)) ⌝ }
+    ensures { λ r. ⌜ r ≡ eqb (total counts) mostVerdicts ⌝ }
+{
+    if room {
+        return false;
+    }
+    counts_full(counts)
+}
+
+// Refusals 3, 4, 7 and 8 of an arrival. Where `room`, the counts are not full.
 pub(crate) fn check_arrival(
     common: Common,
     handles: u64,
     sizes: u64,
     clock: Micros,
     size: Bytes,
+    room: bool,
 ) -> Accepted
     requires { ⌜ all (commonConditions common) ≡ true ⌝ }
+    requires { ⌜ ((room ≡ true) → (total (common .verdicts) < mostVerdicts)) ⌝ }
     ensures { λ r. ⌜ ((s : State) → s .common ≡ common → wellFormed s ≡ true →
         refusalIn r ≡ firstRefusal (beforeVerdict s handles sizes (clock .0) (size .0))) ⌝ }
 {
@@ -45,7 +77,7 @@ pub(crate) fn check_arrival(
         return Accepted::No(Refusal::Size);
     }
     let verdicts = common.verdicts;
-    let full = counts_full(verdicts);
+    let full = are_full(verdicts, room);
     if full {
         return Accepted::No(Refusal::Counts);
     }

@@ -17,15 +17,18 @@ use units::Bytes;
 use units::Micros;
 use words::refused;
 ghost use mathlib.Core.Path.{_≡_};
+ghost use mathlib.Core.Bool.{true};
 ghost use Prim.Native.Nat.{_≤_, _<_};
 ghost use lib.ListN.{set};
+ghost use Rattle.pie.specs.Constants.{mostVerdicts};
+ghost use Rattle.pie.specs.Verdicts.{total};
 ghost use Rattle.fq_state.specs.State.{countsOf, flowAt};
 ghost use Rattle.fq_state.specs.Words.{flowsOf};
 ghost use Rattle.fq_rules.specs.Arrival.{arrival, arrivedHandles, arrivedSizes};
 ghost use Rattle.fq_rules.specs.Departure.{departedSizes, departure};
 ghost use Rattle.fq_rules.specs.Tick.{tick};
 ghost use Rattle.fq_capi.specs.Codes.{codeOf, commonAfter, deficitsAfter, flowsAfter, orderAfter, packetOf};
-ghost use Rattle.fq_capi.specs.Words.{lent};
+ghost use Rattle.fq_capi.specs.Words.{commonOf, lent};
 ghost use Rattle.fq_guarantees.specs.Kept.{Sound};
 
 // Notes the count of one flow anew.
@@ -37,6 +40,7 @@ fn note(flows: &[u64; 768], counts: &mut [u32; 64], flow: usize)
     counts[flow] = f.count as u32;
 }
 
+// Where `room`, the counts of the verdicts are not full.
 pub(crate) fn arrive(
     common: &mut [u64; 19],
     order: &mut [u64; 64],
@@ -51,9 +55,11 @@ pub(crate) fn arrive(
     size: u32,
     ecn: bool,
     u: u32,
+    room: bool,
 ) -> u32
     requires { ⌜ Sound (lent (now common) (now order) (now deficits) (now flows)) ⌝ }
     requires { ⌜ now counts ≡ countsOf (flowsOf (now flows)) ⌝ }
+    requires { ⌜ ((room ≡ true) → (total (commonOf (now common) .verdicts) < mostVerdicts)) ⌝ }
     ensures { λ r. ⌜ (let s = lent (now (common .entry)) (now (order .entry)) (now (deficits .entry)) (now (flows .entry)) in
         let a = arrival s (now (handles .entry)) (now (sizes .entry)) clock (now (key .entry)) size ecn u in
         (r ≡ codeOf (a .answer))
@@ -83,6 +89,7 @@ pub(crate) fn arrive(
         Bytes(size as u64),
         ecn,
         u,
+        room,
     );
     sized(*flows);
     note(flows, counts, flow);

@@ -1,4 +1,5 @@
 // One entry for a list of calls on 64 flows: the record is tested once, and each call is answered as the single entries would.
+use crate::checking::has_room;
 use crate::entering::arrive;
 use crate::entering::depart;
 use crate::entering::update;
@@ -11,14 +12,16 @@ use fq_capi::decode;
 use fq_capi::decode_lists;
 use fq_state::fits;
 ghost use mathlib.Core.Path.{_≡_};
-ghost use mathlib.Core.Bool.{cond, false};
-ghost use Prim.Native.Nat.{_+_, _*_, _<_};
+ghost use mathlib.Core.Bool.{cond, false, true};
+ghost use Prim.Native.Nat.{_+_, _*_, _≤_, _<_};
 ghost use lib.ListN.{length};
 ghost use Rattle.bursts.specs.Burst.{burst, done, fits, outcome};
+ghost use Rattle.pie.specs.Constants.{mostVerdicts};
+ghost use Rattle.pie.specs.Verdicts.{total};
 ghost use Rattle.fq_state.specs.State.{countsOf};
 ghost use Rattle.fq_state.specs.WellFormed.{wellFormed};
 ghost use Rattle.fq_state.specs.Words.{flowsOf};
-ghost use Rattle.fq_capi.specs.Words.{lent};
+ghost use Rattle.fq_capi.specs.Words.{commonOf, lent};
 ghost use Rattle.fq_guarantees.specs.Kept.{Sound};
 ghost use Rattle.fq_burst.specs.Calls.{askedAt};
 ghost use Rattle.fq_burst.specs.Burst.{Lent, after, answerTo, answerWord, fqBursts, held, stateIn};
@@ -29,7 +32,7 @@ mod entering;
 mod numbers;
 mod writing;
 
-// The call at `at`, on a well-formed record. The counts are the flows'.
+// The call at `at`, on a well-formed record. The counts are the flows'. Where `room`, those of the verdicts are not full.
 fn answered(
     common: &mut [u64; 19],
     order: &mut [u64; 64],
@@ -40,10 +43,12 @@ fn answered(
     sizes: &mut [u32],
     calls: &[u32],
     at: usize,
+    room: bool,
 ) -> u64
     requires { ⌜ Sound (lent (now common) (now order) (now deficits) (now flows)) ⌝ }
     requires { ⌜ now counts ≡ countsOf (flowsOf (now flows)) ⌝ }
     requires { ⌜ at + 9 < length (now calls) ⌝ }
+    requires { ⌜ ((room ≡ true) → (total (commonOf (now common) .verdicts) < mostVerdicts)) ⌝ }
     ensures { λ r. ⌜ (let q = held (now (common .entry)) (now (order .entry)) (now (flows .entry)) (now (deficits .entry))
         (now (handles .entry)) (now (sizes .entry)) in
         (r ≡ answerWord (answerTo q (askedAt (now (calls .entry)) at)))
@@ -72,6 +77,7 @@ fn answered(
             calls[at + 3],
             ecn,
             calls[at + 4],
+            room,
         );
         return wide(code);
     }
@@ -103,7 +109,7 @@ fn whole(order: [u64; 64], deficits: [u32; 64])
     ensures { λ _. ⌜ (length order ≡ 64) × (length deficits ≡ 64) ⌝ }
 {}
 
-// All calls, on a well-formed record. The counts are the flows'.
+// All calls, on a well-formed record. The counts are the flows'. Where `room`, those of the verdicts have room for so many arrivals.
 fn all_answered(
     common: &mut [u64; 19],
     order: &mut [u64; 64],
@@ -114,10 +120,12 @@ fn all_answered(
     sizes: &mut [u32],
     calls: &[u32],
     answers: &mut [u64],
+    room: bool,
 )
     requires { ⌜ Sound (lent (now common) (now order) (now deficits) (now flows)) ⌝ }
     requires { ⌜ now counts ≡ countsOf (flowsOf (now flows)) ⌝ }
     requires { ⌜ length (now calls) ≡ 10 * length (now answers) ⌝ }
+    requires { ⌜ ((room ≡ true) → (total (commonOf (now common) .verdicts) + length (now answers) ≤ mostVerdicts)) ⌝ }
     ensures { λ _. ⌜ done fqBursts (held (now (common .exit)) (now (order .exit)) (now (flows .exit)) (now (deficits .exit))
         (now (handles .exit)) (now (sizes .exit))) (now (answers .exit))
         ≡ burst fqBursts (held (now (common .entry)) (now (order .entry)) (now (flows .entry)) (now (deficits .entry))
@@ -135,6 +143,7 @@ fn all_answered(
             sizes,
             calls,
             10 * i,
+            room,
         );
         answers[i] = answer;
         i += 1;
@@ -187,6 +196,8 @@ pub extern "C" fn obikuteru_fq_calls_of(
         all_refused(calls, answers);
         return 0;
     }
+    let verdicts = c.verdicts;
+    let room = has_room(verdicts, n as u64);
     // A copy, which can stand in registers.
     let mut words = *common;
     all_answered(
@@ -199,6 +210,7 @@ pub extern "C" fn obikuteru_fq_calls_of(
         sizes,
         calls,
         answers,
+        room,
     );
     *common = words;
     0

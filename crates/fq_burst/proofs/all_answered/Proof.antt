@@ -1,23 +1,26 @@
--- `all_answered`: before place i the first i calls are answered, the record is sound and the counts are its flows'.
+-- `all_answered`: before place i the first i calls are answered, the record is sound, the counts are its flows', and room is as before.
 use mathlib.Core.Path.{_≡_, ap, refl, _∙_}
-use Prim.Native.Nat.{_-_, _*_, _≤_}
+use mathlib.Core.Bool.{true}
+use Prim.Native.Nat.{_+_, _-_, _*_, _≤_}
 use native.Mathlib.Omega.{arith}
 use lib.ListN.{length, length-set}
 use denote.Ref.{now}
 use Rattle.bursts.specs.Burst.{burst, done}
 use Rattle.bursts.proofs.Steps.{one-more}
+use Rattle.pie.specs.Constants.{mostVerdicts}
+use Rattle.pie.specs.Verdicts.{total}
 use Rattle.fq_state.specs.State.{countsOf}
 use Rattle.fq_state.specs.Words.{flowsOf}
 use Rattle.fq_capi.specs.Words as words
 use Rattle.fq_guarantees.specs.Kept.{Sound}
 use Rattle.fq_burst.specs.Calls.{askedAt}
 use Rattle.fq_burst.specs.Burst.{Lent, fqBursts, held, stateIn}
-use Rattle.fq_burst.proofs.Left.{after-long, sound-after}
+use Rattle.fq_burst.proofs.Left.{after-long, sound-after, total-after}
 use Rattle.fq_burst.proofs.all_answered.Statement.{statement}
 use Rattle.fq_burst.proofs.all_answered.Tie as tie
 
 abbrev Inv-loop : tie.InvT-loop
-Inv-loop common₀ order₀ flows₀ deficits₀ counts₀ handles₀ sizes₀ calls answers₀ i₀ common order flows deficits counts handles sizes answers i =
+Inv-loop common₀ order₀ flows₀ deficits₀ counts₀ handles₀ sizes₀ calls answers₀ room i₀ common order flows deficits counts handles sizes answers i =
     (i ≤ length answers₀)
     × (length answers ≡ length answers₀)
     × (length handles ≡ length handles₀)
@@ -26,27 +29,37 @@ Inv-loop common₀ order₀ flows₀ deficits₀ counts₀ handles₀ sizes₀ c
     ≡ burst fqBursts (held common₀ order₀ flows₀ deficits₀ handles₀ sizes₀) calls answers₀ i)
     × Sound (words.lent common order deficits flows)
     × (counts ≡ countsOf (flowsOf flows))
+    × ((room ≡ true) → (total (words.commonOf common .verdicts) + (length answers₀ - i) ≤ mostVerdicts))
 
 abbrev μ-loop : tie.MeasureT-loop
-μ-loop common₀ order₀ flows₀ deficits₀ counts₀ handles₀ sizes₀ calls answers₀ i₀ common order flows deficits counts handles sizes answers i =
+μ-loop common₀ order₀ flows₀ deficits₀ counts₀ handles₀ sizes₀ calls answers₀ room i₀ common order flows deficits counts handles sizes answers i =
     length answers₀ - i
 
 loop-holds : tie.Need-loop-holds Inv-loop μ-loop
 unfolding burst
 loop-holds c =
-    let p = c .before .before .before .before .pre in (omega arith, refl, refl, refl, refl, p .0, p .1 .0)
+    let p = c .before .before .before .before .pre in (omega arith, refl, refl, refl, refl, p .0, p .1 .0, λ e. omega (arith, p .1 .1 .1 e))
 
 mul-answered : tie.Need-mul-answered Inv-loop μ-loop
 mul-answered c = omega (
   arith,
-  c .before .before .before .before .before .before .before .before .before .before .before .before .before .pre .1 .1,
+  c .before .before .before .before .before .before .before .before .before .before .before .before .before .pre .1 .1 .0,
 )
 
 answered-requires : tie.Need-answered-requires Inv-loop μ-loop
 answered-requires c κs =
     let t = c .before .before .before .before .before .before .before in
     let l = t .before .loop in
-    (l .inv .5, (l .inv .6, omega (arith, t .before .before .before .before .before .before .pre .1 .1, l .inv .1, t .loop-test .taken)))
+    let test = t .loop-test .taken in (
+      l .inv .5,
+      (
+        l .inv .6,
+        (
+          omega (arith, t .before .before .before .before .before .before .pre .1 .1 .0, l .inv .1, test),
+          λ e. omega (arith, l .inv .7 e, l .inv .1, test),
+        ),
+      ),
+    )
 
 mul-answers : tie.Need-mul-answers Inv-loop μ-loop
 mul-answers c = omega arith
@@ -78,6 +91,15 @@ loop-again c =
       one-more fqBursts _ calls (now (a .answers)) (l .i) given (l .answers) (k .result) _ (l .inv .4) (k .ensures .0 .0, next),
       rw (ap stateIn next) (sound-after given asked (l .inv .5)),
       k .ensures .1,
+      λ e.
+          omega (
+            arith,
+            ap (λ (q : Lent). total (words.commonOf (q .common) .verdicts)) next,
+            total-after given asked (l .inv .5),
+            l .inv .7 e,
+            l .inv .1,
+            t .loop-test .taken,
+          ),
     )
 
 same-length : tie.Need-same-length Inv-loop μ-loop

@@ -100,7 +100,11 @@ shared-slice-read-arrive-3 : tie.Need-shared-slice-read-arrive-3
 shared-slice-read-arrive-3 c = search needs
 
 arrive-requires : tie.Need-arrive-requires
-arrive-requires c κs = search needs
+arrive-requires c κs =
+    let k = c .before .before .before .before .before .before .before .before .before .before .before in
+    let f = k .before .before .before .before .before in
+    let a = f .before .before .before .before .before .before .before .before in
+    (a .pre .0, (a .pre .1 .0, a .pre .1 .1 .1))
 
 wide-requires : tie.Need-wide-requires
 wide-requires c κs = search needs

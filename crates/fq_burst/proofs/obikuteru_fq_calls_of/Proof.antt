@@ -1,6 +1,6 @@
 -- `obikuteru_fq_calls_of`: where the lengths fit, all calls, on a record that is well formed or is not.
 use borrow.Author.Needs.{needs}
-use mathlib.Core.Path.{_≡_, refl, sym, _∙_}
+use mathlib.Core.Path.{_≡_, ap, refl, sym, _∙_}
 use mathlib.Core.Bool.{true}
 use Prim.Native.Nat.{_*_}
 use lib.ListN.{length}
@@ -8,9 +8,13 @@ use denote.Ref.{now}
 use borrow.Author.Tests.{not-false, not-true}
 use Rattle.bursts.specs.Burst.{fits}
 use Rattle.bursts.proofs.Steps.{fitting}
+use native.Mathlib.Omega.{arith}
+use Rattle.pie.specs.Verdicts.{total}
 use Rattle.fq_state.specs.WellFormed.{wellFormed}
+use Rattle.fq_state.specs.declared.Common.{Common}
+use Rattle.fq_state.proofs.Facts.{common-fits, passes}
 use Rattle.fq_state.proofs.Words.{length-flows}
-use Rattle.fq_capi.specs.Words.{lent}
+use Rattle.fq_capi.specs.Words.{commonOf, lent}
 use Rattle.fq_burst.specs.Burst.{fqBursts}
 use Rattle.fq_burst.proofs.obikuteru_fq_calls_of.Statement.{statement}
 use Rattle.fq_burst.proofs.obikuteru_fq_calls_of.Tie as tie
@@ -67,21 +71,44 @@ returns-2 c =
     rw (fit (t .before .before .before .before .before .before .before .before .before .before .before .before))
     (refl, c .before .before .all-refused .ensures _ (sym (tested t) ∙ not-true _ (e .if2 .taken)))
 
+-- its counts sum to at most 2^48
+abbrev at-decode : tie.After-fits2 → tie.After-decode
+at-decode c = c .before .before .before .before .before .before .before
+
+formed : (c : tie.Else2) →
+    let a = begun (c .before) .args in wellFormed (lent (a .common .now) (a .order .now) (a .deficits .now) (a .flows .now)) ≡ true
+formed c = sym (tested (c .before)) ∙ not-false _ (c .if2 .left)
+
+counted : (c : tie.After-fits2) →
+    total (at-decode c .decode .result .verdicts) ≡ total (commonOf (begun c .args .common .now) .verdicts)
+counted c = ap (λ (k : Common). total (k .verdicts)) (at-decode c .decode .ensures)
+
+has-room-requires : tie.Need-has-room-requires
+has-room-requires c κs =
+    let e = c .before in
+    let t = e .before in
+    let a = begun t .args in
+    let s = lent (a .common .now) (a .order .now) (a .deficits .now) (a .flows .now) in
+    omega (arith, counted t, common-fits (s .common) (passes s (formed e) .common) .total-high)
+
 all-answered-requires : tie.Need-all-answered-requires
 all-answered-requires c κs =
-    let e = c .before .before .before .before .before .before .before .before .before in
+    let r = c .before .before .before .before .before .before .before .before .before in
+    let e = r .before .before in
     let t = e .before in
-    let w = t .before .before .before .before .before .before .before .before .before .whole .ensures in
-    let formed = not-false _ (e .if2 .left) in (
+    let w = t .before .before .before .before .before .before .before .before .before .whole .ensures in (
       record {
         flows-long = length-flows 64 (begun t .args .flows .now);
         order-long = w .0;
         deficits-long = w .1;
-        formed = sym (tested t) ∙ formed;
+        formed = formed e;
       },
       (
-        t .fits2 .ensures .1 formed,
-        ten (t .before .before .before .before .before .before .before .before .before .before .before .before),
+        t .fits2 .ensures .1 (not-false _ (e .if2 .left)),
+        (
+          ten (t .before .before .before .before .before .before .before .before .before .before .before .before),
+          λ h. omega (arith, counted t, r .has-room .ensures h),
+        ),
       ),
     )
 
@@ -96,7 +123,7 @@ same-length-4 c = search needs
 
 returns-3 : tie.Need-returns-3
 returns-3 c =
-    rw (fit (c .before .before .before .before .before .before .before .before .before .before .before .before .before .before .before .before .before .before .before .before .before .before .before .before .before .before .before .before .before))
+    rw (fit (c .before .before .before .before .before .before .before .before .before .before .before .before .before .before .before .before .before .before .before .before .before .before .before .before .before .before .before .before .before .before .before))
     (refl, c .before .before .before .before .before .before .all-answered .ensures)
 
 pub obikuteru-fq-calls-of-spec : {M : Type 1} → statement M
@@ -111,6 +138,7 @@ obikuteru-fq-calls-of-spec =
     all-refused-requires
     same-length
     returns-2
+    has-room-requires
     all-answered-requires
     same-length-2
     same-length-3

@@ -13,7 +13,8 @@ abbrev lent : tie.Start → State
 lent c = stateOf (c .args .common) (c .args .lists) (c .args .order .now) (c .args .deficits .now) (c .args .flows .now)
 
 check-arrival-requires : tie.Need-check-arrival-requires
-check-arrival-requires c κs = passes (lent (c .before .before)) (c .before .before .pre) .common
+check-arrival-requires c κs =
+    let s = c .before .before in (passes (lent s) (s .pre .0) .common, s .pre .1)
 
 enum-known-checked : tie.Need-enum-known-checked
 enum-known-checked c = search needs
@@ -26,13 +27,13 @@ receive-requires c κs =
     let t = c .before .before .before .before .before in
     let k = t .before .before in
     let s = k .before .before .before in
-    sym (k .check-arrival .ensures (lent s) refl (s .pre)) ∙ ap refusalIn (t .enum-told .given .1)
+    sym (k .check-arrival .ensures (lent s) refl (s .pre .0)) ∙ ap refusalIn (t .enum-told .given .1)
 
 returns : tie.Need-returns
 returns c =
     let k = c .before .before .before in
     let s = k .before .before .before in
-    arrival-refused (lent s) _ _ _ _ _ _ _ _ _ _ (k .check-arrival .ensures (lent s) refl (s .pre)) (c .before .checked .given .1)
+    arrival-refused (lent s) _ _ _ _ _ _ _ _ _ _ (k .check-arrival .ensures (lent s) refl (s .pre .0)) (c .before .checked .given .1)
 
 same-length : tie.Need-same-length
 same-length c = search needs

@@ -16,25 +16,25 @@ returns-3 c s e formed =
     let e2 = c .before .before .before in
     let e1 = e2 .before .before .before .before in rw (formed, e, e1 .if1 .left, e2 .if2 .left, c .if3 .taken)
 
-counts-full-requires : tie.Need-counts-full-requires
-counts-full-requires c κs =
+are-full-requires : tie.Need-are-full-requires
+are-full-requires c κs =
     let s = c .before .before .before .before .before .before .before .before .before in
-    common-fits (s .args .common) (s .pre) .total-high
+    (common-fits (s .args .common) (s .pre .0) .total-high, s .pre .1)
 
 returns-4 : tie.Need-returns-4
 returns-4 c s e formed =
     let e3 = c .before .before .before in
     let e2 = e3 .before .before .before in
     let e1 = e2 .before .before .before .before in
-    rw (formed, e, e1 .if1 .left, e2 .if2 .left, e3 .if3 .left, ← (c .before .counts-full .ensures), c .if4 .taken)
+    rw (formed, e, e1 .if1 .left, e2 .if2 .left, e3 .if3 .left, ← (c .before .are-full .ensures), c .if4 .taken)
 
 returns-5 : tie.Need-returns-5
 returns-5 c s e formed =
     let e3 = c .before .before .before in
     let e2 = e3 .before .before .before in
     let e1 = e2 .before .before .before .before in
-    rw (formed, e, e1 .if1 .left, e2 .if2 .left, e3 .if3 .left, ← (c .before .counts-full .ensures), c .if4 .left)
+    rw (formed, e, e1 .if1 .left, e2 .if2 .left, e3 .if3 .left, ← (c .before .are-full .ensures), c .if4 .left)
 
 pub check-arrival-spec : {M : Type 1} → statement M
 check-arrival-spec =
-    tie.close (tie.spec returns returns-2 returns-3 counts-full-requires returns-4 returns-5)
+    tie.close (tie.spec returns returns-2 returns-3 are-full-requires returns-4 returns-5)

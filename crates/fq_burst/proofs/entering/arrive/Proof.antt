@@ -48,7 +48,9 @@ cast-flow : tie.Need-cast-flow
 cast-flow c = search needs
 
 arrival-of-requires : tie.Need-arrival-of-requires
-arrival-of-requires c κs = sound (c .before .before .before .before .before .before .before) .formed
+arrival-of-requires c κs =
+    let l = c .before .before .before .before .before .before .before in
+    (sound l .formed, rw (l .before .before .decode .ensures) (l .before .before .before .before .before .before .before .before .pre .1 .1))
 
 sized-requires-2 : tie.Need-sized-requires-2
 sized-requires-2 c κs = search needs
@@ -114,7 +116,7 @@ returns c =
     not-accepted _ _ _ _ (a .common .now) (a .order .now) (a .deficits .now) (a .flows .now) _ _ _
     (z .sized2 .ensures) (e .1) _ _ (y .sized .ensures) _ given' same (c .refused .ensures) in
     let counts =
-    arrival-noted (given l) (sound l) _ _ _ _ (start .pre .1) (n .note .ensures) _ _ _ _ (a .handle) _ _ _ (f .flow-of .ensures .0)
+    arrival-noted (given l) (sound l) _ _ _ _ (start .pre .1 .0) (n .note .ensures) _ _ _ _ (a .handle) _ _ _ (f .flow-of .ensures .0)
     (ap (λ (s : State). s .flows) (e .1)) in
     rw (← (d .decode .ensures), ← (l .decode-lists .ensures))
     ((g .code-is, g .common-is, g .order-is, g .flows-are, g .deficits-are, e .2, e .3), counts)
@@ -142,7 +144,7 @@ returns-2 c =
     accepted _ _ _ _ (a .common .now) (a .order .now) (a .deficits .now) (a .flows .now) _ _ _
     (z .sized2 .ensures) (e .1) _ _ told refl (c .numbered .ensures) (w .write-arrived .ensures) in
     let counts =
-    arrival-noted (given l) (sound l) _ _ _ _ (start .pre .1) (n .note .ensures) _ _ _ _ (a .handle) _ _ _ (f .flow-of .ensures .0)
+    arrival-noted (given l) (sound l) _ _ _ _ (start .pre .1 .0) (n .note .ensures) _ _ _ _ (a .handle) _ _ _ (f .flow-of .ensures .0)
     (ap (λ (s : State). s .flows) (e .1)) in
     rw (← (d .decode .ensures), ← (l .decode-lists .ensures))
     ((g .code-is, g .common-is, g .order-is, g .flows-are, g .deficits-are, e .2, e .3), counts)
