@@ -36,8 +36,8 @@ fn wrong_word(f: Flow, slots: u64, sizes: &[u32]) -> bool
     leads_nowhere(sizes, f.head, f.count, slots)
 }
 
-// A flow is chosen, and the word of its head tested. Where it is refused, the lists and deficits, in which the choosing moves flows, are put
-// back. They are copied only once the choosing has come to a flow that it cannot move without a write.
+// A flow is chosen, and the word of its head tested: where it is refused, the lists and deficits are put back. They are copied only where
+// the choosing comes to a flow that it cannot move without a write.
 pub(crate) fn pick(
     order: &mut [u64; 64],
     deficits: &mut [u32; 64],

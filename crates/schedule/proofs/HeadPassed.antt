@@ -68,7 +68,8 @@ still-fit order l h some flows = go (ltb (l .old) (l .listed)) refl
     go true e =
         let f = facts l h in
         let low = ltb-true (l .old) (l .listed) e in
-        rw e (lists-fit (record { first = l .first; old = l .old + 1; listed = l .listed }) (f .first-lt) (omega (arith, low)) (f .listed-le), flows)
+        let next : Lists = record { first = l .first; old = l .old + 1; listed = l .listed } in
+        rw e (lists-fit next (f .first-lt) (omega (arith, low)) (f .listed-le), flows)
     go false e =
         let f = facts l h in
         rw e (

@@ -20,7 +20,8 @@ use Rattle.fq_burst.proofs.all_answered.Statement.{statement}
 use Rattle.fq_burst.proofs.all_answered.Tie as tie
 
 abbrev Inv-loop : tie.InvT-loop
-Inv-loop common₀ order₀ flows₀ deficits₀ counts₀ handles₀ sizes₀ calls answers₀ room i₀ common order flows deficits counts handles sizes answers i =
+Inv-loop common₀ order₀ flows₀ deficits₀ counts₀ handles₀ sizes₀ calls answers₀ room i₀ common order flows deficits counts
+    handles sizes answers i =
     (i ≤ length answers₀)
     × (length answers ≡ length answers₀)
     × (length handles ≡ length handles₀)
@@ -32,7 +33,8 @@ Inv-loop common₀ order₀ flows₀ deficits₀ counts₀ handles₀ sizes₀ c
     × ((room ≡ true) → (total (words.commonOf common .verdicts) + (length answers₀ - i) ≤ mostVerdicts))
 
 abbrev μ-loop : tie.MeasureT-loop
-μ-loop common₀ order₀ flows₀ deficits₀ counts₀ handles₀ sizes₀ calls answers₀ room i₀ common order flows deficits counts handles sizes answers i =
+μ-loop common₀ order₀ flows₀ deficits₀ counts₀ handles₀ sizes₀ calls answers₀ room i₀ common order flows deficits counts
+    handles sizes answers i =
     length answers₀ - i
 
 loop-holds : tie.Need-loop-holds Inv-loop μ-loop

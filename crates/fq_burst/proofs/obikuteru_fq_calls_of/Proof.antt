@@ -123,8 +123,10 @@ same-length-4 c = search needs
 
 returns-3 : tie.Need-returns-3
 returns-3 c =
-    rw (fit (c .before .before .before .before .before .before .before .before .before .before .before .before .before .before .before .before .before .before .before .before .before .before .before .before .before .before .before .before .before .before .before))
-    (refl, c .before .before .before .before .before .before .all-answered .ensures)
+    let w = c .before .before .before .before .before .before in
+    let t = w .before .before .before .before .before .before .before .before .before .before .before .before .before in
+    rw (fit (t .before .before .before .before .before .before .before .before .before .before .before .before))
+    (refl, w .all-answered .ensures)
 
 pub obikuteru-fq-calls-of-spec : {M : Type 1} → statement M
 obikuteru-fq-calls-of-spec =

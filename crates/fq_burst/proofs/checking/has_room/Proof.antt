@@ -1,3 +1,4 @@
+-- `has_room`: by what the counts leave of 2^48.
 use borrow.Author.Needs.{needs}
 use Rattle.fq_burst.proofs.checking.has_room.Statement.{statement}
 use Rattle.fq_burst.proofs.checking.has_room.Tie as tie
@@ -42,7 +43,8 @@ returns : tie.Need-returns
 returns c = λ r.
     let counts = c .args .t1 in
     let five = total-five counts (search needs) in
-    let low : c .args .n ≤ mostVerdicts - getD counts 0 0 - getD counts 1 0 - getD counts 2 0 - getD counts 3 0 - getD counts 4 0 = leb-true _ _ r in
+    let rest = mostVerdicts - getD counts 0 0 - getD counts 1 0 - getD counts 2 0 - getD counts 3 0 - getD counts 4 0 in
+    let low : c .args .n ≤ rest = leb-true _ _ r in
     omega (arith, five, low)
 
 pub has-room-spec : {M : Type 1} → statement M

@@ -50,7 +50,8 @@ cast-flow c = search needs
 arrival-of-requires : tie.Need-arrival-of-requires
 arrival-of-requires c κs =
     let l = c .before .before .before .before .before .before .before in
-    (sound l .formed, rw (l .before .before .decode .ensures) (l .before .before .before .before .before .before .before .before .pre .1 .1))
+    let d = l .before .before in
+    (sound l .formed, rw (d .decode .ensures) (d .before .before .before .before .before .before .pre .1 .1))
 
 sized-requires-2 : tie.Need-sized-requires-2
 sized-requires-2 c κs = search needs

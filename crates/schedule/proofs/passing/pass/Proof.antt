@@ -73,12 +73,13 @@ returns-3 : tie.Need-returns-3 Inv-loop μ-loop
 returns-3 c =
     let n = c .before .before in
     let h = n .before .before .before in
-    let test = h .before .before .before in
+    let i = h .before in
+    let test = i .before .before in
     let l = test .before .loop in
     let a = test .before .before .args in
     let s = scheduleOf (l .at) (a .order .now) (a .deficits .now) in (
       sym (l .inv .1 .1)
-          ∙ head-served (a .counts .now) s (l .looks) (test .loop-test .taken) (h .head .result) (h .head .ensures .0) (h .before .if1 .left)
+          ∙ head-served (a .counts .now) s (l .looks) (test .loop-test .taken) (h .head .result) (h .head .ensures .0) (i .if1 .left)
           (sym (n .before .is-negative .ensures) ∙ n .if2 .left)
           (not-true _ (c .if3 .taken)),
       (h .head .ensures .1, l .inv .0, l .inv .1 .0),
@@ -101,13 +102,14 @@ loop-again c =
     let e = c .before in
     let n = e .before .before in
     let h = n .before .before .before in
-    let test = h .before .before .before in
+    let i = h .before in
+    let test = i .before .before in
     let l = test .before .loop in
     let a = test .before .before .args in
     let s = scheduleOf (l .at) (a .order .now) (a .deficits .now) in
-    let some = above-zero (l .at .listed) (eqb-false (l .at .listed) 0 (h .before .if1 .left)) in
+    let some = above-zero (l .at .listed) (eqb-false (l .at .listed) 0 (i .if1 .left)) in
     let k = still-fit (a .order .now) (l .at) (l .inv .0) some (l .inv .1 .0) in
-    let on = head-passed (a .counts .now) s (l .looks) (test .loop-test .taken) (h .head .result) (h .head .ensures .0) (h .before .if1 .left)
+    let on = head-passed (a .counts .now) s (l .looks) (test .loop-test .taken) (h .head .result) (h .head .ensures .0) (i .if1 .left)
     (sym (n .before .is-negative .ensures) ∙ n .if2 .left)
     (not-false _ (e .if3 .left)) in
     rw (c .without-head .ensures) (k .0, (k .1, sym on ∙ l .inv .1 .1))
