@@ -7,7 +7,8 @@ use native.Mathlib.Omega.{arith}
 use lib.Dec.{eqb, ltb}
 use lib.ListN.{getD}
 use borrow.Author.Tests.{eqb-true, le-ltb, ltb-true, ltb-false}
-use Rattle.schedule.specs.Choosing.{atNew, atOld, chooseIn, chosen, headOf, newHead, oldHead, withoutHead}
+use Rattle.schedule.specs.Choosing.{atNew, atOld, chooseIn, chosen, newHead, oldHead}
+use Rattle.schedule.specs.Passing.{headOf, withoutHead}
 use Rattle.schedule.specs.Ring.{Schedule, deficitOf, ringOf, scheduleOf, zeroDeficit}
 use Rattle.schedule.specs.WellFormed.{areFlows, listsFit}
 use Rattle.schedule.specs.declared.Lists.{Lists}

@@ -5,7 +5,6 @@ use Prim.Native.Nat.{ℕ, zero, suc, _+_, _-_}
 use lib.Dec.{eqb, ltb}
 use lib.ListN.{getD, set}
 use Rattle.schedule.specs.Ring.{Schedule, deficitOf, place, quantum, zeroDeficit}
-use Rattle.schedule.specs.declared.Lists.{Lists}
 
 -- what a look finds: no flow at all, the flow to serve, or a move, after which it looks again
 pub data Look : Type 0 where
@@ -72,21 +71,11 @@ newHead s = getD (s .order) (place (s .lists .first) (s .lists .old)) 0
 abbrev pub oldHead : Schedule → ℕ
 oldHead s = getD (s .order) (s .lists .first) 0
 
--- the flow that is looked at, where one is listed
-abbrev pub headOf : Schedule → ℕ
-headOf s = cond (ltb (s .lists .old) (s .lists .listed)) (newHead s) (oldHead s)
-
 unfoldable pub look : (counts : List ℕ) → Schedule → Look
 look counts s =
     cond (ltb (s .lists .old) (s .lists .listed)) (atNew counts s (newHead s))
     (cond (eqb (s .lists .listed) 0) nobody
     (atOld counts s (oldHead s)))
-
--- where the lists stand once an emptied flow at the head is moved: nothing is written
-abbrev pub withoutHead : Lists → Lists
-withoutHead l =
-    cond (ltb (l .old) (l .listed)) (record { first = l .first; old = l .old + 1; listed = l .listed })
-    (record { first = place (l .first) 1; old = l .old - 1; listed = l .listed - 1 })
 
 pub record Choice : Type 0 where
   pub flow : ℕ

@@ -4,7 +4,9 @@
 --   WellFormed   23: which lists and deficits are well formed
 --   Entering     25: a flow in neither list enters the new one
 --   Choosing     26: the flow that is served next
+--   Passing      its looks that write nothing
 pub mod Ring
 pub mod WellFormed
 pub mod Entering
 pub mod Choosing
+pub mod Passing

@@ -6,7 +6,8 @@ ghost use mathlib.Core.Path.{_≡_};
 ghost use mathlib.Core.Bool.{true, cond};
 ghost use mathlib.Core.List.{[]};
 ghost use Prim.Native.Nat.{_<_};
-ghost use Rattle.schedule.specs.Choosing.{choose, chooseIn, chosen, headOf, withoutHead};
+ghost use Rattle.schedule.specs.Choosing.{choose, chooseIn, chosen};
+ghost use Rattle.schedule.specs.Passing.{headOf, withoutHead};
 ghost use Rattle.schedule.specs.Ring.{ringOf, scheduleOf};
 ghost use Rattle.schedule.specs.WellFormed.{areFlows, listsFit};
 
