@@ -9,7 +9,7 @@ use Rattle.fq_script.proofs.feeding.feed.Statement.{statement}
 use Rattle.fq_script.proofs.feeding.feed.Tie as tie
 
 abbrev Inv-loop : tie.InvT-loop
-Inv-loop order₀ deficits₀ flows₀ handles₀ sizes₀ input output₀ over₀ line₀ reader₀ held₀ taken₀ written₀ order deficits flows handles sizes output over line reader held taken written =
+Inv-loop _ _ _ handles₀ sizes₀ input output₀ _ _ _ _ _ _ _ _ _ handles sizes output _ _ _ _ taken written =
     (length handles ≡ length handles₀)
     × (length sizes ≡ length sizes₀)
     × (length output ≡ length output₀)
@@ -17,7 +17,7 @@ Inv-loop order₀ deficits₀ flows₀ handles₀ sizes₀ input output₀ over�
     × (written ≤ length output)
 
 abbrev μ-loop : tie.MeasureT-loop
-μ-loop order₀ deficits₀ flows₀ handles₀ sizes₀ input output₀ over₀ line₀ reader₀ held₀ taken₀ written₀ order deficits flows handles sizes output over line reader held taken written =
+μ-loop _ _ _ _ _ input _ _ _ _ _ _ _ _ _ _ _ _ _ _ _ _ _ taken _ =
     length input - taken
 
 loop-holds : tie.Need-loop-holds Inv-loop μ-loop
@@ -63,12 +63,14 @@ add-taken : tie.Need-add-taken Inv-loop μ-loop
 add-taken c =
     let a = c .before .before .before .before .before .before .before .before .before in
     let n = a .before .before .before .before .before .before .before .before in
-    let start = n .before .before .before .before .before .before .before .before .before .before .before .before in omega (arith, n .if2 .taken, start .good .1)
+    let l = n .before .before .before .before .before in
+    let start = l .before .before .before .before .before .before .before in omega (arith, n .if2 .taken, start .good .1)
 
 loop-less : tie.Need-loop-less Inv-loop μ-loop
 loop-less c =
     let a = c .before .before .before .before .before .before .before .before .before in
-    let n = a .before .before .before .before .before .before .before .before in omega (arith, n .before .before .scan .ensures .0, n .if2 .taken)
+    let n = a .before .before .before .before .before .before .before .before in
+    let s = n .before .before in omega (arith, s .scan .ensures .0, n .if2 .taken)
 
 loop-again : tie.Need-loop-again Inv-loop μ-loop
 loop-again c =
