@@ -5,7 +5,7 @@
 --   Rows               part of the rows of refusals looked at first
 --   Replies            what a tick gives; ArrivalReplies, DepartureReplies: the other calls
 --   WhenAccepted       what a call that no test refuses is known to have
---   Resting            a tick of a flow at rest
+--   IdleTick           a tick of an idle flow
 pub mod EachFlow
 pub mod Mapped
 pub mod Rows
@@ -13,4 +13,4 @@ pub mod Replies
 pub mod ArrivalReplies
 pub mod DepartureReplies
 pub mod WhenAccepted
-pub mod Resting
+pub mod IdleTick

@@ -13,13 +13,13 @@ ghost use Rattle.fq_state.specs.WellFormed.{commonConditions, flowConditions, f
 ghost use Rattle.fq_state.specs.Words.{flowsOf};
 ghost use Rattle.fq_rules.specs.Tick.{tickedFlow};
 
-// A flow after a tick. One at rest, with no probability, delay or byte, only has its allowance filled: most flows are, at most ticks.
+// A flow after a tick. An idle one, with no probability, delay or byte, only has its allowance filled: most flows are idle.
 fn tick_flow(f: Flow, common: Common) -> Flow
     requires { ⌜ (all (commonConditions common) ≡ true) × (all (flowConditions common f) ≡ true) ⌝ }
     ensures { λ r. ⌜ r ≡ tickedFlow (common .settings .target .0) f ⌝ }
 {
-    let rests = (f.prob == 0) & (f.old == 0) & (f.bytes == 0);
-    if rests {
+    let idle = (f.prob == 0) & (f.old == 0) & (f.bytes == 0);
+    if idle {
         return Flow {
             allowance: FULL_ALLOWANCE,
             ..f

@@ -4,7 +4,7 @@ use borrow.Author.Tests.{eqb-true}
 use mathlib.Core.Bool.{_&&_}
 use lib.Dec.{eqb}
 use Rattle.laws.proofs.Tests.{and-left, and-right}
-use Rattle.fq_rules.proofs.Resting.{ticked-at-rest}
+use Rattle.fq_rules.proofs.IdleTick.{ticked-idle}
 use native.Mathlib.Omega.{arith}
 use Rattle.fq_rules.specs.Tick.{tickedFlow}
 use Rattle.fq_state.proofs.Facts.{common-fits, flow-fits}
@@ -20,7 +20,7 @@ returns c =
     let o = eqb (f .old) 0 in
     let b = eqb (f .bytes) 0 in
     let both = and-left (p && o) b (c .if1 .taken) in
-    ticked-at-rest _ f (omega (arith, k .settings .target-low))
+    ticked-idle _ f (omega (arith, k .settings .target-low))
     (eqb-true _ _ (and-left p o both))
     (eqb-true _ _ (and-right p o both))
     (eqb-true _ _ (and-right (p && o) b (c .if1 .taken)))
