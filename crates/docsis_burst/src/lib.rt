@@ -3,16 +3,16 @@ use crate::arriving::arrive;
 use crate::departing::depart;
 use crate::ticking::tick;
 use bursts::clock_of;
+use bursts::has_room;
 use bursts::wide;
 use bursts::word;
 use docsis_capi::obikuteru_modem_arrival;
 use docsis_capi::obikuteru_modem_departure;
 use docsis_capi::obikuteru_modem_tick;
 use docsis_capi::obikuteru_modem_well_formed;
-use pie::MOST_VERDICTS;
 ghost use mathlib.Core.Path.{_≡_};
 ghost use mathlib.Core.Bool.{cond, true};
-ghost use Prim.Native.Nat.{_+_, _-_, _*_, _≤_, _<_};
+ghost use Prim.Native.Nat.{_+_, _*_, _≤_, _<_};
 ghost use lib.ListN.{length};
 ghost use Rattle.pie.specs.Constants.{mostVerdicts};
 ghost use Rattle.pie.specs.Verdicts.{total};
@@ -140,14 +140,6 @@ fn single(
     120
 }
 
-// How many arrivals a row has room for.
-fn room(row: [u64; 5]) -> u64
-    requires { ⌜ total row ≤ mostVerdicts ⌝ }
-    ensures { λ r. ⌜ r ≡ mostVerdicts - total row ⌝ }
-{
-    MOST_VERDICTS - row[0] - row[1] - row[2] - row[3] - row[4]
-}
-
 // Whether the flow is one of sixteen, state and row are well formed, the tables fit and the row has room for `n` arrivals. It decides only
 // the cost.
 fn ready(
@@ -176,7 +168,7 @@ fn ready(
     if sizes != w[2] {
         return false;
     }
-    n <= room(counts[flow as usize])
+    has_room(counts[flow as usize], n)
 }
 
 // All calls, of a flow that is ready for so many arrivals.

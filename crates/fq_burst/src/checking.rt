@@ -2,7 +2,6 @@
 use fq_state::Common;
 use pie::LARGEST;
 use pie::LATEST;
-use pie::MOST_VERDICTS;
 use pie::PERIOD;
 use refusals::Accepted;
 use refusals::Refusal;
@@ -23,19 +22,6 @@ ghost use Rattle.fq_rules.specs.Departure.{beforeChoosing};
 ghost use Rattle.fq_rules.specs.Arrival.{beforeVerdict};
 ghost use Rattle.fq_rules.specs.Tick.{tickRefusal};
 ghost use Rattle.laws.specs.Tests.{all};
-
-// Whether the counts, which sum to at most 2^48, have room for `n` arrivals.
-pub(crate) fn has_room(counts: [u64; 5], n: u64) -> bool
-    requires { ⌜ total counts ≤ mostVerdicts ⌝ }
-    ensures { λ r. ⌜ ((r ≡ true) → (total counts + n ≤ mostVerdicts)) ⌝ }
-{
-    let a = counts[0];
-    let b = counts[1];
-    let c = counts[2];
-    let d = counts[3];
-    let e = counts[4];
-    n <= MOST_VERDICTS - a - b - c - d - e
-}
 
 // Refusal 8, which is not due where there is known to be room.
 fn are_full(counts: [u64; 5], room: bool) -> bool

@@ -1,5 +1,4 @@
 // One entry for a list of calls on 64 flows: the record is tested once, and each call is answered as the single entries would.
-use crate::checking::has_room;
 use crate::entering::arrive;
 use crate::entering::depart;
 use crate::entering::update;
@@ -7,6 +6,7 @@ use crate::numbers::key_of;
 use crate::numbers::malformed;
 use crate::numbers::word;
 use bursts::clock_of;
+use bursts::has_room;
 use bursts::wide;
 use fq_capi::decode;
 use fq_capi::decode_lists;

@@ -1,7 +1,7 @@
 // One entry for a list of calls on two queues: the records are tested once, and each call is answered as the single entries would.
 use crate::one::answer;
+use bursts::has_room;
 use pair_words::records_fit;
-use pie::MOST_VERDICTS;
 ghost use mathlib.Core.Path.{_≡_};
 ghost use mathlib.Core.Bool.{cond, false, true};
 ghost use Prim.Native.Nat.{_+_, _*_, _≤_};
@@ -16,19 +16,6 @@ ghost use Rattle.pair_burst.specs.Burst.{lent, pairBursts};
 ghost use Rattle.pair_burst.specs.Fitting.{Ready, lentBoth};
 
 mod one;
-
-// Whether the counts, which sum to at most 2^48, have room for `n` arrivals.
-fn has_room(counts: [u64; 5], n: u64) -> bool
-    requires { ⌜ total counts ≤ mostVerdicts ⌝ }
-    ensures { λ r. ⌜ ((r ≡ true) → (total counts + n ≤ mostVerdicts)) ⌝ }
-{
-    let a = counts[0];
-    let b = counts[1];
-    let c = counts[2];
-    let d = counts[3];
-    let e = counts[4];
-    n <= MOST_VERDICTS - a - b - c - d - e
-}
 
 // Whether the records are well formed, the tables fit them and both queues' counts have room for `n` arrivals. It decides only the cost.
 fn ready(

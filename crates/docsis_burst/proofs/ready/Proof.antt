@@ -4,13 +4,12 @@ use Rattle.docsis_burst.proofs.ready.Statement.{statement}
 use Rattle.docsis_burst.proofs.ready.Tie as tie
 use mathlib.Core.Path.{_≡_, sym, _∙_}
 use mathlib.Core.Bool.{true, false≢true, not, _&&_}
-use Prim.Native.Nat.{_-_, _≤_}
+use Prim.Native.Nat.{_≤_}
 use native.Mathlib.Omega.{arith}
 use denote.Ref.{now}
 use borrow.Author.Tests.{leb-true, ltb-false, not-false, not-true}
 use Rattle.laws.proofs.Tests.{and-left, and-right}
 use Rattle.pie.specs.Constants.{mostVerdicts}
-use Rattle.pie.specs.Verdicts.{total}
 use Rattle.docsis_flow.specs.State.{wellFormed}
 use Rattle.docsis_flow.proofs.Facts.{record-formed, row-fits}
 use Rattle.docsis.specs.Calls.{flowRefused}
@@ -50,25 +49,23 @@ element-copy-out-if3 c = search needs
 returns-3 : tie.Need-returns-3
 returns-3 c = λ e. absurd (false≢true e)
 
-mul-room : tie.Need-mul-room
-mul-room c = search needs
+mul-has-room : tie.Need-mul-has-room
+mul-has-room c = search needs
 
-element-copy-out-room : tie.Need-element-copy-out-room
-element-copy-out-room c = omega (arith, low (c .before .before .before .before))
+element-copy-out-has-room : tie.Need-element-copy-out-has-room
+element-copy-out-has-room c = omega (arith, low (c .before .before .before .before))
 
-room-requires : tie.Need-room-requires
-room-requires c κs = row-fits _ _ (formed (c .before .before .before .before .before))
+has-room-requires : tie.Need-has-room-requires
+has-room-requires c κs = row-fits _ _ (formed (c .before .before .before .before .before))
 
 returns-4 : tie.Need-returns-4
 unfolding stateOf
 returns-4 c =
     λ e.
-    let a = c .before .before .before .before .before .before .before .before .before .before in
-    let row = rowOf (now (a .args .counts)) (a .args .flow) in
-    let enough : a .args .n ≤ mostVerdicts - total row = rw (c .room .ensures) at (leb-true (a .args .n) (c .room .result) e) in (
+    let a = c .before .before .before .before .before .before .before .before .before .before in (
       low (c .before .before .before .before .before .before),
       (c .before .before .before .before .before .before .before .before .held .ensures .1, record-formed _ _ (formed (c .before .before .before .before .before .before)), c .before .before .before .before .if2 .left, c .before .before .if3 .left),
-      omega (arith, row-fits _ _ (formed (c .before .before .before .before .before .before)), enough),
+      leb-true _ mostVerdicts (sym (c .has-room .ensures) ∙ e),
     )
 
 pub ready-spec : {M : Type 1} → statement M
@@ -82,7 +79,7 @@ ready-spec =
     returns-2
     element-copy-out-if3
     returns-3
-    mul-room
-    element-copy-out-room
-    room-requires
+    mul-has-room
+    element-copy-out-has-room
+    has-room-requires
     returns-4)

@@ -2,13 +2,14 @@
 use borrow.Author.Needs.{needs}
 use mathlib.Core.Path.{_≡_, ap, refl, sym, _∙_}
 use mathlib.Core.Bool.{true}
-use Prim.Native.Nat.{_*_}
+use Prim.Native.Nat.{_+_, _*_}
 use lib.ListN.{length}
 use denote.Ref.{now}
-use borrow.Author.Tests.{not-false, not-true}
+use borrow.Author.Tests.{leb-true, not-false, not-true}
 use Rattle.bursts.specs.Burst.{fits}
 use Rattle.bursts.proofs.Steps.{fitting}
 use native.Mathlib.Omega.{arith}
+use Rattle.pie.specs.Constants.{mostVerdicts}
 use Rattle.pie.specs.Verdicts.{total}
 use Rattle.fq_state.specs.WellFormed.{wellFormed}
 use Rattle.fq_state.specs.declared.Common.{Common}
@@ -107,7 +108,9 @@ all-answered-requires c κs =
         t .fits2 .ensures .1 (not-false _ (e .if2 .left)),
         (
           ten (t .before .before .before .before .before .before .before .before .before .before .before .before),
-          λ h. omega (arith, counted t, r .has-room .ensures h),
+          λ h.
+              let sum = total (at-decode t .decode .result .verdicts) + length (now (begun t .args .answers)) in
+              omega (arith, counted t, leb-true sum mostVerdicts (sym (r .has-room .ensures) ∙ h)),
         ),
       ),
     )

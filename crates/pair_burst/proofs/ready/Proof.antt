@@ -1,10 +1,11 @@
 -- `ready`: the tests of the records and of the tables, and room by what the counts leave.
 use borrow.Author.Needs.{needs}
-use borrow.Author.Tests.{eqb-true, not-false}
+use borrow.Author.Tests.{eqb-true, leb-true, not-false}
 use mathlib.Core.Path.{_≡_, sym, _∙_}
 use mathlib.Core.Bool.{true, false, false≢true, _&&_}
 use lib.Dec.{eqb}
 use denote.Ref.{now}
+use Rattle.pie.specs.Constants.{mostVerdicts}
 use Rattle.pair_state.specs.WellFormed.{wellFormed}
 use Rattle.pair_state.proofs.Facts.{facts}
 use Rattle.laws.proofs.Tests.{and-left, and-right}
@@ -92,8 +93,8 @@ returns-4 c =
       formed e1,
       eqb-true _ _ (and-left h z fit),
       eqb-true _ _ (and-right h z fit),
-      at-has-room .has-room .ensures (not-false _ (at-if3 .if3 .left)),
-      c .has-room2 .ensures e,
+      leb-true _ mostVerdicts (sym (at-has-room .has-room .ensures) ∙ not-false _ (at-if3 .if3 .left)),
+      leb-true _ mostVerdicts (sym (c .has-room2 .ensures) ∙ e),
     )
 
 pub ready-spec : {M : Type 1} → statement M

@@ -1,12 +1,15 @@
 -- `has_room`: by what the counts leave of 2^48.
 use borrow.Author.Needs.{needs}
-use Rattle.fq_burst.proofs.checking.has_room.Statement.{statement}
-use Rattle.fq_burst.proofs.checking.has_room.Tie as tie
-use Prim.Native.Nat.{_-_, _≤_}
+use Rattle.bursts.proofs.room.has_room.Statement.{statement}
+use Rattle.bursts.proofs.room.has_room.Tie as tie
+use mathlib.Core.Path.{_≡_, refl, sym}
+use mathlib.Core.Bool.{Bool, true, false}
+use Prim.Native.Nat.{ℕ, _+_, _-_, _≤_}
 use native.Mathlib.Omega.{arith}
-use lib.ListN.{getD}
-use borrow.Author.Tests.{leb-true}
+use lib.Dec.{leb}
+use borrow.Author.Tests.{le-leb, leb-false, leb-true, lt-leb}
 use Rattle.pie.specs.Constants.{mostVerdicts}
+use Rattle.pie.specs.Verdicts.{total}
 use Rattle.refusals.proofs.FiveCounts.{total-five}
 
 array-read-a : tie.Need-array-read-a
@@ -39,13 +42,17 @@ sub-result-4 c = omega (arith, total-five (c .args .t1) (search needs))
 sub-result-5 : tie.Need-sub-result-5
 sub-result-5 c = omega (arith, total-five (c .args .t1) (search needs))
 
+-- both tests say the same of what is left
+same : (t n rest most : ℕ) → rest ≡ most - t → t ≤ most → leb n rest ≡ leb (t + n) most
+same t n rest most e h = go (leb n rest) refl
+  where
+    go : (b : Bool) → leb n rest ≡ b → b ≡ leb (t + n) most
+    go true l = sym (le-leb (t + n) most (omega (arith, leb-true n rest l)))
+    go false l = sym (lt-leb (t + n) most (omega (arith, leb-false n rest l)))
+
 returns : tie.Need-returns
-returns c = λ r.
-    let counts = c .args .t1 in
-    let five = total-five counts (search needs) in
-    let rest = mostVerdicts - getD counts 0 0 - getD counts 1 0 - getD counts 2 0 - getD counts 3 0 - getD counts 4 0 in
-    let low : c .args .n ≤ rest = leb-true _ _ r in
-    omega (arith, five, low)
+returns c =
+    let counts = c .args .t1 in same (total counts) (c .args .n) _ mostVerdicts (omega (arith, total-five counts (search needs))) (c .pre)
 
 pub has-room-spec : {M : Type 1} → statement M
 has-room-spec =
