@@ -1,12 +1,12 @@
 // One entry for a list of calls: the state record is tested once, and each call is answered as the single entries would.
 use bursts::clock_of;
+use bursts::has_room;
 use bursts::wide;
 use bursts::word;
 use capi::obikuteru_arrival;
 use capi::obikuteru_departure;
 use capi::obikuteru_tick;
 use capi::obikuteru_well_formed;
-use pie::MOST_VERDICTS;
 use steps::arrive;
 use steps::depart;
 use steps::tick;
@@ -130,7 +130,7 @@ fn ready(w: &[u64; 23], handles: u64, sizes: u64, n: u64) -> bool
     if sizes != w[2] {
         return false;
     }
-    n <= MOST_VERDICTS - w[16] - w[17] - w[18] - w[19] - w[20]
+    has_room([w[16], w[17], w[18], w[19], w[20]], n)
 }
 
 // All calls, of a queue that is ready for so many arrivals.

@@ -4,9 +4,7 @@ use Rattle.burst.proofs.ready.Statement.{statement}
 use Rattle.burst.proofs.ready.Tie as tie
 use mathlib.Core.Path.{_≡_, sym, _∙_}
 use mathlib.Core.Bool.{true, false≢true}
-use Prim.Native.Nat.{_-_, _≤_}
-use native.Mathlib.Omega.{arith}
-use lib.ListN.{getD}
+use Prim.Native.Nat.{_≤_}
 use denote.Ref.{now}
 use borrow.Author.Tests.{leb-true, not-false}
 use Rattle.laws.proofs.Tests.{and-right}
@@ -45,53 +43,36 @@ element-copy-out-if3 c = search needs
 returns-3 : tie.Need-returns-3
 returns-3 c = λ e. absurd (false≢true e)
 
-element-copy-out-result : tie.Need-element-copy-out-result
-element-copy-out-result c = search needs
+element-copy-out-t11 : tie.Need-element-copy-out-t11
+element-copy-out-t11 c = search needs
 
-sub-result : tie.Need-sub-result
+element-copy-out-t18 : tie.Need-element-copy-out-t18
+element-copy-out-t18 c = search needs
+
+element-copy-out-t21 : tie.Need-element-copy-out-t21
+element-copy-out-t21 c = search needs
+
+element-copy-out-t24 : tie.Need-element-copy-out-t24
+element-copy-out-t24 c = search needs
+
+element-copy-out-t27 : tie.Need-element-copy-out-t27
+element-copy-out-t27 c = search needs
+
+has-room-requires : tie.Need-has-room-requires
 unfolding stateOf
-sub-result c = omega (arith, room (c .before .before .before .before .before))
-
-element-copy-out-result-2 : tie.Need-element-copy-out-result-2
-element-copy-out-result-2 c = search needs
-
-sub-result-2 : tie.Need-sub-result-2
-unfolding stateOf
-sub-result-2 c = omega (arith, room (c .before .before .before .before .before .before))
-
-element-copy-out-result-3 : tie.Need-element-copy-out-result-3
-element-copy-out-result-3 c = search needs
-
-sub-result-3 : tie.Need-sub-result-3
-unfolding stateOf
-sub-result-3 c = omega (arith, room (c .before .before .before .before .before .before .before))
-
-element-copy-out-result-4 : tie.Need-element-copy-out-result-4
-element-copy-out-result-4 c = search needs
-
-sub-result-4 : tie.Need-sub-result-4
-unfolding stateOf
-sub-result-4 c = omega (arith, room (c .before .before .before .before .before .before .before .before))
-
-element-copy-out-result-5 : tie.Need-element-copy-out-result-5
-element-copy-out-result-5 c = search needs
-
-sub-result-5 : tie.Need-sub-result-5
-unfolding stateOf
-sub-result-5 c = omega (arith, room (c .before .before .before .before .before .before .before .before .before))
+has-room-requires c κs = room (c .before .before .before .before .before .before .before .before .before)
 
 returns-4 : tie.Need-returns-4
 unfolding stateOf
 returns-4 c = λ e.
-    let a = c .before .before .before .before .before .before .before .before .before .before .before .before .before in
-    let w = now (a .args .w) in
-    let e1 = c .before .before .before .before .before .before .before .before .before in
-    let low : a .args .n ≤ mostVerdicts - getD w 16 0 - getD w 17 0 - getD w 18 0 - getD w 19 0 - getD w 20 0 = leb-true _ _ e in (
-      c .before .before .before .before .before .before .before .before .before .before .before .held .ensures .1,
+    let at-if3 = c .before .before .before .before .before .before in
+    let at-if2 = at-if3 .before .before in
+    let e1 = at-if2 .before .before in (
+      e1 .before .before .held .ensures .1,
       formed e1,
-      c .before .before .before .before .before .before .before .if2 .left,
-      c .before .before .before .before .before .if3 .left,
-      omega (arith, room e1, low),
+      at-if2 .if2 .left,
+      at-if3 .if3 .left,
+      leb-true _ mostVerdicts (sym (c .has-room .ensures) ∙ e),
     )
 
 pub ready-spec : {M : Type 1} → statement M
@@ -105,14 +86,10 @@ ready-spec =
     returns-2
     element-copy-out-if3
     returns-3
-    element-copy-out-result
-    sub-result
-    element-copy-out-result-2
-    sub-result-2
-    element-copy-out-result-3
-    sub-result-3
-    element-copy-out-result-4
-    sub-result-4
-    element-copy-out-result-5
-    sub-result-5
+    element-copy-out-t11
+    element-copy-out-t18
+    element-copy-out-t21
+    element-copy-out-t24
+    element-copy-out-t27
+    has-room-requires
     returns-4)
