@@ -5,7 +5,7 @@
 use std::ptr::{copy_nonoverlapping, null_mut};
 use std::slice::{from_raw_parts, from_raw_parts_mut};
 
-/// The length of a page on x86-64, for which the library is built.
+/// The length of a page on x86-64, and of one under the emulator of AArch64.
 pub const PAGE: usize = 4_096;
 /// How much at least nobody may touch on either side.
 const UNIT: usize = 16 * PAGE;
@@ -39,8 +39,11 @@ impl Area {
         Area { body: base.wrapping_add(UNIT), length, at_end, open: 0 }
     }
 
-    /// Changes the access to the open pages.
+    /// Changes the access to the open pages. Of none there is nothing to change, and the emulator of AArch64 would refuse it.
     pub fn access(&self, access: i32) {
+        if self.open == 0 {
+            return;
+        }
         let result = unsafe { mprotect(self.at(self.open), self.open, access) };
         assert!(result == 0, "the system did not change the access to the guarded pages");
     }
