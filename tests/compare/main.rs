@@ -6,7 +6,7 @@
 //!   compare soak SECONDS  rounds with new seeds until the time is over
 //!   compare guard         calls with memory that stands beside or between guarded pages
 //!
-//! It ends with 1 at the first difference, with 2 if the calls did not reach everything, and
+//! It ends with 1 at the first difference, with 2 if calls but a soak's did not reach everything, and
 //! with 3 if it was not understood.
 
 #[path = "../shared/bursts.rs"]

@@ -7,7 +7,7 @@
 //!   fq guard         calls with memory that stands beside or between guarded pages
 //!   fq script        answers the script on standard input by the model
 //!
-//! It ends with 1 at the first difference, with 2 if the calls did not reach everything, and
+//! It ends with 1 at the first difference, with 2 if calls but a soak's did not reach everything, and
 //! with 3 if it was not understood.
 //!
 //! The rules of one queue, the store and what makes random queues are the pair's: `model` and the

@@ -8,7 +8,7 @@
 //!   logs page FILE     the worked log of docs/LOG.md
 //!
 //! All memory stands right before a page that nobody may touch, and then right after one.
-//! It ends with 1 at the first difference, with 2 if the calls did not reach everything, and
+//! It ends with 1 at the first difference, with 2 if calls but a soak's did not reach everything, and
 //! with 3 if it was not understood.
 
 mod compare;
@@ -94,13 +94,18 @@ fn print(reached: &[Coverage], all: bool) {
     }
 }
 
-/// Ends the program with 2 if anything was not reached.
-fn require_all(reached: &[Coverage]) {
+/// Says what was not reached; whether there is nothing of it.
+fn all_reached(reached: &[Coverage]) -> bool {
     let missing: Vec<String> = reached.iter().flat_map(Coverage::missing).collect();
     for label in &missing {
         println!("logs: not reached: {label}");
     }
-    if !missing.is_empty() {
+    missing.is_empty()
+}
+
+/// Ends the program with 2 if anything was not reached.
+fn require_all(reached: &[Coverage]) {
+    if !all_reached(reached) {
         exit(2);
     }
 }
@@ -129,11 +134,12 @@ fn one_part(name: &str) {
     println!("logs: {} calls of {name}, no difference", reached.calls);
 }
 
+/// New seeds may miss in a short time what is rare: that is said, and is no failure.
 fn soak(seconds: u64) {
     let mut reached = begin();
     rounds::soak(seconds, |seed| round(seed, &mut reached));
     print(&reached, false);
-    require_all(&reached);
+    all_reached(&reached);
     println!("logs: soak of {seconds} seconds, {} calls, no difference", calls(&reached));
 }
 

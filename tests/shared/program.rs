@@ -57,8 +57,8 @@ impl Reached {
         }
     }
 
-    /// Ends the program with 2 if anything was not reached.
-    fn require_all(&self) {
+    /// Says what was not reached; whether there is nothing of it.
+    fn all(&self) -> bool {
         let single = self.single.missing(false);
         let runs = self.runs.missing(true);
         for (name, missing) in [("single calls", &single), ("long runs", &runs)] {
@@ -66,7 +66,12 @@ impl Reached {
                 println!("{NAME}: the {name} did not reach this: {label}");
             }
         }
-        if !single.is_empty() || !runs.is_empty() {
+        single.is_empty() && runs.is_empty()
+    }
+
+    /// Ends the program with 2 if anything was not reached.
+    fn require_all(&self) {
+        if !self.all() {
             exit(2);
         }
     }
@@ -140,13 +145,14 @@ impl Round {
         println!("{NAME}: {} calls, no difference", reached.calls());
     }
 
+    /// New seeds may miss in a short time what is rare: that is said, and is no failure.
     fn soak(&self, seconds: u64) {
         let mut reached = Reached::new();
         rounds::soak(seconds, |seed| {
             self.run(seed, (self.batches, self.runs), &mut Direct, &mut reached)
         });
         reached.print(false, self.checks);
-        reached.require_all();
+        reached.all();
         println!("{NAME}: soak of {seconds} seconds, {} calls, no difference", reached.calls());
     }
 
