@@ -1,6 +1,6 @@
 /*
  * The header against the definitions. The numbers stand here a second time, by hand: the words of
- * the record from crates/words/specs/Words.antt, the answers from crates/words/specs/Codes.antt, the
+ * the record from crates/ring_words/specs/Words.antt, the answers from crates/ring_words/specs/Codes.antt, the
  * refusals from crates/refusals/specs/Numbers.antt. Then the library runs, and each field must hold
  * what document 01 gives for it, and each constant must be the answer of a call that deserves it.
  * It prints each mistake and ends with 1 if there is any.

@@ -1,5 +1,5 @@
 /*
- * The header's burst against the definitions: the numbers of crates/burst/specs/Calls.antt and crates/steps/specs/Lent.antt stand here a
+ * The header's burst against the definitions: the numbers of crates/ring_burst/specs/Calls.antt and crates/ring_steps/specs/Lent.antt stand here a
  * second time, by hand, and a burst of each kind of call is answered as they say. It prints each mistake and ends with 1 if there is any.
  */
 #include <obikuteru.h>

@@ -142,11 +142,11 @@ static void write_first_two(FILE *to, const struct found *found, const struct wa
 {
     const uint64_t *verdicts = walk->state.verdicts;
 
-    question(to, "Was that packet shed because the rule required it?", "WhichVerdict", "crates/guarantees/specs/WhichVerdict.antt");
+    question(to, "Was that packet shed because the rule required it?", "WhichVerdict", "crates/ring_guarantees/specs/WhichVerdict.antt");
     fprintf(to, "packets dropped by the rules: %" PRIu64 ", marked: %" PRIu64 "; %s.</p>\n", verdicts[2] + verdicts[3] + verdicts[4],
             verdicts[1], found->answer == OBIKUTERU_ACCEPTED ? "the log records the same" : "counted up to the record that disagrees");
     question(to, "Could the burst allowance have run out early if the timer fired twice?", "AllowanceLasts",
-             "crates/guarantees/specs/AllowanceLasts.antt");
+             "crates/ring_guarantees/specs/AllowanceLasts.antt");
     if (walk->allowance_ran)
         fprintf(to, "the least time from a full allowance to an early drop or mark is %.3f ms; the theorem says at least 150.</p>\n",
                 (double)walk->soonest_early / 1e3);
@@ -158,13 +158,13 @@ static void write_last_two(FILE *to, const struct walk *walk)
 {
     uint64_t target = walk->state.target;
 
-    question(to, "Do the queued bytes equal what went in less what came out?", "Conservation", "crates/guarantees/specs/Conservation.antt");
+    question(to, "Do the queued bytes equal what went in less what came out?", "Conservation", "crates/ring_guarantees/specs/Conservation.antt");
     fprintf(to,
             "bytes in: %" PRIu64 ", bytes out: %" PRIu64 ", the difference: %" PRIu64 "; bytes queued at the end: %" PRIu64
             ", packets: %" PRIu64 ".</p>\n",
             walk->bytes_in, walk->bytes_out, walk->bytes_in - walk->bytes_out, walk->state.bytes, walk->state.count);
     question(to, "Once a crowd has left, how long does the queue go on dropping?", "RecoveryByTarget",
-             "crates/guarantees/specs/RecoveryByTarget.antt");
+             "crates/ring_guarantees/specs/RecoveryByTarget.antt");
     fprintf(to, "at a target of %" PRIu64 " the theorem says at most %" PRIu64 " ticks on an empty queue. ", target,
             obikuteru_ticks_to_recover(target));
     if (walk->longest_fade > 0)

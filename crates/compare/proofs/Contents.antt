@@ -5,8 +5,8 @@ use mathlib.Core.List.{List}
 use Prim.Native.Nat.{ℕ, _+_, _*_, _-_, _≤_}
 use native.Mathlib.Omega.{arith}
 use lib.ListN.{drop, length, length-drop, length-take, take}
-use Rattle.codec.specs.Headers.{decodedHeader}
-use Rattle.codec.specs.declared.Header.{Header}
+use Rattle.log_codec.specs.Headers.{decodedHeader}
+use Rattle.log_codec.specs.declared.Header.{Header}
 use Rattle.log.specs.Layout.{recordsFrom}
 use Rattle.compare.specs.Compare.{Comparison, compareContents, compareRecords, notesDiffer, same, sameSettings, settingsDiffer}
 use Rattle.compare.specs.Values.{contentsAt}

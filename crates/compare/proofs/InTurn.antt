@@ -5,8 +5,8 @@ use mathlib.Core.List.{List, [], _∷_}
 use Prim.Native.Nat.{ℕ, zero, suc, _+_, _*_, _-_, _<_, _≤_}
 use native.Mathlib.Omega.{arith}
 use lib.ListN.{length}
-use Rattle.codec.specs.Records.{decoded}
-use Rattle.codec.specs.declared.Record.{Record}
+use Rattle.log_codec.specs.Records.{decoded}
+use Rattle.log_codec.specs.declared.Record.{Record}
 use Rattle.log.specs.Layout.{recordsFrom}
 use Rattle.compare.specs.Compare.{Comparison, compareRecords, equal, firstEnds, recordDiffers, sameRecord, secondEnds}
 

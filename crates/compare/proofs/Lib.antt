@@ -4,3 +4,4 @@ pub mod InTurn
 pub mod Contents
 pub mod Whole
 pub mod Fits
+pub mod Compares

@@ -5,7 +5,7 @@ use mathlib.Core.List.{List}
 use Prim.Native.Nat.{ℕ, _+_, _*_, _-_, _≤_}
 use native.Mathlib.Omega.{arith}
 use lib.ListN.{drop, length, take}
-use Rattle.codec.specs.Headers.{decodedHeader}
+use Rattle.log_codec.specs.Headers.{decodedHeader}
 use Rattle.log.specs.Answers.{Answer, given, refused}
 use Rattle.log.specs.Faults.{headerRefused}
 use Rattle.log.specs.Layout.{countIn, headerIn, noteIn, offsetIn, recordsFrom, recordsIn}

@@ -4,10 +4,10 @@ use mathlib.Core.List.{List, [], _∷_}
 use Prim.Native.Nat.{ℕ, _+_}
 use lib.Dec.{eqb}
 use lib.ListN.{length}
-use Rattle.codec.specs.Headers.{headerFields}
-use Rattle.codec.specs.Records.{fieldsOf}
-use Rattle.codec.specs.declared.Header.{Header}
-use Rattle.codec.specs.declared.Record.{Record}
+use Rattle.log_codec.specs.Headers.{headerFields}
+use Rattle.log_codec.specs.Records.{fieldsOf}
+use Rattle.log_codec.specs.declared.Header.{Header}
+use Rattle.log_codec.specs.declared.Record.{Record}
 use Rattle.log.specs.Answers.{Answer, given, refused}
 use Rattle.log.specs.Whole.{Contents, readWhole}
 

@@ -2,7 +2,7 @@
 use mathlib.Core.List.{List}
 use Prim.Native.Nat.{ℕ, _-_}
 use lib.ListN.{drop, take}
-use Rattle.codec.specs.Headers.{decodedHeader}
+use Rattle.log_codec.specs.Headers.{decodedHeader}
 use Rattle.log.specs.Answers.{refusalNumber}
 use Rattle.log.specs.Layout.{recordsFrom}
 use Rattle.log.specs.Whole.{Contents}

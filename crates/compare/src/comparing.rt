@@ -24,7 +24,7 @@ fn compare_records(first: &[u8], second: &[u8], offset: usize, count: u64, other
         if others <= number {
             return Compared::SecondEnds(number, count - number);
         }
-        let equal = same_record(codec::get(first, at), codec::get(second, at));
+        let equal = same_record(log_codec::get(first, at), log_codec::get(second, at));
         if !equal {
             return Compared::RecordDiffers(number);
         }
@@ -51,7 +51,10 @@ fn compare_whole(
     ensures { λ r. ⌜ comparisonOf r
         ≡ compareContents (contentsAt (now (first .entry)) offset count) (contentsAt (now (second .entry)) start others) ⌝ }
 {
-    let alike = same_settings(codec::get_header(first, 0), codec::get_header(second, 0));
+    let alike = same_settings(
+        log_codec::get_header(first, 0),
+        log_codec::get_header(second, 0),
+    );
     if !alike {
         return Compared::SettingsDiffer;
     }

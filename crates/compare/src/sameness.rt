@@ -1,6 +1,6 @@
 // Whether parts of two logs are the same.
-use codec::Header;
-use codec::Record;
+use log_codec::Header;
+use log_codec::Record;
 ghost use mathlib.Core.Path.{_≡_};
 ghost use Prim.Native.Nat.{_-_, _≤_};
 ghost use lib.ListN.{drop, length, take};

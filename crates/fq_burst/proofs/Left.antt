@@ -21,8 +21,8 @@ use Rattle.fq_rules.specs.Answer.{Answer, Reply, admits}
 use Rattle.fq_rules.specs.Answer as reads
 use Rattle.fq_rules.specs.Arrival.{arrivedCommon}
 use Rattle.fq_rules.specs.Departure.{departedCommon}
-use Rattle.fq_capi.specs.Codes.{commonAfter, deficitsAfter, flowsAfter, orderAfter, wordsOf}
-use Rattle.fq_capi.specs.Words.{commonOf, commonWords, lent, listsOf}
+use Rattle.fq_c.specs.Codes.{commonAfter, deficitsAfter, flowsAfter, orderAfter, wordsOf}
+use Rattle.fq_c.specs.Words.{commonOf, commonWords, lent, listsOf}
 use Rattle.fq_guarantees.specs.Acceptance.{acceptance}
 use Rattle.fq_guarantees.specs.Calls.{Call, arrive, depart, reply, update}
 use Rattle.fq_guarantees.specs.Kept.{Sound}

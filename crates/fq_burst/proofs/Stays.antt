@@ -18,7 +18,7 @@ use Rattle.fq_rules.specs.Answer.{Reply, verdict}
 use Rattle.fq_rules.specs.Arrival.{arrival, arrivedCommon, arrivedSchedule}
 use Rattle.fq_rules.specs.Departure.{departedCommon, departure}
 use Rattle.fq_rules.specs.Tick.{tick}
-use Rattle.fq_capi.specs.Words.{commonOf, commonWords, listsOf}
+use Rattle.fq_c.specs.Words.{commonOf, commonWords, listsOf}
 use Rattle.fq_guarantees.specs.Calls.{arrive, depart, update}
 use Rattle.fq_guarantees.proofs.Replies.{by-number}
 

@@ -16,8 +16,8 @@ use Rattle.fq_rules.specs.Answer.{Reply, flowIn, sizeIn}
 use Rattle.fq_rules.specs.Arrival.{arrival, arrivedHandles, arrivedSizes}
 use Rattle.fq_rules.specs.Departure.{departedSizes, departure, departureRefusals}
 use Rattle.fq_rules.specs.Tick.{tick}
-use Rattle.fq_capi.specs.Codes.{codeOf, commonAfter, deficitsAfter, flowsAfter, orderAfter}
-use Rattle.fq_capi.specs.Words.{lent}
+use Rattle.fq_c.specs.Codes.{codeOf, commonAfter, deficitsAfter, flowsAfter, orderAfter}
+use Rattle.fq_c.specs.Words.{lent}
 use Rattle.fq_guarantees.specs.Calls.{arrive, depart, update}
 use Rattle.fq_guarantees.proofs.OneFlow.{served-low}
 use Rattle.fq_guarantees.proofs.Replies.{by-number}

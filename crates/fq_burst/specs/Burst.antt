@@ -7,8 +7,8 @@ use Rattle.fq_rules.specs.Answer.{Answer, Reply, flowIn, handleIn, refused, siz
 use Rattle.fq_rules.specs.Arrival.{arrival, arrivedHandles, arrivedSizes}
 use Rattle.fq_rules.specs.Departure.{departedSizes, departure}
 use Rattle.fq_rules.specs.Tick.{tick}
-use Rattle.fq_capi.specs.Codes.{codeOf, commonAfter, deficitsAfter, flowsAfter, orderAfter}
-use Rattle.fq_capi.specs.Words.{lent}
+use Rattle.fq_c.specs.Codes.{codeOf, commonAfter, deficitsAfter, flowsAfter, orderAfter}
+use Rattle.fq_c.specs.Words.{lent}
 use Rattle.fq_burst.specs.Calls.{Asked, arrives, askedAt, departs, ticks, unknown}
 
 -- the parts of the record and the two tables, as a caller lends them

@@ -6,7 +6,7 @@ ghost use mathlib.Core.Path.{_≡_};
 ghost use Prim.Native.Nat.{_≤_};
 ghost use Rattle.pie.specs.Constants.{mostVerdicts};
 ghost use Rattle.pie.specs.Verdicts.{raised, total};
-ghost use Rattle.fq_capi.specs.Words.{commonOf, commonWords, listsOf};
+ghost use Rattle.fq_c.specs.Words.{commonOf, commonWords, listsOf};
 
 // After an arrival with this verdict.
 pub(crate) fn write_arrived(w: &mut [u64; 19], c: Common, l: Lists, v: Verdict)

@@ -20,17 +20,17 @@ use Rattle.pie.specs.declared.Verdict.{Verdict}
 use Rattle.pie.specs.declared.Verdict.the-variants.{DroppedBytes, DroppedSlots}
 use Rattle.pie.proofs.Ranges.{accumulated-lt}
 use Rattle.refusals.proofs.Fitting.{HeadFits}
-use Rattle.queue.specs.declared.State as ring-state
-use Rattle.queue.specs.Departure as ring-departure
-use Rattle.queue.specs.Tick as ring-tick
-use Rattle.queue.proofs.Facts as ring-facts
-use Rattle.queue.proofs.Kept.{departed-well-formed, ticked-well-formed}
+use Rattle.ring.specs.declared.State as ring-state
+use Rattle.ring.specs.Departure as ring-departure
+use Rattle.ring.specs.Tick as ring-tick
+use Rattle.ring.proofs.Facts as ring-facts
+use Rattle.ring.proofs.Kept.{departed-well-formed, ticked-well-formed}
 use Rattle.store.specs.Following.{followed, linkRefused}
 use Rattle.store.specs.Put.{endsAfterPut}
 use Rattle.store.specs.Take.{endsAfterTake}
 use Rattle.store.specs.Words.{linkAt}
 use Rattle.store.specs.declared.Ends.{Ends}
-use Rattle.words.proofs.Flags.{flag-says}
+use Rattle.ring_words.proofs.Flags.{flag-says}
 use Rattle.fq_state.specs.Flow.{backlogOf, endsOf, flowWith, pieOf}
 use Rattle.fq_state.specs.declared.Common.{Common}
 use Rattle.fq_state.specs.declared.Flow.{Flow}

@@ -26,6 +26,13 @@
 --   EarlyAtMostApart      Q-3: less than 8.5 is added while a flow has no early verdict
 --   MeasuredWhileQueued   Q-6: wherever a measurement of a flow runs, a packet of it is queued
 --   NeverGivenUp          Q-6: from fresh, a measurement ends before the flow empties, or as it does
+--
+-- From a fresh record, with everything handed back untouched, for every flow:
+--
+--   Handed            the record and both tables, handed back at each call, and what the calls admitted and handed out, by flow
+--   FirstInFirstOut   for each flow: admitted = departed, then queued, in order
+--   Conservation      for each flow, and for all together: bytes = bytes admitted − bytes departed; refusals 2 and 9 are never given
+--   Example           two flows, from a fresh record
 pub mod Calls
 pub mod Acceptance
 pub mod SixtyFour
@@ -52,3 +59,7 @@ pub mod EarlyAtLeastApart
 pub mod EarlyAtMostApart
 pub mod MeasuredWhileQueued
 pub mod NeverGivenUp
+pub mod Handed
+pub mod FirstInFirstOut
+pub mod Conservation
+pub mod Example

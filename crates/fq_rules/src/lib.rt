@@ -2,8 +2,8 @@
 // alone. A step is given what the flows have in common and where their lists stand, and is lent the lists, the deficits, the flows' words
 // and the tables.
 use fq_state::Common;
-use queue::ArrivalAnswer;
 use refusals::Accepted;
+use ring::ArrivalAnswer;
 use schedule::Lists;
 
 mod arriving;

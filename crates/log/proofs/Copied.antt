@@ -6,10 +6,10 @@ use native.Mathlib.Numerals.{add-one}
 use native.Mathlib.Omega.{arith}
 use lib.ListN.{getD, length, replicate, set, take}
 use lib.Seq.{sets, take-all, take-suc}
-use Rattle.codec.specs.Fields.{AreBytes}
-use Rattle.codec.specs.Records.{InRange, decoded, encoded}
-use Rattle.codec.specs.declared.Record.{Record}
-use Rattle.codec.proofs.RoundTrip.{reads-back, writes-back}
+use Rattle.log_codec.specs.Fields.{AreBytes}
+use Rattle.log_codec.specs.Records.{InRange, decoded, encoded}
+use Rattle.log_codec.specs.declared.Record.{Record}
+use Rattle.log_codec.proofs.RoundTrip.{reads-back, writes-back}
 use Rattle.log.specs.Layout.{trailerOf}
 use Rattle.log.specs.Writer.{added}
 use Rattle.log.specs.declared.Writer.{Writer}

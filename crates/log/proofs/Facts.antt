@@ -9,7 +9,7 @@ use borrow.Author.Tests.{eqb-true, leb-false, leb-true, ltb-false, not-false}
 use Rattle.laws.proofs.Tests.{or-neither}
 use Rattle.laws.specs.Tests.{all}
 use Rattle.laws.proofs.TestLists.{all-at}
-use Rattle.codec.specs.Numbers.{numberOf}
+use Rattle.log_codec.specs.Numbers.{numberOf}
 use Rattle.log.specs.Layout.{countIn, lengthOf, letters, lettersIn, offsetIn, sizeIn}
 use Rattle.log.specs.Reader.{trailerConditions, trailerRefused}
 use Rattle.log.specs.Writer.{writerConditions}

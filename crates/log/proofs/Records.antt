@@ -4,7 +4,7 @@ use mathlib.Core.List.{List, _∷_}
 use Prim.Native.Nat.{ℕ, zero, suc, _+_, _-_, _<_}
 use native.Mathlib.Omega.{arith}
 use lib.ListN.{length, length-drop, length-take}
-use Rattle.codec.specs.Records.{decoded}
+use Rattle.log_codec.specs.Records.{decoded}
 use Rattle.log.specs.Layout.{noteIn, offsetIn, recordsFrom}
 use Rattle.log.proofs.Facts.{Sound}
 

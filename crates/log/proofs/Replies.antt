@@ -6,8 +6,8 @@ use Prim.Native.Nat.{ℕ, _+_}
 use lib.Dec.{leb, ltb}
 use lib.ListN.{length}
 use Rattle.laws.specs.Tests.{all}
-use Rattle.codec.specs.declared.Header.{Header}
-use Rattle.codec.specs.declared.Record.{Record}
+use Rattle.log_codec.specs.declared.Header.{Header}
+use Rattle.log_codec.specs.declared.Record.{Record}
 use Rattle.log.specs.Faults.{faulty, headerRefused}
 use Rattle.log.specs.Layout.{lengthOf}
 use Rattle.log.specs.Writer.{Reply, add, addRefusal, added, begin, beginRefusal, begun, writerConditions, zeroWriter}

@@ -6,13 +6,13 @@ use native.Mathlib.Numerals.{add-one}
 use native.Mathlib.Omega.{arith}
 use lib.ListN.{getD, length, length-append, set, take}
 use lib.Seq.{length-sets, length-take-le, sets, take-suc}
-use Rattle.codec.specs.Headers.{encodedHeader}
-use Rattle.codec.specs.Numbers.{bytesOf}
-use Rattle.codec.specs.Records.{encoded}
-use Rattle.codec.specs.declared.Header.{Header}
-use Rattle.codec.specs.declared.Record.{Record}
-use Rattle.codec.proofs.Stores.{after, sets-sets}
-use Rattle.codec.proofs.RoundTrip.{length-encoded, length-header}
+use Rattle.log_codec.specs.Headers.{encodedHeader}
+use Rattle.log_codec.specs.Numbers.{bytesOf}
+use Rattle.log_codec.specs.Records.{encoded}
+use Rattle.log_codec.specs.declared.Header.{Header}
+use Rattle.log_codec.specs.declared.Record.{Record}
+use Rattle.log_codec.proofs.Stores.{after, sets-sets}
+use Rattle.log_codec.proofs.RoundTrip.{length-encoded, length-header}
 use Rattle.log.specs.Layout.{trailerOf}
 use Rattle.log.specs.Writer.{added, begun}
 use Rattle.log.specs.declared.Writer.{Writer}

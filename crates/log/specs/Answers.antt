@@ -1,7 +1,7 @@
 -- What a call on a log answers, in document 02's numbers.
 use Prim.Native.Nat.{ℕ}
-use Rattle.codec.specs.declared.Header.{Header}
-use Rattle.codec.specs.declared.Record.{Record}
+use Rattle.log_codec.specs.declared.Header.{Header}
+use Rattle.log_codec.specs.declared.Record.{Record}
 use Rattle.log.specs.declared.Accepted.{Accepted}
 use Rattle.log.specs.declared.Accepted.the-variants.{Yes, No}
 use Rattle.log.specs.declared.Checked.{Checked}

@@ -5,11 +5,11 @@ use Prim.Native.Nat.{ℕ}
 use lib.Dec.{eqb, leb}
 use Rattle.units.specs.Kinds.{whole}
 use Rattle.pie.specs.Constants.{largest, latest}
-use Rattle.queue.specs.Fresh.{settingsOf}
-use Rattle.queue.specs.Refusals.{settingsRefused}
+use Rattle.ring.specs.Fresh.{settingsOf}
+use Rattle.ring.specs.Refusals.{settingsRefused}
 use Rattle.laws.specs.Tests.{all}
-use Rattle.codec.specs.declared.Header.{Header}
-use Rattle.codec.specs.declared.Record.{Record}
+use Rattle.log_codec.specs.declared.Header.{Header}
+use Rattle.log_codec.specs.declared.Record.{Record}
 
 -- 12: settings that refusal 1 would meet, or an unused byte set
 unfoldable pub headerRefused : Header → Bool

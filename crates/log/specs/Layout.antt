@@ -2,11 +2,11 @@
 use mathlib.Core.List.{List, [], _∷_, _++_}
 use Prim.Native.Nat.{ℕ, zero, suc, _+_, _*_, _-_}
 use lib.ListN.{length, take, drop}
-use Rattle.codec.specs.Headers.{decodedHeader}
-use Rattle.codec.specs.Numbers.{bytesOf, numberOf}
-use Rattle.codec.specs.Records.{decoded}
-use Rattle.codec.specs.declared.Header.{Header}
-use Rattle.codec.specs.declared.Record.{Record}
+use Rattle.log_codec.specs.Headers.{decodedHeader}
+use Rattle.log_codec.specs.Numbers.{bytesOf, numberOf}
+use Rattle.log_codec.specs.Records.{decoded}
+use Rattle.log_codec.specs.declared.Header.{Header}
+use Rattle.log_codec.specs.declared.Record.{Record}
 
 -- the four letters QLOG
 abbrev pub letters : List ℕ

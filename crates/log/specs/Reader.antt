@@ -6,8 +6,8 @@ use lib.Dec.{eqb, leb}
 use lib.ListN.{length}
 use denote.Ref.{RefT, now}
 use Rattle.laws.specs.Tests.{all}
-use Rattle.codec.specs.Numbers.{numberOf}
-use Rattle.codec.specs.declared.Header.{Header}
+use Rattle.log_codec.specs.Numbers.{numberOf}
+use Rattle.log_codec.specs.declared.Header.{Header}
 use Rattle.log.specs.Answers.{Answer, Turn, end, given, handed, refused}
 use Rattle.log.specs.Faults.{faulty, headerRefused}
 use Rattle.log.specs.Layout.{countIn, headerIn, lengthOf, letters, lettersIn, noteIn, offsetIn, recordIn, sizeIn}

@@ -7,10 +7,10 @@ use lib.ListN.{length}
 use lib.Seq.{sets}
 use Rattle.refusals.specs.Rows.{firstRefusal}
 use Rattle.laws.specs.Tests.{all}
-use Rattle.codec.specs.Headers.{encodedHeader}
-use Rattle.codec.specs.Records.{encoded}
-use Rattle.codec.specs.declared.Header.{Header}
-use Rattle.codec.specs.declared.Record.{Record}
+use Rattle.log_codec.specs.Headers.{encodedHeader}
+use Rattle.log_codec.specs.Records.{encoded}
+use Rattle.log_codec.specs.declared.Header.{Header}
+use Rattle.log_codec.specs.declared.Record.{Record}
 use Rattle.log.specs.Answers.{refusalIn}
 use Rattle.log.specs.Faults.{faulty, headerRefused}
 use Rattle.log.specs.Layout.{lengthOf, trailerOf}

@@ -3,7 +3,7 @@ ghost use mathlib.Core.Path.{_≡_};
 ghost use Prim.Native.Nat.{_+_, _≤_};
 ghost use lib.ListN.{length};
 ghost use lib.Seq.{sets};
-ghost use Rattle.codec.specs.Fields.{AreBytes};
+ghost use Rattle.log_codec.specs.Fields.{AreBytes};
 
 // What 40 bytes are known to be.
 pub(crate) fn forty(b: [u8; 40])

@@ -1,8 +1,8 @@
 // The tests of settings and of one record. They are joined without jumps.
-use codec::Header;
-use codec::Record;
+use log_codec::Header;
+use log_codec::Record;
 use pie::LATEST;
-use queue::Settings;
+use ring::Settings;
 use units::Bytes;
 use units::Micros;
 use units::Prob;

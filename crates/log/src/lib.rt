@@ -1,6 +1,6 @@
 // A log of accepted calls over lent bytes: a writer and a reader.
-use codec::Header;
-use codec::Record;
+use log_codec::Header;
+use log_codec::Record;
 
 mod copying;
 mod faults;

@@ -16,10 +16,10 @@ pub fn trailer_refused(log: &[u8]) -> bool
     if short {
         return true;
     }
-    let offset = codec::get4(log, n - 16) as u64;
-    let count = codec::get4(log, n - 12) as u64;
-    let size = codec::get4(log, n - 8);
-    let letters = codec::get4(log, n - 4);
+    let offset = log_codec::get4(log, n - 16) as u64;
+    let count = log_codec::get4(log, n - 12) as u64;
+    let size = log_codec::get4(log, n - 8);
+    let letters = log_codec::get4(log, n - 4);
     !((32 <= offset)
         & (offset <= 4_128)
         & (size == 40)
@@ -35,18 +35,18 @@ pub fn read_at(log: &[u8], place: u64) -> Step
     if bad {
         return Step::Refused(Refusal::Trailer);
     }
-    let wrong = header_refused(codec::get_header(log, 0));
+    let wrong = header_refused(log_codec::get_header(log, 0));
     if wrong {
         return Step::Refused(Refusal::Settings);
     }
     let n = log.len();
-    let offset = codec::get4(log, n - 16) as u64;
-    let count = codec::get4(log, n - 12) as u64;
+    let offset = log_codec::get4(log, n - 16) as u64;
+    let count = log_codec::get4(log, n - 12) as u64;
     let past = count <= place;
     if past {
         return Step::End;
     }
-    let record = codec::get(log, (offset + 40 * place) as usize);
+    let record = log_codec::get(log, (offset + 40 * place) as usize);
     let fault = faulty(record);
     if fault {
         return Step::Refused(Refusal::Fault);
@@ -73,7 +73,7 @@ pub fn settings(log: &[u8]) -> Opened
     if bad {
         return Opened::Refused(Refusal::Trailer);
     }
-    let h = codec::get_header(log, 0);
+    let h = log_codec::get_header(log, 0);
     let wrong = header_refused(h);
     if wrong {
         return Opened::Refused(Refusal::Settings);
@@ -89,11 +89,11 @@ pub fn note<'a>(log: &'a [u8]) -> &'a [u8]
     if bad {
         return &log[0..0];
     }
-    let wrong = header_refused(codec::get_header(log, 0));
+    let wrong = header_refused(log_codec::get_header(log, 0));
     if wrong {
         return &log[0..0];
     }
     let n = log.len();
-    let offset = codec::get4(log, n - 16) as usize;
+    let offset = log_codec::get4(log, n - 16) as usize;
     &log[32..offset]
 }

@@ -19,7 +19,7 @@ fn any_faulty(log: &[u8], offset: usize, count: usize) -> bool
     let mut at = offset;
     let mut left = count;
     while 0 < left {
-        let fault = faulty(codec::get(log, at));
+        let fault = faulty(log_codec::get(log, at));
         if fault {
             return true;
         }
@@ -36,13 +36,13 @@ pub fn check(log: &[u8]) -> Checked
     if bad {
         return Checked::Refused(Refusal::Trailer);
     }
-    let wrong = header_refused(codec::get_header(log, 0));
+    let wrong = header_refused(log_codec::get_header(log, 0));
     if wrong {
         return Checked::Refused(Refusal::Settings);
     }
     let n = log.len();
-    let offset = codec::get4(log, n - 16);
-    let count = codec::get4(log, n - 12);
+    let offset = log_codec::get4(log, n - 16);
+    let count = log_codec::get4(log, n - 12);
     let fault = any_faulty(log, offset as usize, count as usize);
     if fault {
         return Checked::Refused(Refusal::Fault);

@@ -7,13 +7,13 @@ use crate::copying::copy;
 use crate::copying::forty;
 use crate::faults::faulty;
 use crate::faults::header_refused;
-use codec::Header;
-use codec::Record;
+use log_codec::Header;
+use log_codec::Record;
 ghost use mathlib.Core.Path.{_≡_};
 ghost use Prim.Native.Nat.{_+_, _*_, _≤_, _<_};
 ghost use lib.ListN.{length};
 ghost use lib.Seq.{sets};
-ghost use Rattle.codec.specs.Records.{decoded};
+ghost use Rattle.log_codec.specs.Records.{decoded};
 ghost use Rattle.log.specs.Layout.{trailerOf};
 ghost use Rattle.log.specs.declared.Accepted.the-variants.{No};
 ghost use Rattle.log.specs.Writer.{add as addBy, added, begin as beginBy, begun, replyOf};
@@ -35,10 +35,10 @@ fn put_trailer(offset: u32, count: u32, bytes: &mut [u8], at: usize)
     requires { ⌜ at + 16 ≤ length (now bytes) ⌝ }
     ensures { λ _. ⌜ now (bytes .exit) ≡ sets (now (bytes .entry)) at (trailerOf offset count) ⌝ }
 {
-    codec::put4(offset, bytes, at);
-    codec::put4(count, bytes, at + 4);
-    codec::put4(40, bytes, at + 8);
-    codec::put4(1_196_379_217, bytes, at + 12);
+    log_codec::put4(offset, bytes, at);
+    log_codec::put4(count, bytes, at + 4);
+    log_codec::put4(40, bytes, at + 8);
+    log_codec::put4(1_196_379_217, bytes, at + 12);
 }
 
 fn put_beginning(h: Header, note: &[u8], bytes: &mut [u8])
@@ -46,7 +46,7 @@ fn put_beginning(h: Header, note: &[u8], bytes: &mut [u8])
     ensures { λ _. ⌜ now (bytes .exit) ≡ begun h (now (note .entry)) (now (bytes .entry)) ⌝ }
 {
     let n = note.len();
-    codec::put_header(h, bytes, 0);
+    log_codec::put_header(h, bytes, 0);
     put_note(note, bytes);
     put_trailer((32 + n) as u32, 0, bytes, 32 + n);
 }
@@ -105,7 +105,7 @@ pub fn add_call(w: Writer, call: &[u8; 40], bytes: &mut [u8]) -> Written
     ensures { λ a. ⌜ replyOf a (now (bytes .exit)) ≡ addBy w (decoded (now (call .entry)) 0) (now (bytes .entry)) ⌝ }
 {
     forty(*call);
-    let r = codec::get(call, 0);
+    let r = log_codec::get(call, 0);
     let offset = w.offset as u64;
     let count = w.count as u64;
     let length = bytes.len() as u64;
@@ -138,6 +138,6 @@ pub fn add(w: Writer, r: Record, bytes: &mut [u8]) -> Written
     ensures { λ a. ⌜ replyOf a (now (bytes .exit)) ≡ addBy w r (now (bytes .entry)) ⌝ }
 {
     let mut call = [0; 40];
-    codec::put(r, &mut call, 0);
+    log_codec::put(r, &mut call, 0);
     add_call(w, &call, bytes)
 }

@@ -7,9 +7,9 @@ use native.Mathlib.Omega.{arith}
 use lib.Dec.{eqb}
 use lib.ListN.{drop, length, take}
 use lib.Seq.{drop-at, sets, sets-eq, take-at}
-use Rattle.codec.specs.Records.{InRange}
-use Rattle.codec.specs.declared.Header.{Header}
-use Rattle.codec.specs.declared.Record.{Record}
+use Rattle.log_codec.specs.Records.{InRange}
+use Rattle.log_codec.specs.declared.Header.{Header}
+use Rattle.log_codec.specs.declared.Record.{Record}
 use Rattle.log.specs.Layout.{lengthOf}
 use Rattle.log.specs.Whole.{readWhole}
 use Rattle.log.specs.Writer.{add}

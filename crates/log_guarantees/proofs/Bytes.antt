@@ -10,18 +10,18 @@ use lib.Seq.{drop-at, drop-drop, take-at}
 use borrow.Author.Tests.{eq-eqb, eqb-true, le-leb, leb-true, not-false}
 use Rattle.laws.proofs.Tests.{and-left, and-right, or-neither}
 use Rattle.pie.specs.Constants.{latest}
-use Rattle.queue.specs.Fresh.{settingsOf}
-use Rattle.queue.specs.Refusals.{settingsRefused}
+use Rattle.ring.specs.Fresh.{settingsOf}
+use Rattle.ring.specs.Refusals.{settingsRefused}
 use Rattle.laws.specs.Tests.{all}
-use Rattle.queue.specs.State.{settingsConditions}
+use Rattle.ring.specs.State.{settingsConditions}
 use Rattle.laws.proofs.TestLists.{all-at}
-use Rattle.codec.specs.Headers.{HeaderInRange, encodedHeader}
-use Rattle.codec.specs.Numbers.{numberOf}
-use Rattle.codec.specs.Records.{encoded}
-use Rattle.codec.specs.declared.Header.{Header}
-use Rattle.codec.specs.declared.Record.{Record}
-use Rattle.codec.proofs.BytesOf.{number-bytes}
-use Rattle.codec.proofs.RoundTrip.{decoded-encoded, decoded-header, length-encoded, length-header}
+use Rattle.log_codec.specs.Headers.{HeaderInRange, encodedHeader}
+use Rattle.log_codec.specs.Numbers.{numberOf}
+use Rattle.log_codec.specs.Records.{encoded}
+use Rattle.log_codec.specs.declared.Header.{Header}
+use Rattle.log_codec.specs.declared.Record.{Record}
+use Rattle.log_codec.proofs.BytesOf.{number-bytes}
+use Rattle.log_codec.proofs.RoundTrip.{decoded-encoded, decoded-header, length-encoded, length-header}
 use Rattle.log.specs.Faults.{headerRefused}
 use Rattle.log.specs.Layout.{countIn, headerIn, letters, lettersIn, noteIn, offsetIn, recordsFrom, recordsIn, sizeIn, trailerOf}
 use Rattle.log.specs.Reader.{trailerRefused}

@@ -7,7 +7,7 @@ use native.Mathlib.Omega.{arith}
 use lib.ListN.{length}
 use borrow.Author.Tests.{le-leb, lt-leb}
 use Rattle.laws.proofs.Tests.{or-neither}
-use Rattle.codec.specs.Records.{decoded}
+use Rattle.log_codec.specs.Records.{decoded}
 use Rattle.log.specs.Answers.{Answer, Turn, end, given, handed}
 use Rattle.log.specs.Faults.{faulty, headerRefused}
 use Rattle.log.specs.Layout.{countIn, headerIn, noteIn, offsetIn, recordIn, recordsFrom, recordsIn}

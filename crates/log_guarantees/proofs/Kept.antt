@@ -10,12 +10,12 @@ use lib.Seq.{length-sets, sets}
 use borrow.Author.Tests.{ltb-false, ne-eqb}
 use Rattle.laws.proofs.Tests.{or-neither}
 use Rattle.refusals.proofs.Ordered.{none-refuses}
-use Rattle.codec.specs.Headers.{encodedHeader}
-use Rattle.codec.specs.Records.{encoded}
-use Rattle.codec.specs.declared.Header.{Header}
-use Rattle.codec.specs.declared.Record.{Record}
-use Rattle.codec.proofs.RoundTrip.{length-encoded}
-use Rattle.codec.proofs.Stores.{sets-sets}
+use Rattle.log_codec.specs.Headers.{encodedHeader}
+use Rattle.log_codec.specs.Records.{encoded}
+use Rattle.log_codec.specs.declared.Header.{Header}
+use Rattle.log_codec.specs.declared.Record.{Record}
+use Rattle.log_codec.proofs.RoundTrip.{length-encoded}
+use Rattle.log_codec.proofs.Stores.{sets-sets}
 use Rattle.log.specs.Faults.{faulty, headerRefused}
 use Rattle.log.specs.Layout.{trailerOf}
 use Rattle.log.specs.Whole.{anyFaulty}

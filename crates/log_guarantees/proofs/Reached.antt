@@ -9,10 +9,10 @@ use lib.ListN.{length, length-replicate, replicate}
 use lib.Seq.{length-sets}
 use borrow.Author.Tests.{le-leb, le-ltb, lt-leb}
 use Rattle.laws.specs.Tests.{all}
-use Rattle.codec.specs.Headers.{encodedHeader}
-use Rattle.codec.specs.Records.{encoded}
-use Rattle.codec.specs.declared.Header.{Header}
-use Rattle.codec.specs.declared.Record.{Record}
+use Rattle.log_codec.specs.Headers.{encodedHeader}
+use Rattle.log_codec.specs.Records.{encoded}
+use Rattle.log_codec.specs.declared.Header.{Header}
+use Rattle.log_codec.specs.declared.Record.{Record}
 use Rattle.log.specs.Faults.{faulty, headerRefused}
 use Rattle.log.specs.Layout.{lengthOf, trailerOf}
 use Rattle.log.specs.Writer.{Reply, add, added, begin, begun, writerConditions}

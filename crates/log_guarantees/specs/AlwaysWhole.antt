@@ -4,10 +4,10 @@ use mathlib.Core.Path.{_≡_}
 use mathlib.Core.List.{List, [], _∷_, _++_}
 use Prim.Native.Nat.{ℕ, _+_}
 use lib.ListN.{drop, length}
-use Rattle.codec.specs.Headers.{encodedHeader}
-use Rattle.codec.specs.Records.{encoded}
-use Rattle.codec.specs.declared.Header.{Header}
-use Rattle.codec.specs.declared.Record.{Record}
+use Rattle.log_codec.specs.Headers.{encodedHeader}
+use Rattle.log_codec.specs.Records.{encoded}
+use Rattle.log_codec.specs.declared.Header.{Header}
+use Rattle.log_codec.specs.declared.Record.{Record}
 use Rattle.log.specs.Answers.{given}
 use Rattle.log.specs.Layout.{lengthOf, trailerOf}
 use Rattle.log.specs.Whole.{readWhole}

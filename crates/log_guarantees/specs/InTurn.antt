@@ -3,7 +3,7 @@ use mathlib.Core.Path.{_≡_}
 use mathlib.Core.List.{List, [], _∷_, _++_}
 use Prim.Native.Nat.{ℕ, zero, suc, _+_}
 use lib.ListN.{length}
-use Rattle.codec.specs.declared.Record.{Record}
+use Rattle.log_codec.specs.declared.Record.{Record}
 use Rattle.log.specs.Answers.{Answer, Turn, end, given, handed}
 use Rattle.log.specs.Reader.{noteOf, placeAfter, readAt, settingsOf}
 use Rattle.log.specs.Whole.{Contents, readWhole}

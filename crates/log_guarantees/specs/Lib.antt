@@ -6,7 +6,7 @@
 --   Refused      a refused call changes nothing: neither the writer's state nor its bytes, nor the reader's place
 --   Reached      11 refuses exactly the states that no run reaches in bytes of that length
 --
--- That a record and its 40 bytes determine each other is crate codec's RoundTrip.
+-- That a record and its 40 bytes determine each other is crate log_codec's RoundTrip.
 -- That the library's calls give these replies, answers and bytes is promised by the functions themselves (crate log).
 pub mod Run
 pub mod InTurn

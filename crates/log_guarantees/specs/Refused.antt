@@ -3,8 +3,8 @@ use mathlib.Core.Path.{_≡_}
 use mathlib.Core.Logic.{_≢_}
 use mathlib.Core.List.{List}
 use Prim.Native.Nat.{ℕ}
-use Rattle.codec.specs.declared.Header.{Header}
-use Rattle.codec.specs.declared.Record.{Record}
+use Rattle.log_codec.specs.declared.Header.{Header}
+use Rattle.log_codec.specs.declared.Record.{Record}
 use Rattle.log.specs.Answers.{end, given, refused}
 use Rattle.log.specs.Reader.{placeAfter, readAt}
 use Rattle.log.specs.Writer.{add, begin, zeroWriter}

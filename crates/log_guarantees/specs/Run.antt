@@ -4,9 +4,9 @@ use mathlib.Core.List.{List, [], _∷_, _++_, foldl}
 use Prim.Native.Nat.{ℕ}
 use lib.Dec.{eqb}
 use lib.ListN.{take}
-use Rattle.codec.specs.Records.{InRange}
-use Rattle.codec.specs.declared.Header.{Header}
-use Rattle.codec.specs.declared.Record.{Record}
+use Rattle.log_codec.specs.Records.{InRange}
+use Rattle.log_codec.specs.declared.Header.{Header}
+use Rattle.log_codec.specs.declared.Record.{Record}
 use Rattle.log.specs.Layout.{lengthOf}
 use Rattle.log.specs.Writer.{add, begin}
 use Rattle.log.specs.declared.Writer.{Writer}

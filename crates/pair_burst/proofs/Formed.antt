@@ -21,22 +21,22 @@ use Rattle.store.specs.Put.{freePlace, storeAfterPut}
 use Rattle.store.specs.Take.{storeAfterTake}
 use Rattle.store.specs.Words.{linkAt}
 use Rattle.store.specs.declared.Store.{Store}
-use Rattle.guarantees.specs.Handed.{Request, askArrival, askDeparture, askTick}
-use Rattle.pair_state.specs.Answer.{Reply}
-use Rattle.pair_state.specs.Queues.{commonSlots, commonUse, other, own, paired, storing}
-use Rattle.pair_state.specs.WellFormed.{wellFormed}
-use Rattle.pair_state.specs.declared.Pair.{Pair}
-use Rattle.pair_state.specs.declared.State.{State}
-use Rattle.pair_state.specs.declared.Which.{Which}
-use Rattle.pair_state.proofs.Facts.{Facts, QueueFits, facts}
+use Rattle.ring_guarantees.specs.Handed.{Request, askArrival, askDeparture, askTick}
+use Rattle.pair_rules.specs.Answer.{Reply}
+use Rattle.pair_rules.specs.Queues.{commonSlots, commonUse, other, own, paired, storing}
+use Rattle.pair_rules.specs.WellFormed.{wellFormed}
+use Rattle.pair_rules.specs.declared.Pair.{Pair}
+use Rattle.pair_rules.specs.declared.State.{State}
+use Rattle.pair_rules.specs.declared.Which.{Which}
+use Rattle.pair_rules.proofs.Facts.{Facts, QueueFits, facts}
 use Rattle.pair_rules.specs.Answer.{unlessRefused}
 use Rattle.pair_rules.specs.Arrival.{arrival, arrivalRefusal, arrivalRefusals, arrivedState, arrivedStore, verdictOf}
 use Rattle.pair_rules.specs.Departure.{departedState, departure, departureRefusal, departureRefusals, headSize}
 use Rattle.pair_rules.specs.Tick.{tick, tickRefusal, tickRefusals, tickedState}
 use Rattle.pair_rules.proofs.Kept.{arrived-fits, departed-fits, ticked-fits}
 use Rattle.pair_rules.proofs.WhenAccepted.{admitted-room}
-use Rattle.pair_isolation.specs.Handed.{Queues, replyTo}
-use Rattle.pair_isolation.proofs.Kept.{changed-formed, held-total, no-more, own-fits, room}
+use Rattle.pair_guarantees.specs.Handed.{Queues, replyTo}
+use Rattle.pair_guarantees.proofs.Kept.{changed-formed, held-total, no-more, own-fits, room}
 
 abbrev Formed : Reply → Type 0
 Formed r = wellFormed (r .pair) ≡ true

@@ -5,18 +5,18 @@ use Prim.Native.Nat.{ℕ}
 use lib.Dec.{leb}
 use lib.ListN.{length, length-set, set}
 use Rattle.laws.proofs.Choice.{at-cond}
-use Rattle.queue.specs.Answer.{Answer, admits}
-use Rattle.guarantees.specs.Handed.{Request, askArrival, askDeparture, askTick}
+use Rattle.ring.specs.Answer.{Answer, admits}
+use Rattle.ring_guarantees.specs.Handed.{Request, askArrival, askDeparture, askTick}
 use Rattle.store.specs.Put.{freePlace, linked, sizesAfterPut}
 use Rattle.store.specs.declared.Ends.{Ends}
-use Rattle.pair_state.specs.Queues.{own}
-use Rattle.pair_state.specs.declared.Pair.{Pair}
-use Rattle.pair_state.specs.declared.Which.{Which}
-use Rattle.pair_state.specs.declared.Which.the-variants.{Intercom, Passengers}
+use Rattle.pair_rules.specs.Queues.{own}
+use Rattle.pair_rules.specs.declared.Pair.{Pair}
+use Rattle.pair_rules.specs.declared.Which.{Which}
+use Rattle.pair_rules.specs.declared.Which.the-variants.{Intercom, Passengers}
 use Rattle.pair_rules.specs.Answer.{departs}
 use Rattle.pair_rules.specs.Arrival.{arrivedHandles, arrivedSizes}
 use Rattle.pair_rules.specs.Departure.{departedSizes}
-use Rattle.pair_isolation.specs.Handed.{replyTo}
+use Rattle.pair_guarantees.specs.Handed.{replyTo}
 use Rattle.pair_burst.specs.Calls.{Call, asked, unknown}
 use Rattle.pair_burst.specs.Burst.{Lent, after, lent, queuesOf}
 

@@ -9,24 +9,24 @@ use lib.ListN.{getD, length}
 use Rattle.pie.specs.Verdicts.{raised, total}
 use Rattle.pie.proofs.Counts.{length-raised, total-raised}
 use Rattle.pie.specs.declared.Verdict.{Verdict}
-use Rattle.queue.specs.Answer.{departed, ticked, verdict}
-use Rattle.guarantees.specs.Handed.{Request, askArrival, askDeparture, askTick}
-use Rattle.pair_state.specs.Answer.{Reply}
-use Rattle.pair_state.specs.Queues.{other, own, paired}
-use Rattle.pair_state.specs.WellFormed.{wellFormed}
-use Rattle.pair_state.specs.declared.Pair.{Pair}
-use Rattle.pair_state.specs.declared.Shared.{Shared}
-use Rattle.pair_state.specs.declared.State.{State}
-use Rattle.pair_state.specs.declared.Which.{Which}
-use Rattle.pair_state.specs.declared.Which.the-variants.{Intercom, Passengers}
+use Rattle.ring.specs.Answer.{departed, ticked, verdict}
+use Rattle.ring_guarantees.specs.Handed.{Request, askArrival, askDeparture, askTick}
+use Rattle.pair_rules.specs.Answer.{Reply}
+use Rattle.pair_rules.specs.Queues.{other, own, paired}
+use Rattle.pair_rules.specs.WellFormed.{wellFormed}
+use Rattle.pair_rules.specs.declared.Pair.{Pair}
+use Rattle.pair_rules.specs.declared.Shared.{Shared}
+use Rattle.pair_rules.specs.declared.State.{State}
+use Rattle.pair_rules.specs.declared.Which.{Which}
+use Rattle.pair_rules.specs.declared.Which.the-variants.{Intercom, Passengers}
 use Rattle.pair_rules.specs.Answer.{unlessRefused}
 use Rattle.pair_rules.specs.Arrival.{arrival, arrivalRefusal, arrivedState, arrivedStore, verdictOf}
 use Rattle.pair_rules.specs.Departure.{departedState, departure, departureRefusal}
 use Rattle.pair_rules.specs.Tick.{tick, tickRefusal, tickedState}
-use Rattle.pair_isolation.specs.Handed.{Queues, replyTo, returned}
+use Rattle.pair_guarantees.specs.Handed.{Queues, replyTo, returned}
 use Rattle.pair_words.specs.After.{ownAfter, sharedAfter}
-use Rattle.words.proofs.Flags.{flag-says}
-use Rattle.words.proofs.Written.{written-out}
+use Rattle.ring_words.proofs.Flags.{flag-says}
+use Rattle.ring_words.proofs.Written.{written-out}
 use Rattle.pair_words.specs.Words.{sharedOf, sharedWords, stateOf, stateWords}
 use Rattle.pair_burst.specs.Calls.{Call, asked, unknown}
 use Rattle.pair_burst.specs.Burst.{Lent, after, lent, otherWords, ownWords, queuesOf, sharedLeft}

@@ -8,8 +8,8 @@ use lib.Dec.{eqb, ltb}
 use lib.ListN.{getD, length}
 use borrow.Author.Tests.{eq-eqb, eqb-true, le-ltb, lt-ltb, ltb-false, ltb-true}
 use Rattle.bursts.specs.Numbers.{clockAt}
-use Rattle.pair_state.specs.WellFormed.{wellFormed}
-use Rattle.pair_state.specs.declared.Pair.{Pair}
+use Rattle.pair_rules.specs.WellFormed.{wellFormed}
+use Rattle.pair_rules.specs.declared.Pair.{Pair}
 use Rattle.pair_rules.specs.Arrival.{arrival}
 use Rattle.pair_rules.specs.Departure.{departure}
 use Rattle.pair_rules.specs.Refusals.{tablesRefused}

@@ -9,18 +9,18 @@ use lib.ListN.{getD, length}
 use Rattle.bursts.specs.Numbers.{clockAt}
 use Rattle.bursts.proofs.Answers.{first-low}
 use Rattle.bursts.proofs.Steps.{Step}
-use Rattle.queue.specs.Answer.{Answer, departed, handleIn, refused, sizeIn, ticked, verdict}
-use Rattle.guarantees.specs.Handed.{Request}
-use Rattle.pair_state.specs.Answer.{Reply}
-use Rattle.pair_state.specs.Queues.{own}
-use Rattle.pair_state.specs.declared.Pair.{Pair}
-use Rattle.pair_state.specs.declared.Which.{Which}
-use Rattle.pair_state.specs.declared.Which.the-variants.{Intercom, Passengers}
+use Rattle.ring.specs.Answer.{Answer, departed, handleIn, refused, sizeIn, ticked, verdict}
+use Rattle.ring_guarantees.specs.Handed.{Request}
+use Rattle.pair_rules.specs.Answer.{Reply}
+use Rattle.pair_rules.specs.Queues.{own}
+use Rattle.pair_rules.specs.declared.Pair.{Pair}
+use Rattle.pair_rules.specs.declared.Which.{Which}
+use Rattle.pair_rules.specs.declared.Which.the-variants.{Intercom, Passengers}
 use Rattle.pair_rules.specs.Answer.{unlessRefused}
 use Rattle.pair_rules.specs.Arrival.{arrival, arrivalRefusal, arrivedHandles, arrivedSizes}
 use Rattle.pair_rules.specs.Departure.{departedSizes, departure, departureRefusal, departureRefusals, headHandle, headSize}
 use Rattle.pair_rules.specs.Tick.{tick, tickRefusal}
-use Rattle.words.specs.Codes.{codeOf}
+use Rattle.ring_words.specs.Codes.{codeOf}
 use Rattle.pair_words.specs.After.{ownAfter, sharedAfter}
 use Rattle.pair_words.specs.Words.{pairOf, whichOf}
 use Rattle.pair_burst.specs.Calls.{asked, callAt, requestAt}

@@ -4,12 +4,12 @@ use mathlib.Core.List.{List}
 use Prim.Native.Nat.{ℕ}
 use Rattle.bursts.specs.Answers.{answerWord}
 use Rattle.bursts.specs.Kind.{BurstKind}
-use Rattle.queue.specs.Answer.{Answer, refused}
-use Rattle.guarantees.specs.Handed.{Request, askArrival, askDeparture, askTick}
-use Rattle.pair_state.specs.Answer.{Reply}
-use Rattle.pair_state.specs.declared.Which.{Which}
-use Rattle.pair_state.specs.declared.Which.the-variants.{Intercom, Passengers}
-use Rattle.pair_isolation.specs.Handed.{Queues, replyTo, returned}
+use Rattle.ring.specs.Answer.{Answer, refused}
+use Rattle.ring_guarantees.specs.Handed.{Request, askArrival, askDeparture, askTick}
+use Rattle.pair_rules.specs.Answer.{Reply}
+use Rattle.pair_rules.specs.declared.Which.{Which}
+use Rattle.pair_rules.specs.declared.Which.the-variants.{Intercom, Passengers}
+use Rattle.pair_guarantees.specs.Handed.{Queues, replyTo, returned}
 use Rattle.pair_words.specs.After.{ownAfter, sharedAfter}
 use Rattle.pair_words.specs.Words.{pairOf}
 use Rattle.pair_burst.specs.Calls.{Call, asked, callAt, unknown}

@@ -8,8 +8,8 @@ use lib.ListN.{getD, length}
 use Rattle.pie.specs.Constants.{mostVerdicts}
 use Rattle.pie.specs.Verdicts.{total}
 use Rattle.bursts.specs.Answers.{answerWord}
-use Rattle.pair_state.specs.WellFormed.{wellFormed}
-use Rattle.pair_state.specs.declared.Which.the-variants.{Intercom}
+use Rattle.pair_rules.specs.WellFormed.{wellFormed}
+use Rattle.pair_rules.specs.declared.Which.the-variants.{Intercom}
 use Rattle.pair_words.specs.Words.{pairOf, sharedOf, stateOf, whichOf}
 use Rattle.pair_burst.specs.Calls.{asked, requestAt}
 use Rattle.pair_burst.specs.Burst.{Lent, lent, answerTo, after}

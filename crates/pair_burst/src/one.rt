@@ -15,7 +15,7 @@ ghost use mathlib.Core.List.{[]};
 ghost use Prim.Native.Nat.{_+_, _-_, _<_};
 ghost use lib.Dec.{eqb};
 ghost use lib.ListN.{getD, length};
-ghost use Rattle.pair_state.specs.WellFormed.{wellFormed};
+ghost use Rattle.pair_rules.specs.WellFormed.{wellFormed};
 ghost use Rattle.pair_rules.specs.Departure.{departedSizes, departure};
 ghost use Rattle.pair_words.specs.After.{ownAfter, sharedAfter};
 ghost use Rattle.pair_words.specs.Words.{pairOf, sharedOf, whichOf};

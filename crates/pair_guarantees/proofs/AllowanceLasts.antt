@@ -1,9 +1,9 @@
 -- Question 2 for each queue: it sheds load by PIE, so its allowances last.
 use mathlib.Core.Path.{ap}
 use Rattle.pie_guarantees.proofs.AllowanceLasts as proved
-use Rattle.pair_state.specs.Fresh.{fresh}
-use Rattle.pair_state.specs.declared.Which.the-variants.{Intercom, Passengers}
-use Rattle.pair_state.proofs.FreshFormed.{made-accepted}
+use Rattle.pair_rules.specs.Fresh.{fresh}
+use Rattle.pair_rules.specs.declared.Which.the-variants.{Intercom, Passengers}
+use Rattle.pair_rules.proofs.FreshFormed.{made-accepted}
 use Rattle.pair_guarantees.specs.AllowanceLasts.{AllowanceLasts}
 use Rattle.pair_guarantees.specs.FreshGrace.{FreshGrace}
 use Rattle.pair_guarantees.specs.Grace.{Grace}

@@ -2,12 +2,12 @@
 use mathlib.Core.Path.{_≡_, refl, ap, subst, sym, _∙_}
 use mathlib.Core.List.{List, [], _∷_}
 use Rattle.calls.specs.Traces.{Entry, entry, trace}
-use Rattle.guarantees.specs.Calls.{Call, arrive, depart, update}
-use Rattle.pair_state.specs.Queues.{other, own}
-use Rattle.pair_state.specs.declared.Pair.{Pair}
-use Rattle.pair_state.specs.declared.State.{State}
-use Rattle.pair_state.specs.declared.Which.{Which}
-use Rattle.pair_state.specs.declared.Which.the-variants.{Intercom, Passengers}
+use Rattle.ring_guarantees.specs.Calls.{Call, arrive, depart, update}
+use Rattle.pair_rules.specs.Queues.{other, own}
+use Rattle.pair_rules.specs.declared.Pair.{Pair}
+use Rattle.pair_rules.specs.declared.State.{State}
+use Rattle.pair_rules.specs.declared.Which.{Which}
+use Rattle.pair_rules.specs.declared.Which.the-variants.{Intercom, Passengers}
 use Rattle.pair_guarantees.specs.BothQueues.{BothQueues, callsIn, ownEntries}
 use Rattle.pair_guarantees.specs.BothRecover.{BothRecover}
 use Rattle.pair_guarantees.specs.Calls.{PairCall, ownCalls, pairCalls, reply}

@@ -10,3 +10,17 @@ pub mod Spacing
 pub mod MeasuredWhileQueued
 pub mod NeverGivenUp
 pub mod BothQueues
+pub mod Kept
+pub mod Alone
+pub mod Chained
+pub mod Whole
+pub mod AloneMoves
+pub mod Refines
+pub mod QueueKeeps
+pub mod Starting
+pub mod FirstInFirstOut
+pub mod Conservation
+pub mod Following
+pub mod Isolation
+pub mod RingAlone
+pub mod AsRing

@@ -4,11 +4,11 @@ use mathlib.Core.Bool.{Bool}
 use mathlib.Core.List.{List}
 use Prim.Native.Nat.{ℕ}
 use Rattle.pie.specs.declared.Verdict.{Verdict}
-use Rattle.queue.specs.Answer.{verdict}
-use Rattle.guarantees.specs.Calls.{arrive}
-use Rattle.pair_state.specs.Queues.{own}
-use Rattle.pair_state.specs.declared.Pair.{Pair}
-use Rattle.pair_state.specs.declared.Which.{Which}
+use Rattle.ring.specs.Answer.{verdict}
+use Rattle.ring_guarantees.specs.Calls.{arrive}
+use Rattle.pair_rules.specs.Queues.{own}
+use Rattle.pair_rules.specs.declared.Pair.{Pair}
+use Rattle.pair_rules.specs.declared.Which.{Which}
 use Rattle.pair_rules.specs.Arrival.{arrival, slotsFull, verdictOf}
 use Rattle.pair_guarantees.specs.OwnStateAlone.{OwnStateAlone, SameButEnds}
 use Rattle.pair_guarantees.proofs.Replies.{by-number}

@@ -1,6 +1,6 @@
 -- Demand 3 and question 4 for each queue: it sheds load by PIE.
 use Rattle.pie_guarantees.proofs.Recovery as proved
-use Rattle.pair_state.specs.Queues.{own}
+use Rattle.pair_rules.specs.Queues.{own}
 use Rattle.pair_guarantees.specs.Recovery.{Recovery}
 use Rattle.pair_guarantees.specs.Shedding.{queueOf}
 use Rattle.pair_guarantees.proofs.Sheds.{formed-fits, own-formed, own-sheds}

@@ -1,7 +1,7 @@
 -- Demand 3 and question 4 by the target, for each queue.
 use Rattle.pie_guarantees.proofs.RecoveryByTarget as proved
 use Rattle.pie_guarantees.proofs.ShorterRecovery as shorter
-use Rattle.pair_state.specs.Queues.{own}
+use Rattle.pair_rules.specs.Queues.{own}
 use Rattle.pair_guarantees.specs.RecoveryByTarget.{RecoveryByTarget}
 use Rattle.pair_guarantees.specs.ShorterRecovery.{ShorterRecovery}
 use Rattle.pair_guarantees.specs.Shedding.{queueOf}

@@ -2,16 +2,16 @@
 use mathlib.Core.Path.{_≡_, refl, subst}
 use Prim.Native.Nat.{ℕ}
 use native.Mathlib.Omega.{arith}
-use Rattle.queue.specs.Answer.{refused}
+use Rattle.ring.specs.Answer.{refused}
 use Rattle.refusals.specs.Rows.{Ascending, firstRefusal}
 use Rattle.refusals.proofs.Ordered.{lowest-given}
-use Rattle.guarantees.specs.Calls.{Call, arrive, depart, update}
-use Rattle.pair_state.specs.Fresh.{fresh}
-use Rattle.pair_state.specs.WellFormed.{wellFormed}
-use Rattle.pair_state.specs.declared.Pair.{Pair}
-use Rattle.pair_state.specs.declared.Setup.{Setup}
-use Rattle.pair_state.specs.declared.Which.{Which}
-use Rattle.pair_state.proofs.FreshFormed.{fresh-well-formed}
+use Rattle.ring_guarantees.specs.Calls.{Call, arrive, depart, update}
+use Rattle.pair_rules.specs.Fresh.{fresh}
+use Rattle.pair_rules.specs.WellFormed.{wellFormed}
+use Rattle.pair_rules.specs.declared.Pair.{Pair}
+use Rattle.pair_rules.specs.declared.Setup.{Setup}
+use Rattle.pair_rules.specs.declared.Which.{Which}
+use Rattle.pair_rules.proofs.FreshFormed.{fresh-well-formed}
 use Rattle.pair_guarantees.specs.Refusals.{Applies, FreshInOrder, RefusedInOrder, Refusals, TablesKept, rowsOf}
 use Rattle.pair_guarantees.proofs.Replies.{number-refuses, refused-by-number}
 

@@ -7,21 +7,21 @@ use mathlib.Core.List.{List, [], _∷_, _++_}
 use Prim.Native.Nat.{ℕ, zero, suc}
 use native.Mathlib.Omega.{arith}
 use lib.ListN.{length}
-use Rattle.queue.specs.Answer.{Answer, departed, refused, ticked, verdict}
+use Rattle.ring.specs.Answer.{Answer, departed, refused, ticked, verdict}
 use Rattle.refusals.specs.Rows.{firstRefusal}
 use Rattle.store.specs.Put.{freePlace}
 use Rattle.store.specs.Take.{storeAfterTake}
-use Rattle.guarantees.specs.Calls.{Call, arrive, depart, update}
-use Rattle.pair_state.specs.Answer.{Reply}
-use Rattle.pair_state.specs.Facing.{facing}
-use Rattle.pair_state.specs.Queues.{other, own, paired, storing}
-use Rattle.pair_state.specs.WellFormed.{wellFormed}
-use Rattle.pair_state.specs.declared.Pair.{Pair}
-use Rattle.pair_state.specs.declared.Shared.{Shared}
-use Rattle.pair_state.specs.declared.State.{State}
-use Rattle.pair_state.specs.declared.Which.{Which}
-use Rattle.pair_state.specs.declared.Which.the-variants.{Intercom}
-use Rattle.pair_state.proofs.Symmetry.{own-paired, seen}
+use Rattle.ring_guarantees.specs.Calls.{Call, arrive, depart, update}
+use Rattle.pair_rules.specs.Answer.{Reply}
+use Rattle.pair_rules.specs.Facing.{facing}
+use Rattle.pair_rules.specs.Queues.{other, own, paired, storing}
+use Rattle.pair_rules.specs.WellFormed.{wellFormed}
+use Rattle.pair_rules.specs.declared.Pair.{Pair}
+use Rattle.pair_rules.specs.declared.Shared.{Shared}
+use Rattle.pair_rules.specs.declared.State.{State}
+use Rattle.pair_rules.specs.declared.Which.{Which}
+use Rattle.pair_rules.specs.declared.Which.the-variants.{Intercom}
+use Rattle.pair_rules.proofs.Symmetry.{own-paired, seen}
 use Rattle.pair_rules.specs.Answer.{unlessRefused}
 use Rattle.pair_rules.specs.Arrival.{arrival, arrivalRefusal, arrivedState, arrivedStore, freedRefused, verdictOf}
 use Rattle.pair_rules.specs.Departure.{departedState, departure, departureRefusal, headHandle, headSize}

@@ -14,17 +14,17 @@ use Rattle.pie_guarantees.proofs.NoProfile.{begins-as-given}
 use Rattle.store.specs.Following.{followed, linkRefused}
 use Rattle.store.specs.Put.{freePlace}
 use Rattle.store.specs.Words.{linkAt}
-use Rattle.guarantees.specs.Calls.{Call}
-use Rattle.pair_state.specs.Facing.{facing}
-use Rattle.pair_state.specs.Queues.{own}
-use Rattle.pair_state.specs.WellFormed.{wellFormed}
-use Rattle.pair_state.specs.declared.Pair.{Pair}
-use Rattle.pair_state.specs.declared.Shared.{Shared}
-use Rattle.pair_state.specs.declared.State.{State}
-use Rattle.pair_state.specs.declared.Which.{Which}
-use Rattle.pair_state.specs.declared.Which.the-variants.{Intercom, Passengers}
-use Rattle.pair_state.proofs.Facts.{QueueFits, facts, passes, queue-fits, queue-passes}
-use Rattle.pair_state.proofs.Symmetry.{seen}
+use Rattle.ring_guarantees.specs.Calls.{Call}
+use Rattle.pair_rules.specs.Facing.{facing}
+use Rattle.pair_rules.specs.Queues.{own}
+use Rattle.pair_rules.specs.WellFormed.{wellFormed}
+use Rattle.pair_rules.specs.declared.Pair.{Pair}
+use Rattle.pair_rules.specs.declared.Shared.{Shared}
+use Rattle.pair_rules.specs.declared.State.{State}
+use Rattle.pair_rules.specs.declared.Which.{Which}
+use Rattle.pair_rules.specs.declared.Which.the-variants.{Intercom, Passengers}
+use Rattle.pair_rules.proofs.Facts.{QueueFits, facts, passes, queue-fits, queue-passes}
+use Rattle.pair_rules.proofs.Symmetry.{seen}
 use Rattle.pair_rules.specs.Arrival.{arrivedState, verdictOf}
 use Rattle.pair_rules.specs.Departure.{departedState}
 use Rattle.pair_rules.specs.Tick.{tickedState}

@@ -1,7 +1,7 @@
 -- How far early verdicts stand apart, for each queue: it sheds load by PIE.
 use mathlib.Core.Path.{refl}
 use Rattle.pie_guarantees.proofs.Spacing as proved
-use Rattle.pair_state.specs.Queues.{own}
+use Rattle.pair_rules.specs.Queues.{own}
 use Rattle.pair_guarantees.specs.Shedding.{queueOf}
 use Rattle.pair_guarantees.specs.EarlyAtMostApart.{EarlyAtMostApart}
 use Rattle.pair_guarantees.specs.EarlyAtLeastApart.{EarlyAtLeastApart}

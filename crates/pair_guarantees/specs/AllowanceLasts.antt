@@ -5,8 +5,8 @@
 use mathlib.Core.List.{List, List·Memᴰ}
 use Rattle.calls.specs.Traces.{Entry, trace}
 use Rattle.pie_guarantees.specs.AllowanceLasts.{ByLimitsBefore, lastsUntil}
-use Rattle.pair_state.specs.declared.State.{State}
-use Rattle.pair_state.specs.declared.Which.{Which}
+use Rattle.pair_rules.specs.declared.State.{State}
+use Rattle.pair_rules.specs.declared.Which.{Which}
 use Rattle.pair_guarantees.specs.Calls.{OwnCall, ownCalls}
 use Rattle.pair_guarantees.specs.Shedding.{queueOf}
 

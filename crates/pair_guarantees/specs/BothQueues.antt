@@ -4,10 +4,10 @@ use mathlib.Core.Path.{_≡_}
 use mathlib.Core.Bool.{Bool, true, false, cond}
 use mathlib.Core.List.{List, [], _∷_, map}
 use Rattle.calls.specs.Traces.{Entry, trace}
-use Rattle.pair_state.specs.Queues.{other, own}
-use Rattle.pair_state.specs.declared.Pair.{Pair}
-use Rattle.pair_state.specs.declared.Which.{Which}
-use Rattle.pair_state.specs.declared.Which.the-variants.{Intercom, Passengers}
+use Rattle.pair_rules.specs.Queues.{other, own}
+use Rattle.pair_rules.specs.declared.Pair.{Pair}
+use Rattle.pair_rules.specs.declared.Which.{Which}
+use Rattle.pair_rules.specs.declared.Which.the-variants.{Intercom, Passengers}
 use Rattle.pair_guarantees.specs.Calls.{OwnCall, PairCall, ownCalls, pairCalls}
 
 abbrev pub same : (w x : Which) → Bool

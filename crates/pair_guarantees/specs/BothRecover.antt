@@ -5,10 +5,10 @@ use mathlib.Core.Bool.{true}
 use mathlib.Core.List.{List, _∷_, _++_}
 use Rattle.calls.specs.Traces.{Entry, trace}
 use Rattle.pie_guarantees.specs.Recovery.{RecoveredAfter}
-use Rattle.pair_state.specs.Queues.{own}
-use Rattle.pair_state.specs.WellFormed.{wellFormed}
-use Rattle.pair_state.specs.declared.Pair.{Pair}
-use Rattle.pair_state.specs.declared.Which.{Which}
+use Rattle.pair_rules.specs.Queues.{own}
+use Rattle.pair_rules.specs.WellFormed.{wellFormed}
+use Rattle.pair_rules.specs.declared.Pair.{Pair}
+use Rattle.pair_rules.specs.declared.Which.{Which}
 use Rattle.pair_guarantees.specs.Calls.{PairCall, ownCalls, pairCalls}
 use Rattle.pair_guarantees.specs.Shedding.{queueOf}
 use Rattle.pair_guarantees.specs.BothQueues.{ownEntries}

@@ -1,18 +1,18 @@
 -- Lists of calls on two queues over one pair of tables, and one queue's own calls among whatever else is done.
 use Rattle.calls.specs.Kind.{Kind}
-use Rattle.queue.specs.Answer.{Answer}
-use Rattle.guarantees.specs.Calls.{Call, arrive, depart, update}
-use Rattle.pair_state.specs.Answer.{Reply}
-use Rattle.pair_state.specs.Queues.{own, paired}
-use Rattle.pair_state.specs.declared.Pair.{Pair}
-use Rattle.pair_state.specs.declared.Shared.{Shared}
-use Rattle.pair_state.specs.declared.State.{State}
-use Rattle.pair_state.specs.declared.Which.{Which}
+use Rattle.ring.specs.Answer.{Answer}
+use Rattle.ring_guarantees.specs.Calls.{Call, arrive, depart, update}
+use Rattle.pair_rules.specs.Answer.{Reply}
+use Rattle.pair_rules.specs.Queues.{own, paired}
+use Rattle.pair_rules.specs.declared.Pair.{Pair}
+use Rattle.pair_rules.specs.declared.Shared.{Shared}
+use Rattle.pair_rules.specs.declared.State.{State}
+use Rattle.pair_rules.specs.declared.Which.{Which}
 use Rattle.pair_rules.specs.Arrival.{arrival}
 use Rattle.pair_rules.specs.Departure.{departure}
 use Rattle.pair_rules.specs.Tick.{tick}
 
--- what a queue is asked is what the ring queue is asked (crate guarantees): arrive, depart or update, with arguments and lent tables
+-- what a queue is asked is what the ring queue is asked (crate ring_guarantees): arrive, depart or update, with arguments and lent tables
 abbrev pub reply : Pair → Which → Call → Reply
 reply p w (arrive handles sizes clock handle size ecn u) = arrival p w handles sizes clock size ecn u
 reply p w (depart handles sizes clock) = departure p w handles sizes clock

@@ -8,10 +8,10 @@ use Prim.Native.Nat.{_<_}
 use Rattle.pie.specs.Constants.{mostAccumulated}
 use Rattle.calls.specs.Traces.{Entry, trace}
 use Rattle.pie_guarantees.specs.Spacing.{added, tellsEarly}
-use Rattle.pair_state.specs.Queues.{own}
-use Rattle.pair_state.specs.WellFormed.{wellFormed}
-use Rattle.pair_state.specs.declared.Pair.{Pair}
-use Rattle.pair_state.specs.declared.Which.{Which}
+use Rattle.pair_rules.specs.Queues.{own}
+use Rattle.pair_rules.specs.WellFormed.{wellFormed}
+use Rattle.pair_rules.specs.declared.Pair.{Pair}
+use Rattle.pair_rules.specs.declared.Which.{Which}
 use Rattle.pair_guarantees.specs.Calls.{OwnCall, ownCalls}
 use Rattle.pair_guarantees.specs.Shedding.{queueOf, tells}
 

@@ -7,12 +7,12 @@ use Prim.Native.Nat.{ℕ, _+_}
 use Rattle.pie.specs.Constants.{fullAllowance}
 use Rattle.calls.specs.Traces.{Entry, trace}
 use Rattle.pie_guarantees.specs.AllowanceLasts.{ByLimitsBefore}
-use Rattle.queue.specs.Answer.{made}
-use Rattle.pair_state.specs.Fresh.{fresh}
-use Rattle.pair_state.specs.Queues.{own}
-use Rattle.pair_state.specs.declared.Setup.{Setup}
-use Rattle.pair_state.specs.declared.Which.{Which}
-use Rattle.pair_state.specs.declared.Which.the-variants.{Intercom, Passengers}
+use Rattle.ring.specs.Answer.{made}
+use Rattle.pair_rules.specs.Fresh.{fresh}
+use Rattle.pair_rules.specs.Queues.{own}
+use Rattle.pair_rules.specs.declared.Setup.{Setup}
+use Rattle.pair_rules.specs.declared.Which.{Which}
+use Rattle.pair_rules.specs.declared.Which.the-variants.{Intercom, Passengers}
 use Rattle.pair_guarantees.specs.Calls.{OwnCall, ownCalls}
 use Rattle.pair_guarantees.specs.Shedding.{queueOf}
 

@@ -16,6 +16,14 @@
 --   NeverGivenUp          Q-6: from fresh, a measurement ends before the queue empties, or as it does
 --   BothQueues            of a list of both queues' calls, those on one queue are a list of its own calls
 --   BothRecover           demand 3 for each queue in such a list
+--
+-- From a fresh pair, with everything handed back untouched, for either queue:
+--
+--   Handed            the records and tables of both queues, handed back at each call, and what one queue's calls admitted and handed out
+--   FirstInFirstOut   for each queue: admitted = departed, then queued, in order
+--   Conservation      for each queue: queued bytes = bytes admitted − bytes departed; refusals 2 and 9 are never given
+--   Isolation         while its count is below its reserve at its arrivals, a queue's answers depend on its own calls alone
+--   AsRing            and are those of the ring queue with the reserve for its slots
 pub mod Calls
 pub mod Shedding
 pub mod Refusals
@@ -32,3 +40,8 @@ pub mod MeasuredWhileQueued
 pub mod NeverGivenUp
 pub mod BothQueues
 pub mod BothRecover
+pub mod Handed
+pub mod FirstInFirstOut
+pub mod Conservation
+pub mod Isolation
+pub mod AsRing

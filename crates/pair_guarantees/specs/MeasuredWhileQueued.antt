@@ -5,11 +5,11 @@ use mathlib.Core.Bool.{true}
 use mathlib.Core.List.{List, List·Memᴰ}
 use Prim.Native.Nat.{_<_}
 use Rattle.calls.specs.Traces.{Entry, trace}
-use Rattle.pair_state.specs.Queues.{own}
-use Rattle.pair_state.specs.WellFormed.{wellFormed}
-use Rattle.pair_state.specs.declared.Pair.{Pair}
-use Rattle.pair_state.specs.declared.State.{State}
-use Rattle.pair_state.specs.declared.Which.{Which}
+use Rattle.pair_rules.specs.Queues.{own}
+use Rattle.pair_rules.specs.WellFormed.{wellFormed}
+use Rattle.pair_rules.specs.declared.Pair.{Pair}
+use Rattle.pair_rules.specs.declared.State.{State}
+use Rattle.pair_rules.specs.declared.Which.{Which}
 use Rattle.pair_guarantees.specs.Calls.{OwnCall, ownCalls}
 
 abbrev pub QueuedIfMeasuring : State → Type 0

@@ -5,11 +5,11 @@ use mathlib.Core.Bool.{Bool}
 use mathlib.Core.List.{List}
 use Prim.Native.Nat.{ℕ}
 use Rattle.pie.specs.declared.Verdict.{Verdict}
-use Rattle.queue.specs.Answer.{verdict}
-use Rattle.pair_state.specs.Queues.{own}
-use Rattle.pair_state.specs.declared.Pair.{Pair}
-use Rattle.pair_state.specs.declared.State.{State}
-use Rattle.pair_state.specs.declared.Which.{Which}
+use Rattle.ring.specs.Answer.{verdict}
+use Rattle.pair_rules.specs.Queues.{own}
+use Rattle.pair_rules.specs.declared.Pair.{Pair}
+use Rattle.pair_rules.specs.declared.State.{State}
+use Rattle.pair_rules.specs.declared.Which.{Which}
 use Rattle.pair_rules.specs.Arrival.{arrival, slotsFull}
 
 -- the same but for head and tail

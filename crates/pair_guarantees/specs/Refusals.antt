@@ -5,13 +5,13 @@ use mathlib.Core.Bool.{Bool, true, false}
 use mathlib.Core.List.{List, List·Memᴰ}
 use Prim.Native.Nat.{ℕ, _≤_}
 use lib.ListN.{length}
-use Rattle.queue.specs.Answer.{Answer, made, refused}
-use Rattle.guarantees.specs.Calls.{Call, arrive, depart, update}
-use Rattle.pair_state.specs.Fresh.{fresh, setupRefused, zeroPair}
-use Rattle.pair_state.specs.WellFormed.{wellFormed}
-use Rattle.pair_state.specs.declared.Pair.{Pair}
-use Rattle.pair_state.specs.declared.Setup.{Setup}
-use Rattle.pair_state.specs.declared.Which.{Which}
+use Rattle.ring.specs.Answer.{Answer, made, refused}
+use Rattle.ring_guarantees.specs.Calls.{Call, arrive, depart, update}
+use Rattle.pair_rules.specs.Fresh.{fresh, setupRefused, zeroPair}
+use Rattle.pair_rules.specs.WellFormed.{wellFormed}
+use Rattle.pair_rules.specs.declared.Pair.{Pair}
+use Rattle.pair_rules.specs.declared.Setup.{Setup}
+use Rattle.pair_rules.specs.declared.Which.{Which}
 use Rattle.pair_rules.specs.Arrival.{arrivalRefusals, arrivedHandles, arrivedSizes}
 use Rattle.pair_rules.specs.Departure.{departedSizes, departureRefusals}
 use Rattle.pair_rules.specs.Tick.{tickRefusals}

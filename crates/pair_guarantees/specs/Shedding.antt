@@ -6,11 +6,11 @@ use Prim.Native.Nat.{ℕ}
 use Rattle.laws.specs.Tests.{all}
 use Rattle.pie_guarantees.specs.Shedding.{Shedding, Told, decided, nothing}
 use Rattle.pie_guarantees.specs.Shedding as told
-use Rattle.queue.specs.Answer.{Answer, departed, made, refused, ticked, verdict}
-use Rattle.guarantees.specs.Calls.{Call, arrive, depart, update}
-use Rattle.pair_state.specs.WellFormed.{queueConditions}
-use Rattle.pair_state.specs.declared.State.{State}
-use Rattle.pair_state.specs.declared.Which.{Which}
+use Rattle.ring.specs.Answer.{Answer, departed, made, refused, ticked, verdict}
+use Rattle.ring_guarantees.specs.Calls.{Call, arrive, depart, update}
+use Rattle.pair_rules.specs.WellFormed.{queueConditions}
+use Rattle.pair_rules.specs.declared.State.{State}
+use Rattle.pair_rules.specs.declared.Which.{Which}
 use Rattle.pair_rules.specs.Arrival.{bytesFull, slotsFull}
 use Rattle.pair_guarantees.specs.Calls.{ownCalls, records}
 

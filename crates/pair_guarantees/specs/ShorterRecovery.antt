@@ -4,10 +4,10 @@ use mathlib.Core.Path.{_≡_}
 use mathlib.Core.Bool.{true}
 use Prim.Native.Nat.{_≤_}
 use Rattle.pie_guarantees.specs.Recovery.{RecoversAfter}
-use Rattle.pair_state.specs.Queues.{own}
-use Rattle.pair_state.specs.WellFormed.{wellFormed}
-use Rattle.pair_state.specs.declared.Pair.{Pair}
-use Rattle.pair_state.specs.declared.Which.{Which}
+use Rattle.pair_rules.specs.Queues.{own}
+use Rattle.pair_rules.specs.WellFormed.{wellFormed}
+use Rattle.pair_rules.specs.declared.Pair.{Pair}
+use Rattle.pair_rules.specs.declared.Which.{Which}
 use Rattle.pair_guarantees.specs.Shedding.{queueOf}
 
 abbrev pub ShorterRecovery : Type 0

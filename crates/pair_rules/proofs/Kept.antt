@@ -18,19 +18,19 @@ use Rattle.pie.specs.declared.Verdict.the-variants.{DroppedBytes, DroppedSlots}
 use Rattle.pie.proofs.Counts.{total-raised}
 use Rattle.pie.proofs.Ranges.{accumulated-lt}
 use Rattle.refusals.proofs.Fitting.{HeadFits}
-use Rattle.queue.specs.declared.State as ring-state
-use Rattle.queue.specs.Departure as ring-departure
-use Rattle.queue.specs.Tick as ring-tick
-use Rattle.queue.proofs.Facts as ring-facts
-use Rattle.queue.proofs.Kept.{departed-well-formed, ticked-well-formed}
+use Rattle.ring.specs.declared.State as ring-state
+use Rattle.ring.specs.Departure as ring-departure
+use Rattle.ring.specs.Tick as ring-tick
+use Rattle.ring.proofs.Facts as ring-facts
+use Rattle.ring.proofs.Kept.{departed-well-formed, ticked-well-formed}
 use Rattle.store.specs.Put.{endsAfterPut}
 use Rattle.store.specs.declared.Ends.{Ends}
-use Rattle.pair_state.specs.Queues.{commonSlots, commonUse, own}
-use Rattle.pair_state.specs.declared.Pair.{Pair}
-use Rattle.pair_state.specs.declared.State.{State}
-use Rattle.pair_state.specs.declared.Which.{Which}
-use Rattle.pair_state.specs.declared.Which.the-variants.{Intercom}
-use Rattle.pair_state.proofs.Facts.{Facts, QueueFits}
+use Rattle.pair_rules.specs.Queues.{commonSlots, commonUse, own}
+use Rattle.pair_rules.specs.declared.Pair.{Pair}
+use Rattle.pair_rules.specs.declared.State.{State}
+use Rattle.pair_rules.specs.declared.Which.{Which}
+use Rattle.pair_rules.specs.declared.Which.the-variants.{Intercom}
+use Rattle.pair_rules.proofs.Facts.{Facts, QueueFits}
 use Rattle.pair_rules.specs.Arrival.{arrivedState, bytesFull, slotsFull, verdictOf}
 use Rattle.pair_rules.specs.Departure.{departedState}
 use Rattle.pair_rules.specs.Tick.{tickedState}

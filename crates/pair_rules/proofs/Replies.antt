@@ -10,7 +10,7 @@ use lib.Dec.{ltb}
 use lib.ListN.{length}
 use Rattle.pie.specs.Verdicts.{admitted}
 use Rattle.pie.specs.declared.Verdict.{Verdict}
-use Rattle.queue.specs.Answer.{Answer, departed, handleIn, refused, sizeIn, ticked, verdict}
+use Rattle.ring.specs.Answer.{Answer, departed, handleIn, refused, sizeIn, ticked, verdict}
 use Rattle.laws.proofs.Tests.{and-left, and-right}
 use Rattle.refusals.proofs.Ordered.{numbered}
 use Rattle.refusals.specs.Numbers.{numberOf, refusalIn}
@@ -24,20 +24,20 @@ use Rattle.store.specs.Following.{linkRefused}
 use Rattle.store.specs.Put.{freePlace, handlesAfterPut, sizesAfterPut, storeAfterPut}
 use Rattle.store.specs.Take.{sizesAfterTake, storeAfterTake}
 use Rattle.store.specs.declared.Store.{Store}
-use Rattle.pair_state.specs.Answer.{Reply}
+use Rattle.pair_rules.specs.Answer.{Reply}
 use Rattle.pair_rules.specs.Answer.{unlessRefused}
 use Rattle.pair_rules.specs.Arrival.{arrival, arrivalRefusal, arrivedHandles, arrivedSizes, arrivedState, arrivedStore, freedRefused, verdictOf}
 use Rattle.pair_rules.specs.Departure.{departedSizes, departedState, departure, departureRefusal, headHandle, headSize}
-use Rattle.pair_state.specs.Facing.{facing}
-use Rattle.pair_state.specs.Queues.{paired, storing}
+use Rattle.pair_rules.specs.Facing.{facing}
+use Rattle.pair_rules.specs.Queues.{paired, storing}
 use Rattle.pair_rules.specs.Refusals.{clockRefused, countsRefused, pairRefused, tablesRefused}
 use Rattle.pair_rules.specs.Tick.{tick, tickRefusal, tickedState}
-use Rattle.pair_state.specs.declared.Pair.{Pair}
-use Rattle.pair_state.specs.declared.Shared.{Shared}
-use Rattle.pair_state.specs.declared.State.{State}
-use Rattle.pair_state.specs.declared.Which.{Which}
-use Rattle.pair_state.specs.declared.Which.the-variants.{Intercom, Passengers}
-use Rattle.pair_state.proofs.Symmetry.{own-paired, seen, shared-paired, well-formed-seen}
+use Rattle.pair_rules.specs.declared.Pair.{Pair}
+use Rattle.pair_rules.specs.declared.Shared.{Shared}
+use Rattle.pair_rules.specs.declared.State.{State}
+use Rattle.pair_rules.specs.declared.Which.{Which}
+use Rattle.pair_rules.specs.declared.Which.the-variants.{Intercom, Passengers}
+use Rattle.pair_rules.proofs.Symmetry.{own-paired, seen, shared-paired, well-formed-seen}
 use Rattle.pair_rules.proofs.Seen.{verdict-seen}
 
 pub refused-reply : (r : Refusal) (given : Pair) (accepted : Reply) →

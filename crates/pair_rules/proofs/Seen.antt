@@ -2,12 +2,12 @@
 use mathlib.Core.Path.{_≡_, refl}
 use mathlib.Core.Bool.{Bool}
 use Prim.Native.Nat.{ℕ, _-_}
-use Rattle.pair_state.specs.Queues.{paired}
-use Rattle.pair_state.specs.declared.Shared.{Shared}
-use Rattle.pair_state.specs.declared.State.{State}
-use Rattle.pair_state.specs.declared.Which.{Which}
-use Rattle.pair_state.specs.declared.Which.the-variants.{Intercom, Passengers}
-use Rattle.pair_state.proofs.Symmetry.{seen, sum-swapped}
+use Rattle.pair_rules.specs.Queues.{paired}
+use Rattle.pair_rules.specs.declared.Shared.{Shared}
+use Rattle.pair_rules.specs.declared.State.{State}
+use Rattle.pair_rules.specs.declared.Which.{Which}
+use Rattle.pair_rules.specs.declared.Which.the-variants.{Intercom, Passengers}
+use Rattle.pair_rules.proofs.Symmetry.{seen, sum-swapped}
 use Rattle.pair_rules.specs.Arrival.{slotsFull, verdictOf}
 
 pub slots-full-seen : (w : Which) (s : Shared) (o t : State) → slotsFull (paired w s o t) w ≡ slotsFull (seen w s o t) Intercom

@@ -24,19 +24,19 @@ use Rattle.store.specs.Put.{freePlace}
 use Rattle.store.specs.declared.Store.{Store}
 use Rattle.pair_rules.specs.Arrival.{bytesFull, slotsFull, verdictOf}
 use Rattle.pair_rules.specs.Departure.{departureRefusal, departureRefusals, headSize}
-use Rattle.pair_state.specs.Facing.{facing}
-use Rattle.pair_state.specs.Queues.{own, paired}
+use Rattle.pair_rules.specs.Facing.{facing}
+use Rattle.pair_rules.specs.Queues.{own, paired}
 use Rattle.pair_rules.specs.Refusals.{clockRefused, tablesRefused}
 use Rattle.pair_rules.specs.Tick.{tickRefusal, tickRefusals}
-use Rattle.pair_state.specs.WellFormed.{queueConditions, wellFormed}
-use Rattle.pair_state.specs.declared.Pair.{Pair}
-use Rattle.pair_state.specs.declared.Shared.{Shared}
-use Rattle.pair_state.specs.declared.State.{State}
-use Rattle.pair_state.specs.declared.Which.{Which}
-use Rattle.pair_state.specs.declared.Which.the-variants.{Intercom, Passengers}
-use Rattle.pair_state.proofs.Facts.{QueueFits, facts, queue-passes}
+use Rattle.pair_rules.specs.WellFormed.{queueConditions, wellFormed}
+use Rattle.pair_rules.specs.declared.Pair.{Pair}
+use Rattle.pair_rules.specs.declared.Shared.{Shared}
+use Rattle.pair_rules.specs.declared.State.{State}
+use Rattle.pair_rules.specs.declared.Which.{Which}
+use Rattle.pair_rules.specs.declared.Which.the-variants.{Intercom, Passengers}
+use Rattle.pair_rules.proofs.Facts.{QueueFits, facts, queue-passes}
 use Rattle.pair_rules.proofs.Replies.{early}
-use Rattle.pair_state.proofs.Symmetry.{seen}
+use Rattle.pair_rules.proofs.Symmetry.{seen}
 
 -- what is known of well-formed records, the called queue's and what it shares
 pub record Known (slots : ℕ) (store : Store) (o : State) : Type 0 where

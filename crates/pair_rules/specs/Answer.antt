@@ -1,16 +1,21 @@
--- What a call on two queues returns.
+-- What a call on two queues answers and returns. The answers are the ring queue's (crate ring).
 use mathlib.Core.Bool.{Bool, true, false}
 use Prim.Native.Nat.{ℕ, zero, suc}
-use Rattle.queue.specs.Answer.{Answer, acceptedAnswer, arrivalAnswer, departed, made, refused, ticked, verdict}
-use Rattle.pair_state.specs.Answer.{Reply}
-use Rattle.pair_state.specs.Queues.{paired, storing}
+use Rattle.ring.specs.Answer.{Answer, acceptedAnswer, arrivalAnswer, departed, made, refused, ticked, verdict}
+use Rattle.pair_rules.specs.Queues.{paired, storing}
 use Rattle.pair_rules.specs.declared.Arrived.{Arrived}
 use Rattle.pair_rules.specs.declared.Departed.{Departed}
-use Rattle.pair_state.specs.declared.Pair.{Pair}
-use Rattle.pair_state.specs.declared.Shared.{Shared}
-use Rattle.pair_state.specs.declared.State.{State}
+use Rattle.pair_rules.specs.declared.Made.{Made}
+use Rattle.pair_rules.specs.declared.Pair.{Pair}
+use Rattle.pair_rules.specs.declared.Shared.{Shared}
+use Rattle.pair_rules.specs.declared.State.{State}
 use Rattle.pair_rules.specs.declared.Ticked.{Ticked}
-use Rattle.pair_state.specs.declared.Which.{Which}
+use Rattle.pair_rules.specs.declared.Which.{Which}
+
+-- an answer and the three records that are returned with it
+pub record Reply : Type 0 where
+  pub answer : Answer
+  pub pair : Pair
 
 -- a refusal (a number above 0) returns the records that were given; any other call is accepted
 abbrev pub unlessRefused : (number : ℕ) → Pair → Reply → Reply
@@ -26,6 +31,9 @@ departs (departed handle size) = true
 departs ticked = false
 
 -- ── what the library's own values say ──
+
+abbrev pub freshReply : Made → Reply
+freshReply r = record { answer = acceptedAnswer (r .accepted) made; pair = r .pair }
 
 -- a call returns what it may change: the other queue's state comes back as it was, and so do slots and reserves
 abbrev pub arrivalReply : Which → Shared → (other : State) → Arrived → Reply

@@ -11,20 +11,20 @@ use Rattle.pie.specs.Verdicts.{admitted, raised}
 use Rattle.pie.specs.declared.Pie.{Pie}
 use Rattle.pie.specs.declared.Verdict.{Verdict}
 use Rattle.pie.specs.declared.Verdict.the-variants.{DroppedBytes, DroppedSlots}
-use Rattle.queue.specs.Answer.{Answer, admits, verdict}
+use Rattle.ring.specs.Answer.{Answer, admits, verdict}
 use Rattle.refusals.specs.Rows.{firstRefusal}
 use Rattle.refusals.specs.Tests.{sizeRefused}
 use Rattle.store.specs.Following.{linkRefused}
 use Rattle.store.specs.Put.{endsAfterPut, freePlace, handlesAfterPut, sizesAfterPut, storeAfterPut}
 use Rattle.store.specs.declared.Store.{Store}
-use Rattle.pair_state.specs.Answer.{Reply}
+use Rattle.pair_rules.specs.Answer.{Reply}
 use Rattle.pair_rules.specs.Answer.{unlessRefused}
-use Rattle.pair_state.specs.Queues.{commonSlots, commonUse, other, own, paired, reserveOf, storing}
+use Rattle.pair_rules.specs.Queues.{commonSlots, commonUse, other, own, paired, reserveOf, storing}
 use Rattle.pair_rules.specs.Refusals.{clockRefused, countsRefused, pairRefused, tablesRefused}
-use Rattle.pair_state.specs.declared.Pair.{Pair}
-use Rattle.pair_state.specs.declared.Shared.{Shared}
-use Rattle.pair_state.specs.declared.State.{State}
-use Rattle.pair_state.specs.declared.Which.{Which}
+use Rattle.pair_rules.specs.declared.Pair.{Pair}
+use Rattle.pair_rules.specs.declared.Shared.{Shared}
+use Rattle.pair_rules.specs.declared.State.{State}
+use Rattle.pair_rules.specs.declared.Which.{Which}
 
 -- rule 1
 abbrev pub bytesFull : State → (size : ℕ) → Bool

@@ -5,20 +5,20 @@ use Prim.Native.Nat.{ℕ, _-_}
 use lib.ListN.{getD, length}
 use Rattle.units.specs.Kinds.{micros}
 use Rattle.pie.specs.Backlog.{left}
-use Rattle.queue.specs.Answer.{Answer, departed}
-use Rattle.queue.specs.Departure.{departedPie}
+use Rattle.ring.specs.Answer.{Answer, departed}
+use Rattle.ring.specs.Departure.{departedPie}
 use Rattle.refusals.specs.Rows.{firstRefusal}
 use Rattle.refusals.specs.Tests.{headRefused}
 use Rattle.store.specs.Following.{linkRefused}
 use Rattle.store.specs.Take.{endsAfterTake, sizesAfterTake, storeAfterTake}
 use Rattle.store.specs.Words.{sizeAt}
-use Rattle.pair_state.specs.Answer.{Reply}
+use Rattle.pair_rules.specs.Answer.{Reply}
 use Rattle.pair_rules.specs.Answer.{departs, unlessRefused}
-use Rattle.pair_state.specs.Queues.{other, own, paired, storing}
+use Rattle.pair_rules.specs.Queues.{other, own, paired, storing}
 use Rattle.pair_rules.specs.Refusals.{clockRefused, emptyRefused, pairRefused, tablesRefused}
-use Rattle.pair_state.specs.declared.Pair.{Pair}
-use Rattle.pair_state.specs.declared.State.{State}
-use Rattle.pair_state.specs.declared.Which.{Which}
+use Rattle.pair_rules.specs.declared.Pair.{Pair}
+use Rattle.pair_rules.specs.declared.State.{State}
+use Rattle.pair_rules.specs.declared.Which.{Which}
 
 -- the head's packet
 abbrev pub headHandle : State → (handles : List ℕ) → ℕ

@@ -1,14 +1,14 @@
--- The refusals (docs/SHARED-TABLES.md, section 4): the test of each number but 1 (crate pair_state), 7 (crate refusals) and 9 (Arrival,
+-- The refusals (docs/SHARED-TABLES.md, section 4): the test of each number but 1 (crate pair_rules), 7 (crate refusals) and 9 (Arrival,
 -- Departure). Which number is given is firstRefusal (crate refusals).
 use mathlib.Core.Bool.{Bool, not, _&&_, _||_}
 use Prim.Native.Nat.{ℕ, _+_}
 use lib.Dec.{ltb, eqb}
 use Rattle.pie.specs.Constants.{latest, mostVerdicts, period}
 use Rattle.pie.specs.Verdicts.{total}
-use Rattle.pair_state.specs.WellFormed.{wellFormed}
-use Rattle.pair_state.specs.declared.Pair.{Pair}
-use Rattle.pair_state.specs.declared.Shared.{Shared}
-use Rattle.pair_state.specs.declared.State.{State}
+use Rattle.pair_rules.specs.WellFormed.{wellFormed}
+use Rattle.pair_rules.specs.declared.Pair.{Pair}
+use Rattle.pair_rules.specs.declared.Shared.{Shared}
+use Rattle.pair_rules.specs.declared.State.{State}
 
 -- 2: the records are not well formed, whichever queue is called
 abbrev pub pairRefused : Pair → Bool

@@ -4,15 +4,15 @@ use mathlib.Core.List.{List, [], _∷_}
 use Prim.Native.Nat.{ℕ}
 use Rattle.units.specs.Kinds.{micros}
 use Rattle.pie.specs.Update.{updated}
-use Rattle.queue.specs.Answer.{ticked}
+use Rattle.ring.specs.Answer.{ticked}
 use Rattle.refusals.specs.Rows.{firstRefusal}
-use Rattle.pair_state.specs.Answer.{Reply}
+use Rattle.pair_rules.specs.Answer.{Reply}
 use Rattle.pair_rules.specs.Answer.{unlessRefused}
-use Rattle.pair_state.specs.Queues.{other, own, paired}
+use Rattle.pair_rules.specs.Queues.{other, own, paired}
 use Rattle.pair_rules.specs.Refusals.{clockRefused, pairRefused, tooSoonRefused}
-use Rattle.pair_state.specs.declared.Pair.{Pair}
-use Rattle.pair_state.specs.declared.State.{State}
-use Rattle.pair_state.specs.declared.Which.{Which}
+use Rattle.pair_rules.specs.declared.Pair.{Pair}
+use Rattle.pair_rules.specs.declared.State.{State}
+use Rattle.pair_rules.specs.declared.Which.{Which}
 
 abbrev pub tickRefusals : Pair → Which → (clock : ℕ) → List (ℕ × Bool)
 tickRefusals p w clock =

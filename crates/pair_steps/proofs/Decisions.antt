@@ -15,12 +15,12 @@ use Rattle.pie.specs.Verdicts.{isEarly}
 use Rattle.pie.specs.declared.Pie.{Pie}
 use Rattle.pie.specs.declared.Verdict.{Verdict}
 use Rattle.pie.specs.declared.Verdict.the-variants.{DroppedBytes, DroppedEarly, DroppedSlots, Enqueued, Marked}
-use Rattle.pair_state.specs.Facing.{facing}
-use Rattle.pair_state.specs.Queues.{commonSlots, paired}
-use Rattle.pair_state.specs.WellFormed.{wellFormed}
-use Rattle.pair_state.specs.declared.Shared.{Shared}
-use Rattle.pair_state.specs.declared.Which.the-variants.{Intercom}
-use Rattle.pair_state.proofs.Facts.{QueueFits, facts}
+use Rattle.pair_rules.specs.Facing.{facing}
+use Rattle.pair_rules.specs.Queues.{commonSlots, paired}
+use Rattle.pair_rules.specs.WellFormed.{wellFormed}
+use Rattle.pair_rules.specs.declared.Shared.{Shared}
+use Rattle.pair_rules.specs.declared.Which.the-variants.{Intercom}
+use Rattle.pair_rules.proofs.Facts.{QueueFits, facts}
 use Rattle.pair_rules.specs.Arrival.{arrivedPie, verdictOf}
 use Rattle.pair_rules.proofs.Seen.{verdict-seen}
 use Rattle.pair_words.specs.Words.{pairOf, pieOf, sharedOf, stateOf, whichOf}

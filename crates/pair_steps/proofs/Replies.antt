@@ -7,23 +7,23 @@ use lib.ListN.{length}
 use borrow.Author.Tests.{eq-eqb}
 use Rattle.pie.specs.Verdicts.{admitted, placeOf}
 use Rattle.pie.specs.declared.Verdict.{Verdict}
-use Rattle.queue.specs.Answer.{departed, refused, ticked, verdict}
+use Rattle.ring.specs.Answer.{departed, refused, ticked, verdict}
 use Rattle.refusals.specs.Tests.{sizeRefused}
-use Rattle.pair_state.specs.Answer.{Reply}
+use Rattle.pair_rules.specs.Answer.{Reply}
 use Rattle.store.specs.Put.{freePlace, handlesAfterPut, sizesAfterPut, storeAfterPut}
 use Rattle.store.specs.Take.{sizesAfterTake, storeAfterTake}
-use Rattle.pair_state.specs.Queues.{paired, storing}
-use Rattle.pair_state.specs.WellFormed.{wellFormed}
-use Rattle.pair_state.specs.declared.Pair.{Pair}
-use Rattle.pair_state.specs.declared.Shared.{Shared}
-use Rattle.pair_state.specs.declared.State.{State}
-use Rattle.pair_state.specs.declared.Which.{Which}
-use Rattle.pair_state.specs.declared.Which.the-variants.{Intercom, Passengers}
+use Rattle.pair_rules.specs.Queues.{paired, storing}
+use Rattle.pair_rules.specs.WellFormed.{wellFormed}
+use Rattle.pair_rules.specs.declared.Pair.{Pair}
+use Rattle.pair_rules.specs.declared.Shared.{Shared}
+use Rattle.pair_rules.specs.declared.State.{State}
+use Rattle.pair_rules.specs.declared.Which.{Which}
+use Rattle.pair_rules.specs.declared.Which.the-variants.{Intercom, Passengers}
 use Rattle.pair_rules.specs.Arrival.{arrival, arrivalRefusal, arrivedHandles, arrivedSizes, arrivedState, arrivedStore, freedRefused, verdictOf}
 use Rattle.pair_rules.specs.Departure.{departedSizes, departedState, departure, departureRefusal, headHandle, headSize, headWordRefused}
 use Rattle.pair_rules.specs.Refusals.{clockRefused, countsRefused, emptyRefused, tablesRefused, tooSoonRefused}
 use Rattle.pair_rules.specs.Tick.{tick, tickRefusal, tickedState}
-use Rattle.words.specs.Codes.{codeOf, packetOf}
+use Rattle.ring_words.specs.Codes.{codeOf, packetOf}
 use Rattle.pair_words.specs.After.{ownAfter, sharedAfter}
 use Rattle.pair_words.specs.Words.{sharedWords, stateWords}
 

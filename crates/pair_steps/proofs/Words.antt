@@ -20,14 +20,14 @@ use Rattle.store.specs.Following.{followed, linkRefused}
 use Rattle.store.specs.Put.{endsAfterPut, freePlace, storeAfterPut}
 use Rattle.store.specs.Take.{storeAfterTake}
 use Rattle.store.specs.Words.{linkAt}
-use Rattle.pair_state.specs.Queues.{storing}
+use Rattle.pair_rules.specs.Queues.{storing}
 use Rattle.pair_rules.specs.Arrival.{arrivedPie, arrivedState}
 use Rattle.pair_rules.specs.Departure.{departedState}
 use Rattle.pair_rules.specs.Tick.{tickedState}
-use Rattle.words.specs.Flags.{isSet}
+use Rattle.ring_words.specs.Flags.{isSet}
 use Rattle.pair_words.specs.Words.{pieOf, rateOf, sharedOf, sharedWords, stateOf, stateWords, storeOf}
-use Rattle.words.proofs.Flags.{flag-kept}
-use Rattle.words.proofs.Written.{listed, written-out}
+use Rattle.ring_words.proofs.Flags.{flag-kept}
+use Rattle.ring_words.proofs.Written.{listed, written-out}
 use Rattle.pair_steps.specs.Written.{enteredWords, rateWords, settledWords}
 
 -- what holds of any twenty-one words written out holds of twenty-one words

@@ -6,7 +6,7 @@ use Rattle.pie.specs.Verdicts.{placeOf}
 use Rattle.pie.specs.declared.Rate.{Rate}
 use Rattle.pie.specs.declared.Verdict.{Verdict}
 use Rattle.store.specs.Put.{endsAfterPut}
-use Rattle.pair_state.specs.declared.State.{State}
+use Rattle.pair_rules.specs.declared.State.{State}
 use Rattle.pair_words.specs.Words.{endsOf, stateOf, stateWords}
 
 -- an arrival with this verdict: clock, accumulated probability and the verdict's count

@@ -1,10 +1,10 @@
 -- The words after a call.
 use mathlib.Core.List.{List}
 use Prim.Native.Nat.{ℕ}
-use Rattle.words.specs.Codes.{wordsFor}
-use Rattle.pair_state.specs.Answer.{Reply}
-use Rattle.pair_state.specs.Queues.{own}
-use Rattle.pair_state.specs.declared.Which.{Which}
+use Rattle.ring_words.specs.Codes.{wordsFor}
+use Rattle.pair_rules.specs.Answer.{Reply}
+use Rattle.pair_rules.specs.Queues.{own}
+use Rattle.pair_rules.specs.declared.Which.{Which}
 use Rattle.pair_words.specs.Words.{sharedWords, stateWords}
 
 -- the shared record's, and the called queue's

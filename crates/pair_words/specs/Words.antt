@@ -7,16 +7,16 @@ use Rattle.units.specs.Kinds.{bytes, micros, prob}
 use Rattle.pie.specs.declared.Backlog.{Backlog}
 use Rattle.pie.specs.declared.Pie.{Pie}
 use Rattle.pie.specs.declared.Rate.{Rate}
-use Rattle.words.specs.Flags.{flagWord, isSet}
+use Rattle.ring_words.specs.Flags.{flagWord, isSet}
 use Rattle.store.specs.declared.Ends.{Ends}
 use Rattle.store.specs.declared.Store.{Store}
-use Rattle.pair_state.specs.Fresh.{settingsOf}
-use Rattle.pair_state.specs.Queues.{paired}
-use Rattle.pair_state.specs.declared.Pair.{Pair}
-use Rattle.pair_state.specs.declared.Shared.{Shared}
-use Rattle.pair_state.specs.declared.State.{State}
-use Rattle.pair_state.specs.declared.Which.{Which}
-use Rattle.pair_state.specs.declared.Which.the-variants.{Intercom, Passengers}
+use Rattle.pair_rules.specs.Fresh.{settingsOf}
+use Rattle.pair_rules.specs.Queues.{paired}
+use Rattle.pair_rules.specs.declared.Pair.{Pair}
+use Rattle.pair_rules.specs.declared.Shared.{Shared}
+use Rattle.pair_rules.specs.declared.State.{State}
+use Rattle.pair_rules.specs.declared.Which.{Which}
+use Rattle.pair_rules.specs.declared.Which.the-variants.{Intercom, Passengers}
 
 -- the queue that a call names by `second`
 abbrev pub whichOf : (second : Bool) → Which

@@ -1,9 +1,9 @@
 // The records that words hold, and the words of fresh ones.
-use pair_state::Reserves;
-use pair_state::Settings;
-use pair_state::Shared;
-use pair_state::State;
-use pair_state::Which;
+use pair_rules::Reserves;
+use pair_rules::Settings;
+use pair_rules::Shared;
+use pair_rules::State;
+use pair_rules::Which;
 use pie::Backlog;
 use pie::Pie;
 use pie::Rate;

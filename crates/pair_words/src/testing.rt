@@ -5,7 +5,7 @@ use crate::records::named;
 ghost use mathlib.Core.Path.{_≡_};
 ghost use mathlib.Core.Bool.{true};
 ghost use lib.ListN.{length};
-ghost use Rattle.pair_state.specs.WellFormed.{wellFormed};
+ghost use Rattle.pair_rules.specs.WellFormed.{wellFormed};
 ghost use Rattle.pair_words.specs.Words.{pairOf};
 
 // Each queue's words are read for its own test, so that the compiler keeps none of them over the other's (docs/PERFORMANCE.md).

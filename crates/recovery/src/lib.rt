@@ -79,3 +79,11 @@ pub fn ticks_to_recover(target: u64) -> u64
     }
     0
 }
+
+// The C entry (include/obikuteru.h).
+#[no_mangle]
+pub extern "C" fn obikuteru_ticks_to_recover(target: u64) -> u64
+    ensures { λ r. ⌜ r ≡ ticksToRecover target ⌝ }
+{
+    ticks_to_recover(target)
+}

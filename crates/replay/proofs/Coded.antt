@@ -9,18 +9,18 @@ use lib.ListN.{length}
 use borrow.Author.Tests.{le-leb, lt-leb}
 use Rattle.pie.specs.Verdicts.{placeOf}
 use Rattle.pie.proofs.Counts.{place-lt}
-use Rattle.queue.specs.declared.State.{State}
-use Rattle.queue.specs.Answer.{Answer, Reply, departed, handleIn, made, refused, sizeIn, ticked, unlessRefused, verdict}
-use Rattle.queue.specs.Arrival.{arrival, arrivalRefusal, stored}
-use Rattle.queue.specs.Departure.{departure, departureRefusal, headOf}
-use Rattle.queue.specs.Tick.{tick, tickRefusal}
-use Rattle.words.specs.Codes.{codeOf, wordsAfter}
-use Rattle.words.specs.Words.{stateOf}
-use Rattle.codec.specs.declared.Record.{Record}
-use Rattle.guarantees.proofs.Replies.{arrivalOf, departureOf, tickOf}
+use Rattle.ring.specs.declared.State.{State}
+use Rattle.ring.specs.Answer.{Answer, Reply, departed, handleIn, made, refused, sizeIn, ticked, unlessRefused, verdict}
+use Rattle.ring.specs.Arrival.{arrival, arrivalRefusal, stored}
+use Rattle.ring.specs.Departure.{departure, departureRefusal, headOf}
+use Rattle.ring.specs.Tick.{tick, tickRefusal}
+use Rattle.ring_words.specs.Codes.{codeOf, wordsAfter}
+use Rattle.ring_words.specs.Words.{stateOf}
+use Rattle.log_codec.specs.declared.Record.{Record}
+use Rattle.ring_guarantees.proofs.Replies.{arrivalOf, departureOf, tickOf}
 use Rattle.bursts.specs.Answers.{answerWord}
-use Rattle.steps.specs.Lent.{Lent, leaves, lent, replyTo}
-use Rattle.steps.proofs.Answers.{departure-small}
+use Rattle.ring_steps.specs.Lent.{Lent, leaves, lent, replyTo}
+use Rattle.ring_steps.proofs.Answers.{departure-small}
 use Rattle.replay.specs.Agreement.{refusalIn, requestOf, verdictIn}
 use Rattle.replay.specs.declared.Called.{Called}
 

@@ -9,17 +9,17 @@ use lib.ListN.{length}
 use borrow.Author.Tests.{eqb-true, not-false}
 use Rattle.laws.proofs.Tests.{and-left, and-right, or-neither}
 use Rattle.pie.specs.Verdicts.{total}
-use Rattle.queue.specs.Answer.{made}
-use Rattle.queue.specs.Fresh.{fresh, freshState, settingsOf}
-use Rattle.queue.specs.Refusals.{settingsRefused}
-use Rattle.queue.specs.declared.Settings.{Settings}
-use Rattle.queue.specs.declared.State.{State}
-use Rattle.queue.proofs.Kept.{fresh-well-formed}
-use Rattle.words.specs.Words.{stateOf, stateWords}
-use Rattle.words.proofs.Words.{back, words-long}
-use Rattle.codec.specs.declared.Header.{Header}
-use Rattle.steps.specs.Lent.{lent}
-use Rattle.steps.specs.Fitting.{Ready}
+use Rattle.ring.specs.Answer.{made}
+use Rattle.ring.specs.Fresh.{fresh, freshState, settingsOf}
+use Rattle.ring.specs.Refusals.{settingsRefused}
+use Rattle.ring.specs.declared.Settings.{Settings}
+use Rattle.ring.specs.declared.State.{State}
+use Rattle.ring.proofs.Kept.{fresh-well-formed}
+use Rattle.ring_words.specs.Words.{stateOf, stateWords}
+use Rattle.ring_words.proofs.Words.{back, words-long}
+use Rattle.log_codec.specs.declared.Header.{Header}
+use Rattle.ring_steps.specs.Lent.{lent}
+use Rattle.ring_steps.specs.Fitting.{Ready}
 use Rattle.log.specs.Answers.{Answer, given, refused}
 use Rattle.log.specs.Faults.{headerRefused}
 use Rattle.log.specs.Layout.{countIn, headerIn, noteIn, offsetIn, recordsFrom, recordsIn}

@@ -2,3 +2,4 @@
 pub mod Coded
 pub mod Rounds
 pub mod Contained
+pub mod Numbers

@@ -4,14 +4,14 @@ use mathlib.Core.List.{List, [], _∷_}
 use Prim.Native.Nat.{ℕ, zero, suc, _+_, _-_, _<_}
 use native.Mathlib.Omega.{arith}
 use lib.ListN.{length}
-use Rattle.codec.specs.Records.{decoded}
-use Rattle.codec.specs.declared.Record.{Record}
+use Rattle.log_codec.specs.Records.{decoded}
+use Rattle.log_codec.specs.declared.Record.{Record}
 use Rattle.refusals.specs.Rows.{firstRefusal}
-use Rattle.guarantees.specs.Handed.{Queue, Request, after, answerOf, askArrival, askDeparture, askTick}
+use Rattle.ring_guarantees.specs.Handed.{Queue, Request, after, answerOf, askArrival, askDeparture, askTick}
 use Rattle.log.specs.Layout.{recordsFrom}
-use Rattle.steps.specs.Lent.{Lent, leaves, queueOf as lentQueue}
-use Rattle.steps.specs.Fitting.{Ready}
-use Rattle.steps.proofs.Kept.{leaves-queue, ready-kept, stored-long}
+use Rattle.ring_steps.specs.Lent.{Lent, leaves, queueOf as lentQueue}
+use Rattle.ring_steps.specs.Fitting.{Ready}
+use Rattle.ring_steps.proofs.Kept.{leaves-queue, ready-kept, stored-long}
 use Rattle.replay.specs.Agreement.{disagreement, disagreements, refusalIn, requestOf, verdictIn}
 use Rattle.replay.specs.Replay.{Replay, disagrees, replayFrom, unlessDisagrees}
 use Rattle.replay.specs.Replied.{bytesIn, handlesAfter, probIn, replayedOf, sizesAfter}

@@ -1,7 +1,7 @@
 -- What a replay hands back: numbers, and the two tables.
 use mathlib.Core.List.{List}
 use Prim.Native.Nat.{ℕ}
-use Rattle.queue.specs.declared.State.{State}
+use Rattle.ring.specs.declared.State.{State}
 use Rattle.replay.specs.Agreement.{refusalIn, verdictIn}
 use Rattle.replay.specs.Replay.{Replay, accepted, disagrees, refused}
 use Rattle.replay.specs.declared.Replayed.{Replayed}

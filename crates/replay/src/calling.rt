@@ -1,15 +1,15 @@
 // The call that a record holds, made by the rules.
 use crate::Called;
-use codec::Record;
-use steps::arrive;
-use steps::depart;
-use steps::tick;
+use log_codec::Record;
+use ring_steps::arrive;
+use ring_steps::depart;
+use ring_steps::tick;
 ghost use mathlib.Core.Path.{_≡_};
 ghost use mathlib.Core.Bool.{cond};
 ghost use Prim.Native.Nat.{_-_, _≤_};
 ghost use lib.Dec.{leb};
-ghost use Rattle.steps.specs.Lent.{leaves, lent, replyTo};
-ghost use Rattle.steps.specs.Fitting.{Ready};
+ghost use Rattle.ring_steps.specs.Lent.{leaves, lent, replyTo};
+ghost use Rattle.ring_steps.specs.Fitting.{Ready};
 ghost use Rattle.replay.specs.Agreement.{refusalIn, requestOf, verdictIn};
 
 // What the code of an answer says: 100 and the number of a refusal, or else the verdict.

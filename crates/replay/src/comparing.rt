@@ -1,6 +1,6 @@
 // A record held against what the rules give.
 use crate::Called;
-use codec::Record;
+use log_codec::Record;
 ghost use mathlib.Core.Path.{_≡_};
 ghost use Rattle.refusals.specs.Rows.{firstRefusal};
 ghost use Rattle.replay.specs.Agreement.{disagreements};

@@ -3,10 +3,10 @@ use crate::Replayed;
 use crate::running::run;
 use log::Checked;
 use log::Refusal;
-use queue::State;
+use ring::State;
+use ring_words::encode;
 use units::Bytes;
 use units::Micros;
-use words::encode;
 ghost use mathlib.Core.Path.{_≡_};
 ghost use Prim.Native.Nat.{_≤_};
 ghost use Rattle.log.specs.Answers.{given, refusalNumber};
@@ -53,7 +53,7 @@ fn replay_whole(
     ensures { λ _. ⌜ (let a = replayBy (now (log .entry)) (now (handles .entry)) (now (sizes .entry)) in
         (now (handles .exit) ≡ handlesAfter a (now (handles .entry))) × (now (sizes .exit) ≡ sizesAfter a (now (sizes .entry)))) ⌝ }
 {
-    let h = codec::get_header(log, 0);
+    let h = log_codec::get_header(log, 0);
     let slots = h.slots as u64;
     let misfit = !((handles.len() as u64 == slots) & (sizes.len() as u64 == slots));
     if misfit {

@@ -5,10 +5,10 @@ use crate::comparing::compare;
 ghost use mathlib.Core.Path.{_≡_};
 ghost use Prim.Native.Nat.{_+_, _*_, _≤_};
 ghost use lib.ListN.{length};
-ghost use Rattle.words.specs.Words.{stateOf};
+ghost use Rattle.ring_words.specs.Words.{stateOf};
 ghost use Rattle.log.specs.Layout.{recordsFrom};
-ghost use Rattle.steps.specs.Lent.{lent};
-ghost use Rattle.steps.specs.Fitting.{Ready};
+ghost use Rattle.ring_steps.specs.Lent.{lent};
+ghost use Rattle.ring_steps.specs.Fitting.{Ready};
 ghost use Rattle.replay.specs.Replay.{queueOf, replayFrom};
 ghost use Rattle.replay.specs.Replied.{handlesAfter, replayedOf, sizesAfter};
 
@@ -31,7 +31,7 @@ pub(crate) fn run(
     let mut at = offset;
     let mut i: usize = 0;
     while i < count {
-        let r = codec::get(log, at);
+        let r = log_codec::get(log, at);
         let c = call(w, r, handles, sizes);
         let field = compare(r, c, w[5], w[14]);
         if 0 < field {

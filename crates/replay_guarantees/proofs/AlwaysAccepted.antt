@@ -6,11 +6,11 @@ use Prim.Native.Nat.{ℕ, _+_}
 use native.Mathlib.Omega.{arith}
 use borrow.Author.Tests.{eq-eqb}
 use lib.ListN.{length}
-use Rattle.queue.specs.Fresh.{settingsOf}
-use Rattle.queue.specs.declared.Settings.{Settings}
-use Rattle.codec.specs.declared.Header.{Header}
-use Rattle.guarantees.specs.Handed.{Queue, Request, Run, after, begin, queued, step}
-use Rattle.queue.proofs.Kept.{fresh-well-formed}
+use Rattle.ring.specs.Fresh.{settingsOf}
+use Rattle.ring.specs.declared.Settings.{Settings}
+use Rattle.log_codec.specs.declared.Header.{Header}
+use Rattle.ring_guarantees.specs.Handed.{Queue, Request, Run, after, begin, queued, step}
+use Rattle.ring.proofs.Kept.{fresh-well-formed}
 use Rattle.log.specs.Answers.{given}
 use Rattle.log.specs.Faults.{headerRefused}
 use Rattle.log.specs.Whole.{Contents, readWhole}

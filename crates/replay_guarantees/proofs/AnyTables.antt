@@ -8,18 +8,18 @@ use borrow.Author.Tests.{eqb-false, eqb-true, not-false}
 use lib.Dec.{eqb}
 use lib.ListN.{length}
 use Rattle.laws.proofs.Tests.{and-left, and-right}
-use Rattle.queue.specs.Answer.{Answer, refused}
-use Rattle.queue.specs.Departure.{headOf}
-use Rattle.queue.specs.Refusals.{tablesRefused}
-use Rattle.queue.specs.State.{wellFormed}
-use Rattle.queue.specs.declared.Settings.{Settings}
-use Rattle.queue.specs.declared.State.{State}
-use Rattle.queue.proofs.Facts.{facts}
-use Rattle.codec.specs.declared.Record.{Record}
+use Rattle.ring.specs.Answer.{Answer, refused}
+use Rattle.ring.specs.Departure.{headOf}
+use Rattle.ring.specs.Refusals.{tablesRefused}
+use Rattle.ring.specs.State.{wellFormed}
+use Rattle.ring.specs.declared.Settings.{Settings}
+use Rattle.ring.specs.declared.State.{State}
+use Rattle.ring.proofs.Facts.{facts}
+use Rattle.log_codec.specs.declared.Record.{Record}
 use Rattle.calls.specs.Packets.{Packet}
-use Rattle.guarantees.specs.Handed.{Queue, Request, after, answerOf, askArrival, askDeparture, askTick, callOf, queued}
-use Rattle.guarantees.proofs.Refusals.{refusals}
-use Rattle.guarantees.proofs.Replies.{number-refuses, numberGiven}
+use Rattle.ring_guarantees.specs.Handed.{Queue, Request, after, answerOf, askArrival, askDeparture, askTick, callOf, queued}
+use Rattle.ring_guarantees.proofs.Refusals.{refusals}
+use Rattle.ring_guarantees.proofs.Replies.{number-refuses, numberGiven}
 use Rattle.log.specs.Answers.{Answer as LogAnswer, given, refused as logRefused}
 use Rattle.log.specs.Whole.{Contents, readWhole}
 use Rattle.replay.specs.Agreement.{disagreement, requestOf}

@@ -11,21 +11,21 @@ use Rattle.pie.specs.Constants.{largest, latest}
 use Rattle.pie.specs.Verdicts.{placeOf}
 use Rattle.pie.specs.declared.Verdict.{Verdict}
 use Rattle.pie.specs.declared.Verdict.the-variants.{Enqueued, Marked, DroppedBytes, DroppedSlots, DroppedEarly}
-use Rattle.queue.specs.Activity.{begun}
-use Rattle.queue.specs.Answer.{Answer, Reply, admits, departed, made, refused, ticked, verdict}
-use Rattle.queue.specs.Arrival.{arrivalRefusal, verdictOf}
-use Rattle.queue.specs.Departure.{departureRefusal, headOf}
-use Rattle.queue.specs.State.{wellFormed}
-use Rattle.queue.specs.Tick.{tickRefusal}
-use Rattle.queue.specs.declared.State.{State}
-use Rattle.queue.proofs.Facts.{Facts, facts}
-use Rattle.queue.proofs.WhenAccepted.{arrival-accepted, departure-accepted, tick-accepted}
-use Rattle.codec.specs.Records.{InRange}
-use Rattle.codec.specs.declared.Record.{Record}
+use Rattle.ring.specs.Activity.{begun}
+use Rattle.ring.specs.Answer.{Answer, Reply, admits, departed, made, refused, ticked, verdict}
+use Rattle.ring.specs.Arrival.{arrivalRefusal, verdictOf}
+use Rattle.ring.specs.Departure.{departureRefusal, headOf}
+use Rattle.ring.specs.State.{wellFormed}
+use Rattle.ring.specs.Tick.{tickRefusal}
+use Rattle.ring.specs.declared.State.{State}
+use Rattle.ring.proofs.Facts.{Facts, facts}
+use Rattle.ring.proofs.WhenAccepted.{arrival-accepted, departure-accepted, tick-accepted}
+use Rattle.log_codec.specs.Records.{InRange}
+use Rattle.log_codec.specs.declared.Record.{Record}
 use Rattle.calls.specs.Packets.{Packet}
-use Rattle.guarantees.specs.Handed.{Queue, Request, admittedBy, after, answerOf, askArrival, askDeparture, askTick, brought, callOf, departedBy, queued}
-use Rattle.guarantees.proofs.Moves.{moved}
-use Rattle.guarantees.proofs.Replies.{numberGiven, reply-well-formed}
+use Rattle.ring_guarantees.specs.Handed.{Queue, Request, admittedBy, after, answerOf, askArrival, askDeparture, askTick, brought, callOf, departedBy, queued}
+use Rattle.ring_guarantees.proofs.Moves.{moved}
+use Rattle.ring_guarantees.proofs.Replies.{numberGiven, reply-well-formed}
 use Rattle.log.specs.Faults.{faulty, mostBytes}
 use Rattle.log.specs.Whole.{anyFaulty}
 use Rattle.log_guarantees.specs.Run.{AllInRange}

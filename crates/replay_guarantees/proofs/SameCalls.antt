@@ -4,19 +4,19 @@ use mathlib.Core.Path.{_≡_, refl, sym, ap, subst, _∙_}
 use mathlib.Core.List.{List, [], _∷_, _++_}
 use Prim.Native.Nat.{ℕ, _+_, _<_, _≤_}
 use lib.ListN.{length}
-use Rattle.queue.specs.Activity.{begun}
-use Rattle.queue.specs.Answer.{Reply}
-use Rattle.queue.specs.Arrival.{arrivalRefusal, arrivedState}
-use Rattle.queue.specs.Departure.{departedState, departureRefusal, headOf}
-use Rattle.queue.specs.Tick.{tickedState}
-use Rattle.queue.specs.declared.Settings.{Settings}
-use Rattle.queue.specs.declared.State.{State}
-use Rattle.queue.proofs.WhenAccepted.{arrival-accepted, departure-accepted}
-use Rattle.guarantees.specs.Calls.{Call, arrive, depart, reply, update}
+use Rattle.ring.specs.Activity.{begun}
+use Rattle.ring.specs.Answer.{Reply}
+use Rattle.ring.specs.Arrival.{arrivalRefusal, arrivedState}
+use Rattle.ring.specs.Departure.{departedState, departureRefusal, headOf}
+use Rattle.ring.specs.Tick.{tickedState}
+use Rattle.ring.specs.declared.Settings.{Settings}
+use Rattle.ring.specs.declared.State.{State}
+use Rattle.ring.proofs.WhenAccepted.{arrival-accepted, departure-accepted}
+use Rattle.ring_guarantees.specs.Calls.{Call, arrive, depart, reply, update}
 use Rattle.calls.specs.Packets.{Packet}
-use Rattle.guarantees.specs.Handed.{Queue, Request, admittedBy, after, answerOf, askArrival, askDeparture, askTick, callOf, departedBy, queued}
-use Rattle.guarantees.proofs.Moves.{moved}
-use Rattle.guarantees.proofs.Replies.{acceptance, at-one-reply, by-number, numberGiven}
+use Rattle.ring_guarantees.specs.Handed.{Queue, Request, admittedBy, after, answerOf, askArrival, askDeparture, askTick, callOf, departedBy, queued}
+use Rattle.ring_guarantees.proofs.Moves.{moved}
+use Rattle.ring_guarantees.proofs.Replies.{acceptance, at-one-reply, by-number, numberGiven}
 use Rattle.calls.specs.Ring.{slot}
 use Rattle.calls.proofs.Ring.{leaves}
 use Rattle.replay.specs.Replay.{queueOf}

@@ -15,25 +15,25 @@ use Rattle.pie.specs.Constants.{largest, mostVerdicts}
 use Rattle.pie.specs.Verdicts.{total}
 use Rattle.pie.proofs.Counts.{total-raised}
 use Rattle.refusals.specs.Tests.{sizeRefused}
-use Rattle.queue.specs.Activity.{begun}
-use Rattle.queue.specs.Answer.{Reply, refused}
-use Rattle.queue.specs.Arrival.{arrivedState, verdictOf}
-use Rattle.queue.specs.Departure.{departedState}
-use Rattle.queue.specs.Fresh.{settingsOf}
-use Rattle.queue.specs.Refusals.{tablesRefused}
-use Rattle.queue.specs.State.{wellFormed}
-use Rattle.queue.specs.Tick.{tickedState}
-use Rattle.queue.specs.declared.State.{State}
-use Rattle.codec.specs.declared.Header.{Header}
-use Rattle.codec.specs.declared.Record.{Record}
+use Rattle.ring.specs.Activity.{begun}
+use Rattle.ring.specs.Answer.{Reply, refused}
+use Rattle.ring.specs.Arrival.{arrivedState, verdictOf}
+use Rattle.ring.specs.Departure.{departedState}
+use Rattle.ring.specs.Fresh.{settingsOf}
+use Rattle.ring.specs.Refusals.{tablesRefused}
+use Rattle.ring.specs.State.{wellFormed}
+use Rattle.ring.specs.Tick.{tickedState}
+use Rattle.ring.specs.declared.State.{State}
+use Rattle.log_codec.specs.declared.Header.{Header}
+use Rattle.log_codec.specs.declared.Record.{Record}
 use Rattle.calls.specs.Conservation.{Held}
 use Rattle.calls.specs.Handed as general
 use Rattle.calls.proofs.RunKept.{run-kept}
-use Rattle.guarantees.specs.Calls.{Call, arrive, depart, update}
-use Rattle.guarantees.specs.Handed.{Queue, Request, after, answerOf, askArrival, askDeparture, askTick, begin, callOf, ringQueue}
-use Rattle.guarantees.proofs.NeverRefused.{not-given}
-use Rattle.guarantees.proofs.Replies.{acceptance, at-one-reply}
-use Rattle.guarantees.proofs.RingKeeps.{Sound, fresh-empty, fresh-sound, ring-keeps, ringReadings}
+use Rattle.ring_guarantees.specs.Calls.{Call, arrive, depart, update}
+use Rattle.ring_guarantees.specs.Handed.{Queue, Request, after, answerOf, askArrival, askDeparture, askTick, begin, callOf, ringQueue}
+use Rattle.ring_guarantees.proofs.NeverRefused.{not-given}
+use Rattle.ring_guarantees.proofs.Replies.{acceptance, at-one-reply}
+use Rattle.ring_guarantees.proofs.RingKeeps.{Sound, fresh-empty, fresh-sound, ring-keeps, ringReadings}
 use Rattle.log.specs.Answers.{Answer as LogAnswer, given, refused as logRefused}
 use Rattle.log.specs.Faults.{arrival, departure, faulty, fieldConditions, headerRefused}
 use Rattle.log.specs.Layout.{countIn, headerIn, noteIn, offsetIn, recordsIn}

@@ -10,8 +10,8 @@ use lib.ListN.{length, length-append}
 use lib.Seq.{length-sets}
 use Rattle.laws.proofs.Tests.{or-neither}
 use Rattle.laws.specs.Tests.{all}
-use Rattle.codec.specs.declared.Header.{Header}
-use Rattle.codec.specs.declared.Record.{Record}
+use Rattle.log_codec.specs.declared.Header.{Header}
+use Rattle.log_codec.specs.declared.Record.{Record}
 use Rattle.log.specs.Faults.{faulty}
 use Rattle.log.specs.Layout.{lengthOf}
 use Rattle.log.specs.Whole.{anyFaulty}

@@ -4,9 +4,9 @@ use mathlib.Core.Path.{_≡_}
 use mathlib.Core.List.{List}
 use Prim.Native.Nat.{ℕ, _+_, _*_, _≤_}
 use lib.ListN.{length}
-use Rattle.queue.specs.Fresh.{settingsOf}
-use Rattle.codec.specs.declared.Header.{Header}
-use Rattle.guarantees.specs.Handed.{Queue, Request, begin, queued, run}
+use Rattle.ring.specs.Fresh.{settingsOf}
+use Rattle.log_codec.specs.declared.Header.{Header}
+use Rattle.ring_guarantees.specs.Handed.{Queue, Request, begin, queued, run}
 use Rattle.log.specs.Writer.{begin as beginLog}
 use Rattle.log_guarantees.specs.Run.{logOf, run as write}
 use Rattle.replay.specs.Replay.{Replay, accepted, replay}

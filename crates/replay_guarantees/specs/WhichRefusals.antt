@@ -3,8 +3,8 @@
 use mathlib.Core.Path.{_≡_}
 use mathlib.Core.List.{List}
 use Prim.Native.Nat.{ℕ, _≤_}
-use Rattle.queue.specs.Answer.{refused}
-use Rattle.guarantees.specs.Handed.{Queue}
+use Rattle.ring.specs.Answer.{refused}
+use Rattle.ring_guarantees.specs.Handed.{Queue}
 use Rattle.replay.specs.Replay.{disagrees, replay}
 
 abbrev pub WhichRefusals : Type 0

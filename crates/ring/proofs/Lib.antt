@@ -1,2 +1,7 @@
--- Laws about places of the ring, for the functions' proofs.
-pub mod Places
+-- Laws about the queue's definitions, for the functions' proofs and for the theorems over lists of calls.
+pub mod Facts
+pub mod WhenAccepted
+pub mod Replies
+pub mod Admitted
+pub mod Activation
+pub mod Kept

@@ -4,12 +4,12 @@ use mathlib.Core.Bool.{Bool, true, false, cond, false≢true}
 use mathlib.Core.List.{List, [], _∷_, _++_, append-assoc, append-nil, foldl, foldl-append, map}
 use Prim.Native.Nat.{ℕ}
 use lib.Dec.{eqb}
-use Rattle.command.specs.Line.{readLine}
+use Rattle.script_command.specs.Line.{readLine}
 use Rattle.lines.specs.Reader.{begun, isEmpty, pushed}
-use Rattle.command.specs.Reader.{finished}
-use Rattle.command.specs.declared.Command.{Command}
+use Rattle.script_command.specs.Reader.{finished}
+use Rattle.script_command.specs.declared.Command.{Command}
 use Rattle.lines.proofs.Emptiness.{not-empty}
-use Rattle.command.proofs.Reading.{reads-lines}
+use Rattle.script_command.proofs.Reading.{reads-lines}
 use Rattle.script.specs.Feeding.{Machine, byteFed, endFed, fed, hasEnded, lineFed}
 use Rattle.script.specs.Lines.{joined, linesOf}
 use Rattle.script.specs.Pieces.{NothingAfterABadLine, PiecesWriteTheScript, emptied, joinedUp, start, written}

@@ -4,8 +4,8 @@ use mathlib.Core.List.{List, [], append-nil}
 use Prim.Native.Nat.{ℕ}
 use native.Mathlib.Omega.{arith}
 use Rattle.decimal.specs.Written.{Wrote}
-use Rattle.command.specs.declared.Command.{Command}
-use Rattle.command.specs.declared.Command.the-variants.{Bad, Configure, Arrival, Departure, Tick}
+use Rattle.script_command.specs.declared.Command.{Command}
+use Rattle.script_command.specs.declared.Command.the-variants.{Bad, Configure, Arrival, Departure, Tick}
 use Rattle.script.specs.Answering.{atStage, firstLine, laterLine, outcome}
 use Rattle.script.specs.declared.Session.{Session}
 use Rattle.script.specs.declared.Stage.{Stage}

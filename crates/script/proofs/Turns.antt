@@ -11,9 +11,9 @@ use lib.Dec.{eqb}
 use lib.ListN.{drop, getD, length, length-drop, take}
 use lib.Seq.{getD-drop, take-add, take-suc}
 use Rattle.lines.specs.Reader.{begun, pushed}
-use Rattle.command.specs.Reader.{finished}
+use Rattle.script_command.specs.Reader.{finished}
 use Rattle.lines.specs.Scan.{lineEnd, readOn}
-use Rattle.command.specs.declared.Command.{Command}
+use Rattle.script_command.specs.declared.Command.{Command}
 use Rattle.lines.specs.declared.Reader.{Reader}
 use Rattle.lines.specs.declared.Scanned.{Scanned}
 use Rattle.script.specs.Answering.{outcome}

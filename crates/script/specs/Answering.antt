@@ -2,15 +2,15 @@
 use mathlib.Core.List.{List, _++_, []}
 use Prim.Native.Nat.{ℕ, _+_, _-_, _^_, min}
 use lib.ListN.{drop, take}
-use Rattle.command.specs.declared.Command.{Command}
-use Rattle.command.specs.declared.Command.the-variants.{Bad, Configure, Arrival, Departure, Tick}
-use Rattle.queue.specs.Answer.{Reply}
-use Rattle.queue.specs.Arrival.{arrival, stored}
-use Rattle.queue.specs.Departure.{departure}
-use Rattle.queue.specs.Fresh.{fresh, settingsOf}
-use Rattle.queue.specs.Tick.{tick}
-use Rattle.queue.specs.declared.State.{State}
-use Rattle.answers.specs.Output.{badText, replyText}
+use Rattle.script_command.specs.declared.Command.{Command}
+use Rattle.script_command.specs.declared.Command.the-variants.{Bad, Configure, Arrival, Departure, Tick}
+use Rattle.ring.specs.Answer.{Reply}
+use Rattle.ring.specs.Arrival.{arrival, stored}
+use Rattle.ring.specs.Departure.{departure}
+use Rattle.ring.specs.Fresh.{fresh, settingsOf}
+use Rattle.ring.specs.Tick.{tick}
+use Rattle.ring.specs.declared.State.{State}
+use Rattle.script_answers.specs.Output.{badText, replyText}
 use Rattle.script.specs.declared.Session.{Session}
 use Rattle.script.specs.declared.Stage.{Stage}
 use Rattle.script.specs.declared.Stage.the-variants.{First, Running, Ended}

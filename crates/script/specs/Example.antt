@@ -3,7 +3,7 @@ use mathlib.Core.Path.{_≡_}
 use mathlib.Core.List.{List, [], _∷_}
 use Prim.Native.String.{String}
 use Rattle.laws.specs.Every.{Every}
-use Rattle.answers.specs.Output.{ascii}
+use Rattle.script_answers.specs.Output.{ascii}
 use Rattle.script.specs.Script.{script}
 
 -- input and output

@@ -4,7 +4,7 @@ use mathlib.Core.List.{List, foldl}
 use Prim.Native.Nat.{ℕ, _-_}
 use lib.Dec.{eqb, ltb}
 use Rattle.lines.specs.Reader.{begun, isEmpty, pushed}
-use Rattle.command.specs.Reader.{finished}
+use Rattle.script_command.specs.Reader.{finished}
 use Rattle.lines.specs.declared.Reader.{Reader}
 use Rattle.script.specs.Script.{ScriptRun, answerLine, startSession}
 use Rattle.script.specs.declared.Runner.{Runner}

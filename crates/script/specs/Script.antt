@@ -2,9 +2,9 @@
 use mathlib.Core.List.{List, [], _++_, foldl, map}
 use Prim.Native.Nat.{ℕ}
 use lib.ListN.{replicate}
-use Rattle.command.specs.Line.{readLine}
-use Rattle.command.specs.declared.Command.{Command}
-use Rattle.queue.specs.Fresh.{zeroState}
+use Rattle.script_command.specs.Line.{readLine}
+use Rattle.script_command.specs.declared.Command.{Command}
+use Rattle.ring.specs.Fresh.{zeroState}
 use Rattle.script.specs.Answering.{outcome}
 use Rattle.script.specs.Lines.{linesOf}
 use Rattle.script.specs.declared.Session.{Session}

@@ -6,7 +6,7 @@ use crate::Stage;
 use crate::answering::answer;
 use lines::Reader;
 use lines::scan;
-use queue::State;
+use ring::State;
 use units::Bytes;
 use units::Micros;
 ghost use mathlib.Core.Path.{_≡_};
@@ -89,7 +89,7 @@ pub fn feed(
         reader = scanned.reader;
         taken = scanned.at;
         if taken < input.len() {
-            let read = command::finish(reader);
+            let read = script_command::finish(reader);
             let answered = answer(session, read, handles, sizes, output, written);
             session = answered.session;
             reader = Reader::begin();
@@ -125,7 +125,14 @@ pub fn finish(runner: Runner, handles: &mut [u32], sizes: &mut [u32], output: &m
         return none;
     }
     let session = runner.session;
-    let answered = answer(session, command::finish(reader), handles, sizes, output, 0);
+    let answered = answer(
+        session,
+        script_command::finish(reader),
+        handles,
+        sizes,
+        output,
+        0,
+    );
     let session = answered.session;
     Fed {
         runner: Runner {

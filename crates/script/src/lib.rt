@@ -1,6 +1,6 @@
 // A script of queue calls, fed in pieces of any length.
 use lines::Reader;
-use queue::State;
+use ring::State;
 
 mod answering;
 mod feeding;

@@ -5,17 +5,17 @@ use mathlib.Core.Logic.{_⊎_, inl, inr, ⊎-elim}
 use Prim.Native.Nat.{ℕ}
 use lib.ListN.{length, length-replicate, length-set, replicate}
 use Rattle.laws.proofs.Choice.{at-cond}
-use Rattle.queue.specs.Activity.{begun}
-use Rattle.queue.specs.Answer.{Answer, Reply, admits}
-use Rattle.queue.specs.Arrival.{arrivedState, stored}
-use Rattle.queue.specs.Departure.{departedState}
-use Rattle.queue.specs.Fresh.{fresh, settingsOf, zeroState}
-use Rattle.queue.specs.Refusals.{settingsRefused}
-use Rattle.queue.specs.Tick.{tickedState}
-use Rattle.queue.specs.declared.State.{State}
-use Rattle.guarantees.specs.Calls.{Call, reply}
-use Rattle.guarantees.specs.Handed.{Queue, Request, after, askArrival, askDeparture, askTick, callOf}
-use Rattle.guarantees.proofs.Replies.{at-reply}
+use Rattle.ring.specs.Activity.{begun}
+use Rattle.ring.specs.Answer.{Answer, Reply, admits}
+use Rattle.ring.specs.Arrival.{arrivedState, stored}
+use Rattle.ring.specs.Departure.{departedState}
+use Rattle.ring.specs.Fresh.{fresh, settingsOf, zeroState}
+use Rattle.ring.specs.Refusals.{settingsRefused}
+use Rattle.ring.specs.Tick.{tickedState}
+use Rattle.ring.specs.declared.State.{State}
+use Rattle.ring_guarantees.specs.Calls.{Call, reply}
+use Rattle.ring_guarantees.specs.Handed.{Queue, Request, after, askArrival, askDeparture, askTick, callOf}
+use Rattle.ring_guarantees.proofs.Replies.{at-reply}
 use Rattle.script_guarantees.specs.Entries.{opened}
 use Rattle.script_guarantees.proofs.Idle.{idle-reply}
 

@@ -7,16 +7,16 @@ use Prim.Native.Nat.{ℕ, zero, suc, _+_, _-_, _^_, _≤_, min}
 use native.Mathlib.Omega.{arith}
 use lib.ListN.{length}
 use lib.Seq.{drop-at, take-at}
-use Rattle.command.specs.declared.Command.{Command}
-use Rattle.command.specs.declared.Command.the-variants.{Bad, Configure, Arrival, Departure, Tick}
-use Rattle.queue.specs.Arrival.{arrival, arrivalRefusal}
-use Rattle.queue.specs.Departure.{departure, departureRefusal}
-use Rattle.queue.specs.Fresh.{zeroState}
-use Rattle.queue.specs.State.{wellFormed}
-use Rattle.queue.specs.Tick.{tick, tickRefusal}
-use Rattle.answers.specs.Output.{badText}
-use Rattle.guarantees.specs.Calls.{Entry, entry}
-use Rattle.guarantees.specs.Handed.{Queue, Request, after, askArrival, askDeparture, askTick, callOf}
+use Rattle.script_command.specs.declared.Command.{Command}
+use Rattle.script_command.specs.declared.Command.the-variants.{Bad, Configure, Arrival, Departure, Tick}
+use Rattle.ring.specs.Arrival.{arrival, arrivalRefusal}
+use Rattle.ring.specs.Departure.{departure, departureRefusal}
+use Rattle.ring.specs.Fresh.{zeroState}
+use Rattle.ring.specs.State.{wellFormed}
+use Rattle.ring.specs.Tick.{tick, tickRefusal}
+use Rattle.script_answers.specs.Output.{badText}
+use Rattle.ring_guarantees.specs.Calls.{Entry, entry}
+use Rattle.ring_guarantees.specs.Handed.{Queue, Request, after, askArrival, askDeparture, askTick, callOf}
 use Rattle.script.specs.Answering.{laterLine, nextLine, outcome}
 use Rattle.script.specs.Script.{ScriptRun, answerLine}
 use Rattle.script.specs.declared.Stage.the-variants.{Running, Ended}

@@ -3,10 +3,10 @@ use mathlib.Core.Path.{_≡_, refl, sym, ap, _∙_}
 use mathlib.Core.List.{List, [], _∷_, _++_, append-assoc}
 use Prim.Native.Nat.{_+_}
 use native.Mathlib.Omega.{arith}
-use Rattle.queue.specs.declared.State.{State}
-use Rattle.guarantees.specs.Calls.{Entry}
+use Rattle.ring.specs.declared.State.{State}
+use Rattle.ring_guarantees.specs.Calls.{Entry}
 use Rattle.calls.specs.Packets.{bytesOf}
-use Rattle.guarantees.specs.Handed.{queued}
+use Rattle.ring_guarantees.specs.Handed.{queued}
 use Rattle.calls.proofs.Packets.{bytes-append}
 use Rattle.script_guarantees.specs.Asked.{asked}
 use Rattle.script_guarantees.specs.RunTrace.{stateAfter}

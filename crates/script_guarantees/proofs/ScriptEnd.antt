@@ -5,13 +5,13 @@ use mathlib.Core.List.{List, [], _∷_, _++_, foldl, map}
 use Prim.Native.Nat.{ℕ, _+_, _-_, _^_, _≤_}
 use native.Mathlib.Omega.{arith}
 use lib.ListN.{length, replicate, replicate-append-replicate}
-use Rattle.command.specs.Line.{readLine}
-use Rattle.command.specs.declared.Command.{Command}
-use Rattle.command.specs.declared.Command.the-variants.{Bad, Configure, Arrival, Departure, Tick}
-use Rattle.queue.specs.Fresh.{fresh, settingsOf, zeroState}
-use Rattle.queue.specs.declared.State.{State}
-use Rattle.answers.specs.Output.{badText, replyText}
-use Rattle.guarantees.specs.Handed.{Queue, Request, Run, after, begin, step}
+use Rattle.script_command.specs.Line.{readLine}
+use Rattle.script_command.specs.declared.Command.{Command}
+use Rattle.script_command.specs.declared.Command.the-variants.{Bad, Configure, Arrival, Departure, Tick}
+use Rattle.ring.specs.Fresh.{fresh, settingsOf, zeroState}
+use Rattle.ring.specs.declared.State.{State}
+use Rattle.script_answers.specs.Output.{badText, replyText}
+use Rattle.ring_guarantees.specs.Handed.{Queue, Request, Run, after, begin, step}
 use Rattle.script.specs.Answering.{firstLine, outcome}
 use Rattle.script.specs.Lines.{linesOf}
 use Rattle.script.specs.Script.{ScriptRun, answerLine, noPackets, startRun}

@@ -4,9 +4,9 @@ use mathlib.Core.List.{List, _∷_, _++_, List·Memᴰ}
 use Prim.Native.Nat.{ℕ, _+_}
 use native.Mathlib.Omega.{arith}
 use Rattle.pie.specs.Constants.{fullAllowance}
-use Rattle.guarantees.specs.Calls.{ByLimitsBefore, Entry, ringCalls}
-use Rattle.guarantees.specs.Handed.{Request}
-use Rattle.guarantees.proofs.Grace.{ticked-by-limits}
+use Rattle.ring_guarantees.specs.Calls.{ByLimitsBefore, Entry, ringCalls}
+use Rattle.ring_guarantees.specs.Handed.{Request}
+use Rattle.ring_guarantees.proofs.Grace.{ticked-by-limits}
 use Rattle.calls.proofs.Traces.{cut}
 use Rattle.script_guarantees.specs.Asked.{asked}
 use Rattle.script_guarantees.specs.Entries.{callsOf, opened, traceOf}

@@ -2,7 +2,7 @@
 use mathlib.Core.Path.{sym, _∙_, ap}
 use mathlib.Core.List.{List, _++_}
 use Rattle.calls.specs.Packets.{Packet}
-use Rattle.guarantees.specs.Handed.{queued}
+use Rattle.ring_guarantees.specs.Handed.{queued}
 use Rattle.script_guarantees.specs.Asked.{asked}
 use Rattle.script_guarantees.specs.ScriptOrder.{ScriptOrder}
 use Rattle.script_guarantees.proofs.Sound.{part-of}

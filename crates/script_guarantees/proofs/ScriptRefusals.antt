@@ -9,17 +9,17 @@ use lib.Dec.{eqb}
 use lib.ListN.{length, length-replicate, replicate}
 use Rattle.laws.specs.Every.{Every}
 use Rattle.laws.proofs.Choice.{at-cond, either}
-use Rattle.queue.specs.Answer.{Reply, made, refused}
-use Rattle.queue.specs.Fresh.{fresh, settingsOf, zeroState}
+use Rattle.ring.specs.Answer.{Reply, made, refused}
+use Rattle.ring.specs.Fresh.{fresh, settingsOf, zeroState}
 use Rattle.refusals.specs.Rows.{firstRefusal}
-use Rattle.queue.specs.Refusals.{settingsRefused, tablesRefused}
-use Rattle.queue.specs.declared.State.{State}
-use Rattle.queue.proofs.Kept.{made-accepted}
-use Rattle.guarantees.specs.Calls.{Entry, reply, ringCalls}
-use Rattle.guarantees.specs.Handed.{Queue, Request, Run, answerOf, askArrival, askDeparture, askTick, begin, callOf, step}
-use Rattle.guarantees.specs.Refusals.{rowsOf}
-use Rattle.guarantees.proofs.Conservation.{conservation}
-use Rattle.guarantees.proofs.Replies.{numberGiven, refused-by-number}
+use Rattle.ring.specs.Refusals.{settingsRefused, tablesRefused}
+use Rattle.ring.specs.declared.State.{State}
+use Rattle.ring.proofs.Kept.{made-accepted}
+use Rattle.ring_guarantees.specs.Calls.{Entry, reply, ringCalls}
+use Rattle.ring_guarantees.specs.Handed.{Queue, Request, Run, answerOf, askArrival, askDeparture, askTick, begin, callOf, step}
+use Rattle.ring_guarantees.specs.Refusals.{rowsOf}
+use Rattle.ring_guarantees.proofs.Conservation.{conservation}
+use Rattle.ring_guarantees.proofs.Replies.{numberGiven, refused-by-number}
 use Rattle.calls.proofs.Traces.{along}
 use Rattle.script_guarantees.specs.Asked.{started}
 use Rattle.script_guarantees.specs.Entries.{callsOf, entriesOf, opened, traceOf}

@@ -5,10 +5,10 @@ use mathlib.Core.List.{List, List·Memᴰ}
 use mathlib.Core.Logic.{_↔_}
 use Prim.Native.Nat.{ℕ}
 use Rattle.pie.specs.declared.Verdict.{Verdict}
-use Rattle.queue.specs.Answer.{verdict}
-use Rattle.guarantees.specs.Calls.{Call, Entry, arrive, reply, ringCalls}
-use Rattle.guarantees.specs.WhichVerdict.{Grounds}
-use Rattle.guarantees.proofs.WhichVerdict.{which-verdict}
+use Rattle.ring.specs.Answer.{verdict}
+use Rattle.ring_guarantees.specs.Calls.{Call, Entry, arrive, reply, ringCalls}
+use Rattle.ring_guarantees.specs.WhichVerdict.{Grounds}
+use Rattle.ring_guarantees.proofs.WhichVerdict.{which-verdict}
 use Rattle.calls.proofs.Traces.{along}
 use Rattle.script_guarantees.specs.Asked.{asked}
 use Rattle.script_guarantees.specs.Entries.{callsOf, opened}

@@ -12,12 +12,12 @@ use Rattle.laws.proofs.Choice.{either, at-cond}
 use Rattle.laws.proofs.Tests.{and-right}
 use Rattle.lines.specs.Forms.{Form, fits, formed, word}
 use Rattle.lines.specs.Line.{areNumbers, wordsRead}
-use Rattle.command.specs.Forms.{commandOf, forms}
-use Rattle.command.specs.Line.{readLine}
+use Rattle.script_command.specs.Forms.{commandOf, forms}
+use Rattle.script_command.specs.Line.{readLine}
 use Rattle.lines.specs.Numbers.{valueOf}
 use Rattle.lines.specs.Words.{wordsOf}
-use Rattle.command.specs.declared.Command.{Command}
-use Rattle.command.specs.declared.Command.the-variants.{Bad, Configure, Arrival, Departure, Tick}
+use Rattle.script_command.specs.declared.Command.{Command}
+use Rattle.script_command.specs.declared.Command.the-variants.{Bad, Configure, Arrival, Departure, Tick}
 
 abbrev pub FewSlots : Command → Type 0
 FewSlots Bad = Unit {0}

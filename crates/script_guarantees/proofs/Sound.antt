@@ -5,16 +5,16 @@ use mathlib.Core.List.{List, [], _∷_, _++_, foldl}
 use Prim.Native.Nat.{ℕ, zero, suc}
 use lib.ListN.{length, take}
 use lib.Seq.{take-append-seam}
-use Rattle.queue.specs.Answer.{Reply, made, refused}
-use Rattle.queue.specs.Fresh.{fresh, settingsOf, zeroState}
-use Rattle.queue.specs.Refusals.{settingsRefused}
-use Rattle.queue.specs.declared.State.{State}
-use Rattle.guarantees.specs.Calls.{Entry, entry, reply}
+use Rattle.ring.specs.Answer.{Reply, made, refused}
+use Rattle.ring.specs.Fresh.{fresh, settingsOf, zeroState}
+use Rattle.ring.specs.Refusals.{settingsRefused}
+use Rattle.ring.specs.declared.State.{State}
+use Rattle.ring_guarantees.specs.Calls.{Entry, entry, reply}
 use Rattle.calls.specs.Packets.{bytesOf}
-use Rattle.guarantees.specs.Handed.{Queue, Request, Run, after, answerOf, callOf, queued, step}
-use Rattle.guarantees.proofs.Conservation.{conservation}
-use Rattle.guarantees.proofs.FirstInFirstOut.{first-in-first-out}
-use Rattle.guarantees.proofs.Refusals.{refusals}
+use Rattle.ring_guarantees.specs.Handed.{Queue, Request, Run, after, answerOf, callOf, queued, step}
+use Rattle.ring_guarantees.proofs.Conservation.{conservation}
+use Rattle.ring_guarantees.proofs.FirstInFirstOut.{first-in-first-out}
+use Rattle.ring_guarantees.proofs.Refusals.{refusals}
 use Rattle.script_guarantees.specs.Asked.{Asked, nothing, started, unstarted}
 use Rattle.script_guarantees.specs.Entries.{entriesOf, opened, runOf, traceOf}
 use Rattle.script_guarantees.specs.RunTrace.{ToldBy}

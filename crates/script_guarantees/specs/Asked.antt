@@ -2,10 +2,10 @@
 use mathlib.Core.Bool.{Bool, true, false}
 use mathlib.Core.List.{List, [], _∷_, map}
 use Prim.Native.Nat.{ℕ}
-use Rattle.command.specs.Line.{readLine}
-use Rattle.command.specs.declared.Command.{Command}
-use Rattle.command.specs.declared.Command.the-variants.{Bad, Configure, Arrival, Departure, Tick}
-use Rattle.guarantees.specs.Handed.{Request, askArrival, askDeparture, askTick}
+use Rattle.script_command.specs.Line.{readLine}
+use Rattle.script_command.specs.declared.Command.{Command}
+use Rattle.script_command.specs.declared.Command.the-variants.{Bad, Configure, Arrival, Departure, Tick}
+use Rattle.ring_guarantees.specs.Handed.{Request, askArrival, askDeparture, askTick}
 use Rattle.script.specs.Lines.{linesOf}
 
 -- the lines after the `c`

@@ -2,10 +2,10 @@
 use mathlib.Core.Path.{_≡_}
 use mathlib.Core.List.{List, [], _∷_, flatMap, map}
 use Prim.Native.Nat.{ℕ}
-use Rattle.queue.specs.declared.Settings.{Settings}
-use Rattle.queue.specs.declared.State.{State}
-use Rattle.guarantees.specs.Calls.{Entry}
-use Rattle.guarantees.specs.Handed.{Request, Run, begin, run}
+use Rattle.ring.specs.declared.Settings.{Settings}
+use Rattle.ring.specs.declared.State.{State}
+use Rattle.ring_guarantees.specs.Calls.{Entry}
+use Rattle.ring_guarantees.specs.Handed.{Request, Run, begin, run}
 use Rattle.script_guarantees.specs.Entries.{admittedIn, departedIn, traceOf}
 
 -- the state that the last entry returned

@@ -2,7 +2,7 @@
 use mathlib.Core.Path.{_≡_}
 use mathlib.Core.List.{List, [], _∷_, _++_, flatMap}
 use Prim.Native.Nat.{ℕ, _-_, _≤_}
-use Rattle.guarantees.specs.Calls.{Entry}
+use Rattle.ring_guarantees.specs.Calls.{Entry}
 use Rattle.calls.specs.Packets.{bytesOf}
 use Rattle.script_guarantees.specs.Asked.{asked}
 use Rattle.script_guarantees.specs.Entries.{admittedIn, departedIn, entriesOf}

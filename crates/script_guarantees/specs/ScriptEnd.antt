@@ -4,8 +4,8 @@ use mathlib.Core.Bool.{cond}
 use mathlib.Core.List.{List, _++_, foldl, map}
 use Prim.Native.Nat.{ℕ, _-_}
 use lib.ListN.{length, replicate}
-use Rattle.command.specs.Line.{readLine}
-use Rattle.queue.specs.Fresh.{zeroState}
+use Rattle.script_command.specs.Line.{readLine}
+use Rattle.ring.specs.Fresh.{zeroState}
 use Rattle.script.specs.Lines.{linesOf}
 use Rattle.script.specs.Script.{ScriptRun, answerLine, noPackets, startRun}
 use Rattle.script.specs.declared.Stage.the-variants.{Running, Ended}

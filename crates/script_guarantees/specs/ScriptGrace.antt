@@ -4,8 +4,8 @@ use mathlib.Core.Path.{_≡_}
 use mathlib.Core.List.{List, _∷_, _++_, List·Memᴰ}
 use Prim.Native.Nat.{ℕ, _+_}
 use Rattle.pie.specs.Constants.{fullAllowance}
-use Rattle.queue.specs.Answer.{ticked}
-use Rattle.guarantees.specs.Calls.{ByLimitsBefore, Entry, update}
+use Rattle.ring.specs.Answer.{ticked}
+use Rattle.ring_guarantees.specs.Calls.{ByLimitsBefore, Entry, update}
 use Rattle.script_guarantees.specs.Asked.{asked}
 use Rattle.script_guarantees.specs.Entries.{entriesOf}
 

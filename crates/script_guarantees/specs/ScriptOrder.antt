@@ -3,7 +3,7 @@
 use mathlib.Core.Path.{_≡_}
 use mathlib.Core.List.{List, _++_, flatMap}
 use Prim.Native.Nat.{ℕ}
-use Rattle.guarantees.specs.Calls.{Entry}
+use Rattle.ring_guarantees.specs.Calls.{Entry}
 use Rattle.calls.specs.Packets.{Packet}
 use Rattle.script_guarantees.specs.Asked.{asked}
 use Rattle.script_guarantees.specs.Entries.{admittedIn, departedIn, entriesOf}

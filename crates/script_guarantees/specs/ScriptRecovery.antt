@@ -3,8 +3,8 @@
 use mathlib.Core.Path.{_≡_}
 use mathlib.Core.List.{List, _∷_, _++_}
 use Prim.Native.Nat.{ℕ}
-use Rattle.guarantees.specs.Calls.{Entry}
-use Rattle.guarantees.specs.Recovery.{RecoveredAfter}
+use Rattle.ring_guarantees.specs.Calls.{Entry}
+use Rattle.ring_guarantees.specs.Recovery.{RecoveredAfter}
 use Rattle.script_guarantees.specs.Asked.{asked}
 use Rattle.script_guarantees.specs.Entries.{entriesOf}
 

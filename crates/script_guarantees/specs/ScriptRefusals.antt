@@ -3,9 +3,9 @@ use mathlib.Core.Path.{_≡_}
 use mathlib.Core.Logic.{_≢_}
 use mathlib.Core.List.{List, List·Memᴰ}
 use Prim.Native.Nat.{ℕ}
-use Rattle.queue.specs.Answer.{made, refused}
-use Rattle.queue.specs.Fresh.{fresh, settingsOf}
-use Rattle.guarantees.specs.Calls.{Entry}
+use Rattle.ring.specs.Answer.{made, refused}
+use Rattle.ring.specs.Fresh.{fresh, settingsOf}
+use Rattle.ring_guarantees.specs.Calls.{Entry}
 use Rattle.script_guarantees.specs.Asked.{Body, asked, started}
 use Rattle.script_guarantees.specs.Entries.{entriesOf}
 

@@ -4,9 +4,9 @@ use mathlib.Core.Bool.{cond}
 use mathlib.Core.List.{List, [], _++_, flatMap}
 use Prim.Native.Nat.{ℕ, _+_, _-_, _^_, min}
 use lib.ListN.{length}
-use Rattle.queue.specs.Fresh.{fresh, settingsOf}
-use Rattle.answers.specs.Output.{badText, replyText, stateText, wordOf}
-use Rattle.guarantees.specs.Calls.{Entry}
+use Rattle.ring.specs.Fresh.{fresh, settingsOf}
+use Rattle.script_answers.specs.Output.{badText, replyText, stateText, wordOf}
+use Rattle.ring_guarantees.specs.Calls.{Entry}
 use Rattle.script.specs.Script.{script}
 use Rattle.script_guarantees.specs.Asked.{Asked, Body, asked, nothing, started, unstarted}
 use Rattle.script_guarantees.specs.Entries.{entriesOf}

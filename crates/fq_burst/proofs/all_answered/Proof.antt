@@ -11,7 +11,7 @@ use Rattle.pie.specs.Constants.{mostVerdicts}
 use Rattle.pie.specs.Verdicts.{total}
 use Rattle.fq_state.specs.State.{countsOf}
 use Rattle.fq_state.specs.Words.{flowsOf}
-use Rattle.fq_capi.specs.Words as words
+use Rattle.fq_c.specs.Words as words
 use Rattle.fq_guarantees.specs.Kept.{Sound}
 use Rattle.fq_burst.specs.Calls.{askedAt}
 use Rattle.fq_burst.specs.Burst.{Lent, fqBursts, held, stateIn}

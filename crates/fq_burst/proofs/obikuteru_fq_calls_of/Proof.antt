@@ -15,7 +15,7 @@ use Rattle.fq_state.specs.WellFormed.{wellFormed}
 use Rattle.fq_state.specs.declared.Common.{Common}
 use Rattle.fq_state.proofs.Facts.{common-fits, passes}
 use Rattle.fq_state.proofs.Words.{length-flows}
-use Rattle.fq_capi.specs.Words.{commonOf, lent}
+use Rattle.fq_c.specs.Words.{commonOf, lent}
 use Rattle.fq_burst.specs.Burst.{fqBursts}
 use Rattle.fq_burst.proofs.obikuteru_fq_calls_of.Statement.{statement}
 use Rattle.fq_burst.proofs.obikuteru_fq_calls_of.Tie as tie

@@ -6,8 +6,8 @@ use mathlib.Core.Bool.{true, false, false≢true, _&&_}
 use lib.Dec.{eqb}
 use denote.Ref.{now}
 use Rattle.pie.specs.Constants.{mostVerdicts}
-use Rattle.pair_state.specs.WellFormed.{wellFormed}
-use Rattle.pair_state.proofs.Facts.{facts}
+use Rattle.pair_rules.specs.WellFormed.{wellFormed}
+use Rattle.pair_rules.proofs.Facts.{facts}
 use Rattle.laws.proofs.Tests.{and-left, and-right}
 use Rattle.pair_words.specs.Words.{pairOf, sharedOf, stateOf}
 use Rattle.pair_burst.proofs.ready.Statement.{statement}

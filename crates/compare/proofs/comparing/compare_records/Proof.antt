@@ -12,7 +12,7 @@ use Rattle.compare.proofs.comparing.compare_records.Statement.{statemen
 use Rattle.compare.proofs.comparing.compare_records.Tie as tie
 use Rattle.compare.proofs.comparing.compare_records.Reads as reads
 use Rattle.compare.proofs.comparing.compare_records.Lts as lts
-use Rattle.codec.proofs.get.Reads as get-reads
+use Rattle.log_codec.proofs.get.Reads as get-reads
 use Rattle.compare.proofs.sameness.same_record.Reads as same-record-reads
 
 abbrev Inv-loop : tie.InvT-loop

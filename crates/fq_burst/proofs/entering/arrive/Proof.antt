@@ -6,8 +6,8 @@ use Rattle.fq_state.specs.State.{State}
 use Rattle.fq_state.specs.Words.{stateOf}
 use Rattle.fq_state.proofs.Facts.{common-fits, passes}
 use Rattle.fq_rules.specs.Answer.{arrivalAnswer}
-use Rattle.fq_capi.proofs.Kept.{arrival-kept}
-use Rattle.fq_capi.proofs.Returned.{accepted, not-accepted}
+use Rattle.fq_c.proofs.Kept.{arrival-kept}
+use Rattle.fq_c.proofs.Returned.{accepted, not-accepted}
 use Rattle.fq_guarantees.specs.Calls as calls
 use Rattle.fq_guarantees.specs.Kept.{Sound}
 use borrow.Author.Needs.{needs}

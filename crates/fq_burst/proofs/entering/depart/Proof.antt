@@ -5,8 +5,8 @@ use denote.Ref.{now}
 use Rattle.fq_state.specs.State.{State}
 use Rattle.fq_state.specs.Words.{stateOf}
 use Rattle.fq_rules.specs.Answer.{departed}
-use Rattle.fq_capi.proofs.Kept.{departure-kept}
-use Rattle.fq_capi.proofs.Returned.{accepted, not-accepted, told-no, told-yes}
+use Rattle.fq_c.proofs.Kept.{departure-kept}
+use Rattle.fq_c.proofs.Returned.{accepted, not-accepted, told-no, told-yes}
 use Rattle.fq_guarantees.specs.Calls as calls
 use Rattle.fq_guarantees.specs.Kept.{Sound}
 use borrow.Author.Needs.{needs}

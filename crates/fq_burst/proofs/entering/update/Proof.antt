@@ -2,9 +2,9 @@
 use mathlib.Core.Path.{refl, ap, sym, _∙_}
 use Rattle.fq_state.specs.State.{State, countsOf}
 use Rattle.fq_rules.specs.Answer.{ticked}
-use Rattle.fq_capi.specs.Words.{commonWords}
-use Rattle.fq_capi.proofs.Kept.{tick-kept}
-use Rattle.fq_capi.proofs.Returned.{accepted, not-accepted, told-no, told-yes}
+use Rattle.fq_c.specs.Words.{commonWords}
+use Rattle.fq_c.proofs.Kept.{tick-kept}
+use Rattle.fq_c.proofs.Returned.{accepted, not-accepted, told-no, told-yes}
 use borrow.Author.Needs.{needs}
 use Rattle.fq_burst.proofs.Noting.{tick-counts}
 use Rattle.fq_burst.proofs.Stays.{tick-stays}

@@ -1,6 +1,6 @@
 -- `write_left`: the words that are written as they were are those of the new values too.
 use borrow.Author.Needs.{needs}
-use Rattle.fq_capi.specs.Words.{commonOf, commonWords}
+use Rattle.fq_c.specs.Words.{commonOf, commonWords}
 use Rattle.fq_burst.proofs.writing.write_left.Statement.{statement}
 use Rattle.fq_burst.proofs.writing.write_left.Tie as tie
 

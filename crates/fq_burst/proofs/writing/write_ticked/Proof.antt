@@ -1,6 +1,6 @@
 -- `write_ticked`: the words that are written as they were are those of the new values too.
 use borrow.Author.Needs.{needs}
-use Rattle.fq_capi.specs.Words.{commonOf, commonWords, listsOf}
+use Rattle.fq_c.specs.Words.{commonOf, commonWords, listsOf}
 use Rattle.fq_burst.proofs.writing.write_ticked.Statement.{statement}
 use Rattle.fq_burst.proofs.writing.write_ticked.Tie as tie
 

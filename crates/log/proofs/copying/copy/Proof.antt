@@ -6,7 +6,7 @@ use lib.ListN.{getD, length, take}
 use lib.Seq.{sets, take-all}
 use native.Mathlib.Omega.{arith}
 use borrow.Author.Needs.{needs}
-use Rattle.codec.specs.Fields.{AreBytes}
+use Rattle.log_codec.specs.Fields.{AreBytes}
 use Rattle.log.proofs.Copied.{all-bytes, next-byte, next-bytes}
 use Rattle.log.proofs.Stores.{as-long}
 use Rattle.log.proofs.copying.copy.Statement.{statement}

@@ -1,8 +1,8 @@
 -- `add`: the record's bytes are made first.
 use mathlib.Core.Path.{ap, _∙_}
 use native.Mathlib.Omega.{arith}
-use Rattle.codec.specs.Records.{InRange}
-use Rattle.codec.specs.declared.Record.{Record}
+use Rattle.log_codec.specs.Records.{InRange}
+use Rattle.log_codec.specs.declared.Record.{Record}
 use Rattle.log.specs.Writer.{add}
 use Rattle.log.proofs.Copied.{encoded-call}
 use borrow.Author.Needs.{needs}

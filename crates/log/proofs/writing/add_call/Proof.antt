@@ -4,7 +4,7 @@ use mathlib.Core.Path.{_∙_, ap, sym}
 use lib.ListN.{length}
 use native.Mathlib.Omega.{arith}
 use borrow.Author.Tests.{not-false}
-use Rattle.codec.specs.Records.{decoded}
+use Rattle.log_codec.specs.Records.{decoded}
 use Rattle.log.specs.Faults.{faulty}
 use Rattle.log.proofs.Facts.{held, roomy}
 use Rattle.log.proofs.Replies.{add-11, add-13, add-14, add-done}

@@ -7,8 +7,8 @@ use native.Mathlib.Omega.{arith}
 use lib.Dec.{eqb}
 use denote.Ref.{now}
 use Rattle.bursts.specs.Numbers.{wordOf}
-use Rattle.queue.specs.Answer.{Answer, handleIn, sizeIn}
-use Rattle.pair_state.specs.declared.Pair.{Pair}
+use Rattle.ring.specs.Answer.{Answer, handleIn, sizeIn}
+use Rattle.pair_rules.specs.declared.Pair.{Pair}
 use Rattle.pair_rules.specs.Departure.{departure}
 use Rattle.pair_words.specs.Words.{pairOf, whichOf}
 use Rattle.pair_burst.proofs.Steps.{departure-refused, departure-small}

@@ -13,8 +13,8 @@ use denote.Ref.{now}
 use Rattle.laws.proofs.Tests.{and-left, and-right}
 use Rattle.pie.specs.Constants.{mostVerdicts}
 use Rattle.pie.specs.Verdicts.{total}
-use Rattle.pair_state.specs.WellFormed.{wellFormed}
-use Rattle.pair_state.proofs.Symmetry.{well-formed-seen}
+use Rattle.pair_rules.specs.WellFormed.{wellFormed}
+use Rattle.pair_rules.proofs.Symmetry.{well-formed-seen}
 use Rattle.pair_rules.proofs.WhenAccepted.{known}
 use Rattle.pair_words.specs.Words.{pairOf, sharedOf, stateOf, whichOf}
 use Rattle.pair_steps.proofs.Replies.{arrival-counts, arrival-late, arrival-size}

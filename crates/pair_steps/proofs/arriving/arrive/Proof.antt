@@ -16,12 +16,12 @@ use Rattle.pie.proofs.Counts.{count-le-total}
 use Rattle.refusals.proofs.Fitting.{size-in-range}
 use Rattle.store.specs.Following.{linkRefused}
 use Rattle.store.specs.Put.{freePlace}
-use Rattle.pair_state.specs.Facing.{facing}
-use Rattle.pair_state.specs.declared.Shared.{Shared}
-use Rattle.pair_state.specs.declared.State.{State}
-use Rattle.pair_state.specs.declared.Which.{Which}
-use Rattle.pair_state.specs.declared.Which.the-variants.{Intercom}
-use Rattle.pair_state.proofs.Symmetry.{seen, well-formed-seen}
+use Rattle.pair_rules.specs.Facing.{facing}
+use Rattle.pair_rules.specs.declared.Shared.{Shared}
+use Rattle.pair_rules.specs.declared.State.{State}
+use Rattle.pair_rules.specs.declared.Which.{Which}
+use Rattle.pair_rules.specs.declared.Which.the-variants.{Intercom}
+use Rattle.pair_rules.proofs.Symmetry.{seen, well-formed-seen}
 use Rattle.pair_rules.specs.Arrival.{freedRefused}
 use Rattle.pair_rules.specs.Refusals.{countsRefused}
 use Rattle.pair_rules.proofs.Seen.{verdict-seen}

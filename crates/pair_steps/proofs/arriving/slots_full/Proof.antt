@@ -6,8 +6,8 @@ use native.Mathlib.Omega.{arith}
 use lib.Dec.{eqb}
 use lib.ListN.{getD}
 use denote.Ref.{now}
-use Rattle.pair_state.specs.Facing.{facing}
-use Rattle.pair_state.specs.declared.Shared.{Shared}
+use Rattle.pair_rules.specs.Facing.{facing}
+use Rattle.pair_rules.specs.declared.Shared.{Shared}
 use Rattle.pair_words.specs.Words.{sharedOf, whichOf}
 use Rattle.pair_steps.proofs.Decisions.{facing-words, full-beyond, full-inside, full-within, reserves-sum}
 use Rattle.pair_steps.proofs.arriving.slots_full.Statement.{statement}

@@ -15,9 +15,9 @@ use Rattle.laws.proofs.Tests.{or-neither}
 use Rattle.pie.specs.declared.Rate.{Rate}
 use Rattle.refusals.specs.Tests.{headRefused}
 use Rattle.refusals.proofs.Fitting.{head-fits}
-use Rattle.pair_state.specs.declared.Shared.{Shared}
-use Rattle.pair_state.specs.declared.State.{State}
-use Rattle.pair_state.proofs.Symmetry.{well-formed-seen}
+use Rattle.pair_rules.specs.declared.Shared.{Shared}
+use Rattle.pair_rules.specs.declared.State.{State}
+use Rattle.pair_rules.proofs.Symmetry.{well-formed-seen}
 use Rattle.pair_rules.specs.Departure.{headHandle, headSize, headWordRefused}
 use Rattle.pair_rules.proofs.WhenAccepted.{Known, known}
 use Rattle.pair_words.specs.Words.{sharedOf, stateOf, whichOf}

@@ -3,10 +3,10 @@ use borrow.Author.Needs.{needs}
 use mathlib.Core.Path.{refl, sym, _∙_}
 use native.Mathlib.Omega.{arith}
 use denote.Ref.{now}
-use Rattle.pair_state.specs.declared.Shared.{Shared}
-use Rattle.pair_state.specs.declared.State.{State}
-use Rattle.pair_state.specs.declared.Which.{Which}
-use Rattle.pair_state.proofs.Symmetry.{well-formed-seen}
+use Rattle.pair_rules.specs.declared.Shared.{Shared}
+use Rattle.pair_rules.specs.declared.State.{State}
+use Rattle.pair_rules.specs.declared.Which.{Which}
+use Rattle.pair_rules.proofs.Symmetry.{well-formed-seen}
 use Rattle.pair_rules.proofs.WhenAccepted.{Known, known}
 use Rattle.pair_words.specs.Words.{sharedOf, stateOf, whichOf}
 use Rattle.pair_steps.proofs.Replies.{tick-early, tick-late, tick-made, ticked-gives}

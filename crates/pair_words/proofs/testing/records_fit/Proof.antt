@@ -7,15 +7,15 @@ use mathlib.Core.List.{List}
 use Prim.Native.Nat.{ℕ}
 use denote.Ref.{now}
 use Rattle.laws.specs.Tests.{all}
-use Rattle.pair_state.specs.Facing.{facing}
-use Rattle.pair_state.specs.Queues.{paired}
-use Rattle.pair_state.specs.WellFormed.{bothConditions, queueConditions, sharedConditions, wellFormed}
-use Rattle.pair_state.specs.declared.Shared.{Shared}
-use Rattle.pair_state.specs.declared.State.{State}
-use Rattle.pair_state.specs.declared.Which.{Which}
-use Rattle.pair_state.specs.declared.Which.the-variants.{Intercom}
-use Rattle.pair_state.proofs.Facts.{Passes, part-fails, parts, queue-fits, shared-fits}
-use Rattle.pair_state.proofs.Symmetry.{well-formed-seen}
+use Rattle.pair_rules.specs.Facing.{facing}
+use Rattle.pair_rules.specs.Queues.{paired}
+use Rattle.pair_rules.specs.WellFormed.{bothConditions, queueConditions, sharedConditions, wellFormed}
+use Rattle.pair_rules.specs.declared.Shared.{Shared}
+use Rattle.pair_rules.specs.declared.State.{State}
+use Rattle.pair_rules.specs.declared.Which.{Which}
+use Rattle.pair_rules.specs.declared.Which.the-variants.{Intercom}
+use Rattle.pair_rules.proofs.Facts.{Passes, part-fails, parts, queue-fits, shared-fits}
+use Rattle.pair_rules.proofs.Symmetry.{well-formed-seen}
 use Rattle.pair_words.specs.Words.{pairOf, sharedOf, stateOf, whichOf}
 use Rattle.pair_words.proofs.testing.records_fit.Statement.{statement}
 use Rattle.pair_words.proofs.testing.records_fit.Tie as tie

@@ -5,8 +5,8 @@ use Rattle.replay.proofs.calling.call.Tie as tie
 use native.Mathlib.Omega.{arith}
 use lib.Dec.{eqb}
 use denote.Ref.{now}
-use Rattle.words.specs.Words.{stateOf}
-use Rattle.steps.proofs.Answers.{arrival-low, tick-low}
+use Rattle.ring_words.specs.Words.{stateOf}
+use Rattle.ring_steps.proofs.Answers.{arrival-low, tick-low}
 use Rattle.replay.proofs.Coded.{arrival-called, departure-called, tick-called}
 
 arrive-requires : tie.Need-arrive-requires

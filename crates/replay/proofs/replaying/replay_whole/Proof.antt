@@ -2,7 +2,7 @@
 use mathlib.Core.Path.{ap, refl}
 use native.Mathlib.Omega.{arith}
 use denote.Ref.{now}
-use Rattle.queue.specs.Answer.{Reply}
+use Rattle.ring.specs.Answer.{Reply}
 use Rattle.replay.proofs.Contained.{contained, fits, fresh-ready, held, misfits}
 use borrow.Author.Needs.{needs}
 use Rattle.replay.proofs.replaying.replay_whole.Statement.{statement}

@@ -5,11 +5,11 @@ use Prim.Native.Nat.{_+_, _*_, _-_, _≤_}
 use native.Mathlib.Omega.{arith}
 use lib.ListN.{length}
 use denote.Ref.{now}
-use Rattle.words.specs.Words.{stateOf}
+use Rattle.ring_words.specs.Words.{stateOf}
 use Rattle.log.specs.Layout.{recordsFrom}
-use Rattle.steps.specs.Lent.{Lent, lent}
-use Rattle.steps.specs.Fitting.{Ready}
-use Rattle.steps.proofs.Kept.{leaves-long, ready-one}
+use Rattle.ring_steps.specs.Lent.{Lent, lent}
+use Rattle.ring_steps.specs.Fitting.{Ready}
+use Rattle.ring_steps.proofs.Kept.{leaves-long, ready-one}
 use Rattle.replay.specs.Agreement.{requestOf}
 use Rattle.replay.specs.Replay.{queueOf, replayFrom}
 use Rattle.replay.proofs.Rounds.{ended, goes-on, left-queue, none-left, reached, ready-next, round, stopped}

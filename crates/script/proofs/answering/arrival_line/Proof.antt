@@ -6,12 +6,12 @@ use Prim.Native.Nat.{ℕ, _+_, _≤_, min}
 use lib.ListN.{drop, length, take}
 use lib.Seq.{length-front}
 use native.Mathlib.Omega.{arith}
-use Rattle.answers.proofs.Joins.{then}
-use Rattle.answers.specs.Output.{stateText, wordOf}
-use Rattle.command.specs.declared.Command.the-variants.{Arrival}
+use Rattle.script_answers.proofs.Joins.{then}
+use Rattle.script_answers.specs.Output.{stateText, wordOf}
+use Rattle.script_command.specs.declared.Command.the-variants.{Arrival}
 use Rattle.decimal.specs.Written.{Wrote}
-use Rattle.queue.specs.Answer.{Reply, arrivalReply}
-use Rattle.queue.specs.Arrival.{arrival, stored}
+use Rattle.ring.specs.Answer.{Reply, arrivalReply}
+use Rattle.ring.specs.Arrival.{arrival, stored}
 use Rattle.script.specs.Answering.{continued, laterLine}
 use Rattle.script.specs.Done.{Did}
 use Rattle.script.specs.declared.Session.{Session}

@@ -1,7 +1,7 @@
 -- `departure_line`: the queue is lent the first `slots` of each table.
 use mathlib.Core.Path.{_∙_}
 use native.Mathlib.Omega.{arith}
-use Rattle.answers.proofs.Joins.{then}
+use Rattle.script_answers.proofs.Joins.{then}
 use Rattle.script.proofs.Lent.{lent-count, lent-take}
 use Rattle.script.proofs.Room.{state-room, word-room}
 use Rattle.script.proofs.answering.departure_line.Statement.{statement}

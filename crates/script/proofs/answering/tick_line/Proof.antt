@@ -1,7 +1,7 @@
 -- `tick_line`: the reply is the queue's, and its text is written behind the word.
 use mathlib.Core.Path.{_∙_}
 use native.Mathlib.Omega.{arith}
-use Rattle.answers.proofs.Joins.{then}
+use Rattle.script_answers.proofs.Joins.{then}
 use Rattle.script.proofs.Room.{state-room, word-room}
 use Rattle.script.proofs.answering.tick_line.Statement.{statement}
 use Rattle.script.proofs.answering.tick_line.Tie as tie

@@ -1,7 +1,7 @@
 -- `begin`: the parts are those of the start; a fresh call with settings of 0 is refused.
 use borrow.Author.Needs.{needs}
 use mathlib.Core.Path.{ap}
-use Rattle.queue.specs.Fresh.{fresh}
+use Rattle.ring.specs.Fresh.{fresh}
 use Rattle.script.proofs.feeding.begin.Statement.{statement}
 use Rattle.script.proofs.feeding.begin.Tie as tie
 

@@ -1,6 +1,0 @@
--- The words of a state hold that state.
-use Rattle.words.proofs.Words.{back, five-counts, words-long}
-use Rattle.c_guarantees.specs.Decoding.{Decoding}
-
-pub decoding : Decoding
-decoding = record { decodes = back; five = five-counts; twenty-three = words-long }

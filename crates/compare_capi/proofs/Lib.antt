@@ -1,2 +1,0 @@
--- Laws of the comparison's C interface.
-pub mod Compares

@@ -1,2 +1,0 @@
--- The C interface of the comparison.
-pub mod Codes

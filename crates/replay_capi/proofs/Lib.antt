@@ -1,2 +1,0 @@
--- What the entry's proof needs of a replay.
-pub mod Numbers
