@@ -1,3 +1,0 @@
--- What the proofs share.
-pub mod Greatest
-pub mod Texts

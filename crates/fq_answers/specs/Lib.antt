@@ -1,2 +1,0 @@
--- The text of a line.
-pub mod Output

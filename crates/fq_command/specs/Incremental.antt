@@ -1,9 +1,0 @@
--- Reading a line byte by byte is reading it whole.
-use mathlib.Core.Path.{_≡_}
-use mathlib.Core.List.{List, foldl}
-use Prim.Native.Nat.{ℕ}
-use Rattle.fq_command.specs.Line.{readLine}
-use Rattle.fq_command.specs.Reader.{begun, finished, pushed}
-
-abbrev pub ReadsLines : Type 0
-ReadsLines = (line : List ℕ) → finished (foldl pushed begun line) ≡ readLine line

@@ -1,2 +1,0 @@
--- What is proved of the words.
-pub mod Held

@@ -1,3 +1,0 @@
--- What the proofs share.
-pub mod Bytes
-pub mod Reading

@@ -1,9 +1,0 @@
--- The command that the reader has read.
-use Rattle.lines.specs.Reader.{commandRead}
-use Rattle.lines.specs.declared.Reader.{Reader}
-use Rattle.pair_command.specs.Forms.{commandOf}
-use Rattle.pair_command.specs.declared.Command.{Command}
-use Rattle.pair_command.specs.declared.Command.the-variants.{Bad}
-
-unfoldable pub finished : Reader → Command
-finished r = commandRead Bad commandOf r

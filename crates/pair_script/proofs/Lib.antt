@@ -1,2 +1,0 @@
--- Room left in the output.
-pub mod Room
