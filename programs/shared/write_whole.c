@@ -3,8 +3,8 @@
 #include "write_whole.h"
 
 #include "say.h"
+#include "write_all.h"
 
-#include <errno.h>
 #include <signal.h>
 #include <stdio.h>
 #include <stdlib.h>
@@ -25,21 +25,6 @@ static int open_beside(const char *name, mode_t mode, char *beside)
     if (file >= 0)
         fchmod(file, mode);
     return file;
-}
-
-static bool write_all(int file, const uint8_t *bytes, size_t length)
-{
-    size_t written = 0;
-
-    while (written < length) {
-        ssize_t more = write(file, bytes + written, length - written);
-
-        if (more < 0 && errno != EINTR)
-            return false;
-        if (more > 0)
-            written += (size_t)more;
-    }
-    return true;
 }
 
 /* Writes `bytes` to a file beside `name`, which then takes the name. */
