@@ -1,4 +1,4 @@
-/* Reading lines of fields and writing answers, for the script programs in plain C. */
+/* Reading lines of fields and writing answers, for the script program in plain C. */
 #ifndef SCRIPT_IO_H
 #define SCRIPT_IO_H
 
