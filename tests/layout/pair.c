@@ -1,71 +1,12 @@
-/*
- * The header's pair against the page. The numbers stand here a second time, by hand, from
- * docs/SHARED-TABLES.md. Then the library runs, and each field must hold what the page gives for it,
- * and each constant must be the answer of a call that deserves it.
- * It prints each mistake and ends with 1 if there is any.
- */
+/* Two queues run, and each field must hold what docs/SHARED-TABLES.md gives for it, and each constant must be the answer of
+ * a call that deserves it. */
 #include <obikuteru.h>
 
 #include <string.h>
 
-#include "layout.h"
+#include "parts.h"
 
 enum { SLOTS = 6 };
-
-#define WORD(record, field, place)                                                                  \
-    expect("the place of " #field, offsetof(struct record, field), 8 * (place));                   \
-    expect("the length of " #field, sizeof((struct record *)0)->field, 8)
-
-#define SHARED(field, place) WORD(obikuteru_shared, field, place)
-#define QUEUE(field, place) WORD(obikuteru_pair_queue, field, place)
-
-static void shared_record(void)
-{
-    struct before_shared { char byte; struct obikuteru_shared shared; };
-
-    SHARED(slots, 0);
-    SHARED(reserve[0], 1);
-    SHARED(reserve[1], 2);
-    SHARED(used, 3);
-    SHARED(freed, 4);
-    SHARED(spare, 5);
-    expect("the size of the shared record", sizeof(struct obikuteru_shared), 48);
-    expect("the alignment of the shared record", offsetof(struct before_shared, shared), 8);
-}
-
-static void queue_record(void)
-{
-    struct before_queue { char byte; struct obikuteru_pair_queue queue; };
-
-    QUEUE(target, 0);
-    QUEUE(buffer, 1);
-    QUEUE(clock, 2);
-    QUEUE(last, 3);
-    QUEUE(probability, 4);
-    QUEUE(old_delay, 5);
-    QUEUE(allowance, 6);
-    QUEUE(accumulated, 7);
-    QUEUE(average, 8);
-    QUEUE(measuring, 9);
-    QUEUE(start, 10);
-    QUEUE(counted, 11);
-    QUEUE(count, 12);
-    QUEUE(bytes, 13);
-    QUEUE(head, 14);
-    QUEUE(tail, 15);
-    QUEUE(verdicts[0], 16);
-    QUEUE(verdicts[4], 20);
-    expect("the size of a queue's record", sizeof(struct obikuteru_pair_queue), 168);
-    expect("the alignment of a queue's record", offsetof(struct before_queue, queue), 8);
-}
-
-static void constants(void)
-{
-    expect("PAIR_VERSION", OBIKUTERU_PAIR_VERSION, 1);
-    expect("INTERCOM", OBIKUTERU_INTERCOM, 0);
-    expect("PASSENGERS", OBIKUTERU_PASSENGERS, 1);
-    expect("CALL_PASSENGERS", OBIKUTERU_CALL_PASSENGERS, 4);
-}
 
 /* Well-formed records, no two fields of a queue alike. The intercom's packets stand at the places 1,
  * 3 and 0, the passengers' at 2; 4 is freed, and 5 was never taken. */
@@ -129,29 +70,6 @@ static void expect_shared(uint64_t used, uint64_t freed, uint64_t spare)
     expect("spare", shared.spare, spare);
 }
 
-/* Every field of a queue, by name. */
-static void expect_queue(const struct obikuteru_pair_queue *q, const struct obikuteru_pair_queue *wanted)
-{
-    expect("target", q->target, wanted->target);
-    expect("buffer", q->buffer, wanted->buffer);
-    expect("clock", q->clock, wanted->clock);
-    expect("last", q->last, wanted->last);
-    expect("probability", q->probability, wanted->probability);
-    expect("old_delay", q->old_delay, wanted->old_delay);
-    expect("allowance", q->allowance, wanted->allowance);
-    expect("accumulated", q->accumulated, wanted->accumulated);
-    expect("average", q->average, wanted->average);
-    expect("measuring", q->measuring, wanted->measuring);
-    expect("start", q->start, wanted->start);
-    expect("counted", q->counted, wanted->counted);
-    expect("count", q->count, wanted->count);
-    expect("bytes", q->bytes, wanted->bytes);
-    expect("head", q->head, wanted->head);
-    expect("tail", q->tail, wanted->tail);
-    for (int v = 0; v < 5; v++)
-        expect("a count", q->verdicts[v], wanted->verdicts[v]);
-}
-
 static void run_fresh(void)
 {
     struct obikuteru_pair_queue wanted[2] = {
@@ -162,8 +80,8 @@ static void run_fresh(void)
     expect("fresh", obikuteru_pair_fresh(&shared, &queues[0], &queues[1], SLOTS, 15001, 64001, 2, 99, 15002, 64002, 1, 98),
            OBIKUTERU_ACCEPTED);
     expect_shared(0, 0, 0);
-    expect_queue(&queues[0], &wanted[0]);
-    expect_queue(&queues[1], &wanted[1]);
+    expect_fields("pair_queue", &queues[0], &wanted[0]);
+    expect_fields("pair_queue", &queues[1], &wanted[1]);
 }
 
 /* Delay 20,001 x 16,384 / 16,384; x = 1 + 10 x 8,001 = 80,011; k = 2; step 80,011 x 8,388,608 / 31,250
@@ -179,8 +97,8 @@ static void run_tick(void)
     restore();
     expect("a tick", tick(OBIKUTERU_INTERCOM, 1000001), OBIKUTERU_ACCEPTED);
     expect_shared(5, 4, 1);
-    expect_queue(&queues[0], &wanted);
-    expect_queue(&queues[1], &start_queues[1]);
+    expect_fields("pair_queue", &queues[0], &wanted);
+    expect_fields("pair_queue", &queues[1], &start_queues[1]);
 }
 
 static void run_departures(void)
@@ -198,8 +116,8 @@ static void run_departures(void)
     expect("the handle that departs", packet.handle, 70);
     expect("the size that departs", packet.size, 5000);
     expect_shared(5, 1, 2);
-    expect_queue(&queues[0], &wanted);
-    expect_queue(&queues[1], &start_queues[1]);
+    expect_fields("pair_queue", &queues[0], &wanted);
+    expect_fields("pair_queue", &queues[1], &start_queues[1]);
     expect("the word that it leaves", sizes[1], AT(0, 4));
 
     wanted = start_queues[1]; /* the last packet, whose link nobody follows */
@@ -207,7 +125,7 @@ static void run_departures(void)
     expect("the other's departure", depart(OBIKUTERU_PASSENGERS, 500000, &packet), OBIKUTERU_ACCEPTED);
     expect("the handle that departs", packet.handle, 90);
     expect_shared(5, 2, 3);
-    expect_queue(&queues[1], &wanted);
+    expect_fields("pair_queue", &queues[1], &wanted);
     expect("the word that it leaves", sizes[2], AT(0, 1));
 }
 
@@ -230,8 +148,8 @@ static void run_arrivals(void)
     wanted[1].tail = 5;
     wanted[1].verdicts[0] = 67;
     expect_shared(6, 4, 0);
-    expect_queue(&queues[0], &wanted[0]);
-    expect_queue(&queues[1], &wanted[1]);
+    expect_fields("pair_queue", &queues[0], &wanted[0]);
+    expect_fields("pair_queue", &queues[1], &wanted[1]);
     expect("the handle at 4", handles[4], 81);
     expect("the handle at 5", handles[5], 82);
     expect("the word at 4", sizes[4], 100);
@@ -266,8 +184,8 @@ static void run_refusals(void)
     sizes[1] = AT(0, 3);
     expect("a head of no bytes", depart(OBIKUTERU_INTERCOM, 1000000, &packet), OBIKUTERU_REFUSED_HEAD);
     expect_shared(5, 4, 1);
-    expect_queue(&queues[0], &start_queues[0]);
-    expect_queue(&queues[1], &start_queues[1]);
+    expect_fields("pair_queue", &queues[0], &start_queues[0]);
+    expect_fields("pair_queue", &queues[1], &start_queues[1]);
 
     restore();
     expect("two freed", depart(OBIKUTERU_PASSENGERS, 500000, &packet), OBIKUTERU_ACCEPTED);
@@ -342,11 +260,8 @@ static void run_burst(bool second)
     expect("the other's arrivals", queues[!second].verdicts[0], 0);
 }
 
-int main(void)
+void check_pair(void)
 {
-    shared_record();
-    queue_record();
-    constants();
     run_fresh();
     run_tick();
     run_departures();
@@ -354,5 +269,4 @@ int main(void)
     run_refusals();
     run_burst(OBIKUTERU_INTERCOM);
     run_burst(OBIKUTERU_PASSENGERS);
-    return result();
 }

@@ -1,36 +1,9 @@
-/*
- * The header's burst against the definitions: the numbers of crates/burst/specs/Calls.antt and crates/steps/specs/Lent.antt stand here a
- * second time, by hand, and a burst of each kind of call is answered as they say. It prints each mistake and ends with 1 if there is any.
- */
+/* A burst of each kind of call is answered as crates/burst/specs/Calls.antt and crates/steps/specs/Lent.antt say. */
 #include <obikuteru.h>
 
-#include "layout.h"
+#include "parts.h"
 
 enum { SLOTS = 4, CALLS = 8 };
-
-static void structs(void)
-{
-    expect("the place of clock", offsetof(struct obikuteru_call, clock), 0);
-    expect("the place of handle", offsetof(struct obikuteru_call, handle), 8);
-    expect("the place of size", offsetof(struct obikuteru_call, size), 12);
-    expect("the place of u", offsetof(struct obikuteru_call, u), 16);
-    expect("the place of kind", offsetof(struct obikuteru_call, kind), 20);
-    expect("the size of a call", sizeof(struct obikuteru_call), 24);
-    expect("the place of code", offsetof(struct obikuteru_answer, code), 0);
-    expect("the place of the answer's size", offsetof(struct obikuteru_answer, size), 2);
-    expect("the place of the answer's handle", offsetof(struct obikuteru_answer, handle), 4);
-    expect("the size of an answer", sizeof(struct obikuteru_answer), 8);
-}
-
-static void constants(void)
-{
-    expect("CALL_ARRIVAL", OBIKUTERU_CALL_ARRIVAL, 0);
-    expect("CALL_ECN_ARRIVAL", OBIKUTERU_CALL_ECN_ARRIVAL, 1);
-    expect("CALL_DEPARTURE", OBIKUTERU_CALL_DEPARTURE, 2);
-    expect("CALL_TICK", OBIKUTERU_CALL_TICK, 3);
-    expect("REFUSED_CALL", OBIKUTERU_REFUSED_CALL, 120);
-    expect("it is known as a refusal", obikuteru_refused(OBIKUTERU_REFUSED_CALL), true);
-}
 
 static struct obikuteru_state state;
 static uint32_t handles[SLOTS], sizes[SLOTS];
@@ -82,11 +55,8 @@ static void run_burst(uint64_t profile)
     expect("its last tick", state.last, START + 15000);
 }
 
-int main(void)
+void check_burst(void)
 {
-    structs();
-    constants();
     run_burst(OBIKUTERU_PLAIN);
     run_burst(OBIKUTERU_CALM);
-    return result();
 }

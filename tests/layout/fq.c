@@ -1,79 +1,12 @@
-/*
- * The header's 64 flows against the page. The numbers stand here a second time, by hand, from
- * docs/SHARED-TABLES.md. Then the library runs, and each field must hold what the page gives for it,
- * and each constant must be the answer of a call that deserves it.
- * It prints each mistake and ends with 1 if there is any.
- */
+/* 64 flows run, and each field must hold what docs/SHARED-TABLES.md gives for it, and each constant must be the answer of a
+ * call that deserves it. */
 #include <obikuteru.h>
 
 #include <string.h>
 
-#include "layout.h"
+#include "parts.h"
 
 enum { SLOTS = 6, A = 29, B = 0 }; /* the flows of the keys 1 and 0 at salt 0 */
-
-#define WORD(record, field, place)                                                                  \
-    expect("the place of " #field, offsetof(struct record, field), 8 * (place));                   \
-    expect("the length of " #field, sizeof((struct record *)0)->field, 8)
-
-#define RECORD(field, place) WORD(obikuteru_fq, field, place)
-#define FLOW(field, place) WORD(obikuteru_flow, field, place)
-
-static void record(void)
-{
-    struct before { char byte; struct obikuteru_fq fq; };
-
-    RECORD(target, 0);
-    RECORD(buffer, 1);
-    RECORD(slots, 2);
-    RECORD(salt, 3);
-    RECORD(clock, 4);
-    RECORD(last, 5);
-    RECORD(count, 6);
-    RECORD(bytes, 7);
-    RECORD(used, 8);
-    RECORD(freed, 9);
-    RECORD(spare, 10);
-    RECORD(verdicts[0], 11);
-    RECORD(verdicts[4], 15);
-    RECORD(first, 16);
-    RECORD(old, 17);
-    RECORD(listed, 18);
-    RECORD(order[0], 19);
-    RECORD(order[63], 82);
-    RECORD(flow[0].probability, 83);
-    RECORD(flow[63].tail, 850);
-    expect("the place of deficits", offsetof(struct obikuteru_fq, deficits), 8 * 851);
-    expect("the length of a deficit", sizeof((struct obikuteru_fq *)0)->deficits[0], 4);
-    expect("the size of the record", sizeof(struct obikuteru_fq), 8 * 851 + 4 * 64);
-    expect("the alignment of the record", offsetof(struct before, fq), 8);
-}
-
-static void flow(void)
-{
-    FLOW(probability, 0);
-    FLOW(old_delay, 1);
-    FLOW(allowance, 2);
-    FLOW(accumulated, 3);
-    FLOW(average, 4);
-    FLOW(measuring, 5);
-    FLOW(start, 6);
-    FLOW(counted, 7);
-    FLOW(count, 8);
-    FLOW(bytes, 9);
-    FLOW(head, 10);
-    FLOW(tail, 11);
-    expect("the size of a flow", sizeof(struct obikuteru_flow), 96);
-}
-
-static void packet(void)
-{
-    expect("the place of flow", offsetof(struct obikuteru_flow_packet, flow), 0);
-    expect("the place of handle", offsetof(struct obikuteru_flow_packet, handle), 4);
-    expect("the place of size", offsetof(struct obikuteru_flow_packet, size), 8);
-    expect("the size of a packet", sizeof(struct obikuteru_flow_packet), 12);
-    expect("FQ_VERSION", OBIKUTERU_FQ_VERSION, 1);
-}
 
 /* No two fields of flow A alike. Its packets stand at the places 1, 3 and 0, those of flow B at 2; 4
  * is freed, and 5 was never taken. A is in the new list, B in the old one, which begins at 63. */
@@ -136,22 +69,6 @@ static uint32_t depart(uint64_t clock, struct obikuteru_flow_packet *packet)
     return obikuteru_fq_departure(&fq, handles, SLOTS, sizes, SLOTS, clock, packet);
 }
 
-static void expect_flow(const struct obikuteru_flow *f, const struct obikuteru_flow *wanted)
-{
-    expect("probability", f->probability, wanted->probability);
-    expect("old_delay", f->old_delay, wanted->old_delay);
-    expect("allowance", f->allowance, wanted->allowance);
-    expect("accumulated", f->accumulated, wanted->accumulated);
-    expect("average", f->average, wanted->average);
-    expect("measuring", f->measuring, wanted->measuring);
-    expect("start", f->start, wanted->start);
-    expect("counted", f->counted, wanted->counted);
-    expect("count", f->count, wanted->count);
-    expect("bytes", f->bytes, wanted->bytes);
-    expect("head", f->head, wanted->head);
-    expect("tail", f->tail, wanted->tail);
-}
-
 static void expect_common(uint64_t clock, uint64_t count, uint64_t bytes, uint64_t used, uint64_t freed, uint64_t spare)
 {
     expect("target", fq.target, 20000);
@@ -190,7 +107,7 @@ static void run_fresh(void)
     for (int f = 0; f < 64; f++) {
         expect("a place of the order", fq.order[f], 0);
         expect("a deficit", fq.deficits[f], 65535);
-        expect_flow(&fq.flow[f], &wanted);
+        expect_fields("flow", &fq.flow[f], &wanted);
     }
 }
 
@@ -207,7 +124,7 @@ static void run_tick(void)
     expect("a tick", obikuteru_fq_tick(&fq, 1000001), OBIKUTERU_ACCEPTED);
     expect("last", fq.last, 1000001);
     expect_common(1000001, 4, 20401, 5, 4, 1);
-    expect_flow(&fq.flow[A], &wanted);
+    expect_fields("flow", &fq.flow[A], &wanted);
     expect("the other's delay", fq.flow[B].old_delay, 0);
     expect("the other's probability", fq.flow[B].probability, 0);
     expect_lists(63, 1, 2);
@@ -229,8 +146,8 @@ static void run_departures(void)
     expect("the handle that departs", packet.handle, 70);
     expect("the size that departs", packet.size, 5000);
     expect_common(1000100, 3, 15401, 5, 1, 2);
-    expect_flow(&fq.flow[A], &wanted);
-    expect_flow(&fq.flow[B], &start_b);
+    expect_fields("flow", &fq.flow[A], &wanted);
+    expect_fields("flow", &fq.flow[B], &start_b);
     expect("its deficit", fq.deficits[A], 65535 + 1000 - 5000);
     expect("the other's deficit", fq.deficits[B], 65535 + 300);
     expect_lists(63, 1, 2);
@@ -256,7 +173,7 @@ static void run_arrivals(void)
     restore();
     expect("an arrival", arrive(key_a, 1000002, 81, 100, false), OBIKUTERU_ENQUEUED);
     expect_common(1000002, 5, 20501, 5, 4, 0);
-    expect_flow(&fq.flow[A], &wanted);
+    expect_fields("flow", &fq.flow[A], &wanted);
     expect("a count", fq.verdicts[0], 12);
     expect("its deficit", fq.deficits[A], 65535 + 1000);
     expect_lists(63, 1, 2);
@@ -302,7 +219,7 @@ static void run_refusals(void)
     sizes[1] = AT(0, 3);
     expect("a head of no bytes", depart(1000000, &packet), OBIKUTERU_REFUSED_HEAD);
     expect_common(1000000, 4, 20401, 5, 4, 1);
-    expect_flow(&fq.flow[A], &start_a);
+    expect_fields("flow", &fq.flow[A], &start_a);
     fq.verdicts[4] = (UINT64_C(1) << 48) - 11 - 22 - 33 - 44;
     expect("2^48 arrivals", arrive(key_a, 1000000, 1, 1, false), OBIKUTERU_REFUSED_COUNTS);
     expect("the record with them", obikuteru_fq_well_formed(&fq), true);
@@ -316,15 +233,11 @@ static void run_refusals(void)
     expect("a call on it", obikuteru_fq_tick(&fq, 15000), OBIKUTERU_REFUSED_STATE);
 }
 
-int main(void)
+void check_fq(void)
 {
-    record();
-    flow();
-    packet();
     run_fresh();
     run_tick();
     run_departures();
     run_arrivals();
     run_refusals();
-    return result();
 }
