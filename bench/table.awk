@@ -161,7 +161,9 @@ function print_kind(k,    i) {
     printf "\n## %s\n\n", title[k]
     for (i = 1; i <= streams[k] && k != "log"; i++)
         print_stream(stream[k, i])
-    print (k == "log" ? "" : "\n") "| Stream | Call | Plain C | Library | Library / C | Time, library / C |" (with_other ? " Other C |" : "")
+    if (k != "log")
+        print ""
+    print "| Stream | Call | Plain C | Library | Library / C | Time, library / C |" (with_other ? " Other C |" : "")
     print "|---|---|---|---|---|---|" (with_other ? "---|" : "")
     for (i = 1; i <= streams[k]; i++)
         if (k == "log")
@@ -196,8 +198,8 @@ END {
     named["before"] = "The earlier archive to plain C"
     named["remainder"] = "Plain C by remainders to plain C"
     printf "%s; %s, -O3%s.\n", tool["date"], tool["gcc"], "clang" in tool ? "; " tool["clang"] ", -O3" : ""
-    print "Plain C and library: instructions per call. Times are ratios to plain C: median (least..greatest). Other C: instructions and time to"
-    print "plain C's, of plain C by clang, and in bursts of plain C that tests once that the counts have room for the whole burst."
+    print "Plain C and library: instructions per call. Times are ratios to plain C: median (least..greatest). Other C: instructions and"
+    print "time to plain C's, of plain C by clang, and in bursts of plain C that tests once that the counts have room for the whole burst."
     for (i = 1; i <= kinds; i++)
         print_kind(kind[i])
 }
