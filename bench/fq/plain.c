@@ -2,15 +2,15 @@
  * document 01's rules and refusals. */
 #include "plain.h"
 
-#include "../shared/pie.h"
+#include "choose.h"
+#include "record.h"
+
+#define MEASURED struct plain_flow
+#include "../shared/measure.h"
 
 #include <string.h>
 
-#define FLOWS PLAIN_FQ_FLOWS
 #define LINK 65536u /* a word of the sizes table: a size, and so many times a link */
-#define ZERO 65535u /* the word of a deficit of 0 */
-#define QUANTUM 1514u
-#define LOOKS 2880u
 
 /* The flow of a key: Jenkins' one-at-a-time hash, and the salt. */
 uint32_t plain_fq_flow(const uint8_t *key, uint32_t salt)
@@ -25,77 +25,6 @@ uint32_t plain_fq_flow(const uint8_t *key, uint32_t salt)
     h ^= h >> 11;
     h += h << 15;
     return (h + salt) % FLOWS;
-}
-
-static bool settings_in_range(uint64_t target, uint64_t buffer, uint64_t slots)
-{
-    return 1000 <= target && target <= 100000 && 1 <= buffer && buffer <= 16777216
-        && 1 <= slots && slots <= 65536;
-}
-
-static inline bool common_well_formed(const struct plain_fq *q)
-{
-    const uint64_t *v = q->verdicts;
-    return settings_in_range(q->target, q->buffer, q->slots)
-        && q->salt <= UINT32_MAX
-        && q->last <= q->clock && q->clock <= LIMIT
-        && q->freed < q->slots && q->used <= q->slots
-        && q->spare <= q->used && q->count == q->used - q->spare
-        && v[0] <= LIMIT && v[1] <= LIMIT && v[2] <= LIMIT && v[3] <= LIMIT && v[4] <= LIMIT
-        && arrivals_counted(q->verdicts) <= LIMIT;
-}
-
-static inline bool flow_well_formed(const struct plain_fq *q, const struct plain_flow *f)
-{
-    return f->probability <= WHOLE
-        && f->old_delay <= LONGEST
-        && f->allowance <= ALLOWANCE
-        && f->accumulated < FORCED
-        && f->average <= LONGEST
-        && f->head < q->slots && f->tail < q->slots
-        && f->count <= q->slots
-        && f->count <= f->bytes && f->bytes <= LARGEST * f->count
-        && f->bytes <= q->buffer
-        && f->start <= q->clock
-        && f->counted < THRESHOLD
-        && (f->measuring ? 0 < f->count : f->start == 0 && f->counted == 0);
-}
-
-/* One pass tests each flow, its deficit and the totals, and marks the flows that hold a packet. */
-static inline bool flows_well_formed(const struct plain_fq *q, uint64_t *holding)
-{
-    uint64_t count = 0, bytes = 0;
-    *holding = 0;
-    for (size_t i = 0; i < FLOWS; i++) {
-        if (!flow_well_formed(q, &q->flow[i]) || ZERO + QUANTUM < q->deficits[i])
-            return false;
-        count += q->flow[i].count;
-        bytes += q->flow[i].bytes;
-        *holding |= (uint64_t)(0 < q->flow[i].count) << i;
-    }
-    return count == q->count && bytes == q->bytes && bytes <= q->buffer;
-}
-
-/* The flows in either list as bits; false where one is listed twice or is none. */
-static inline bool lists_well_formed(const struct plain_fq *q, uint64_t *marks)
-{
-    *marks = 0;
-    if (FLOWS <= q->first || FLOWS < q->listed || q->listed < q->old)
-        return false;
-    for (uint64_t i = 0; i < q->listed; i++) {
-        uint64_t flow = q->order[(q->first + i) % FLOWS];
-        if (FLOWS <= flow || (*marks >> flow & 1) != 0)
-            return false;
-        *marks |= UINT64_C(1) << flow;
-    }
-    return true;
-}
-
-static inline bool well_formed(const struct plain_fq *q, uint64_t *marks)
-{
-    uint64_t holding;
-    return common_well_formed(q) && flows_well_formed(q, &holding) && lists_well_formed(q, marks)
-        && (holding & ~*marks) == 0;
 }
 
 bool plain_fq_well_formed(const struct plain_fq *fq)
@@ -231,108 +160,6 @@ uint32_t plain_fq_arrival(struct plain_fq *fq, uint32_t *handles, size_t handles
     if (handles_len != fq->slots || sizes_len != fq->slots)
         return PLAIN_REFUSED_TABLES; /* 3 */
     return arrive(fq, &marks, handles, sizes, clock, key, handle, size, ecn, u, false);
-}
-
-/* What choosing a flow changes: it comes back where the departure is refused by 9. The arrays are
- * copied only where one of them is to be written. */
-struct kept {
-    uint64_t first;
-    uint64_t old;
-    uint64_t listed;
-    bool copied;
-    uint64_t order[FLOWS];
-    uint32_t deficits[FLOWS];
-};
-
-static inline void copy(struct kept *k, const struct plain_fq *q)
-{
-    k->copied = true;
-    memcpy(k->order, q->order, sizeof k->order);
-    memcpy(k->deficits, q->deficits, sizeof k->deficits);
-}
-
-static inline void put_back(struct plain_fq *q, const struct kept *k)
-{
-    q->first = k->first;
-    q->old = k->old;
-    q->listed = k->listed;
-    if (k->copied) {
-        memcpy(q->order, k->order, sizeof k->order);
-        memcpy(q->deficits, k->deficits, sizeof k->deficits);
-    }
-}
-
-/* One move of the flow at the head, which has a negative deficit or no packet. */
-static inline void move(struct plain_fq *q, uint64_t flow, struct kept *k)
-{
-    bool negative = q->deficits[flow] < ZERO;
-    if (negative) {
-        if (!k->copied)
-            copy(k, q);
-        q->deficits[flow] += QUANTUM;
-    }
-    if (q->old < q->listed) { /* the new list's head becomes the old list's last */
-        q->old++;
-        return;
-    }
-    if (negative) {
-        q->order[(q->first + q->listed) % FLOWS] = flow;
-    } else {
-        q->old--;
-        q->listed--;
-    }
-    q->first = (q->first + 1) % FLOWS;
-}
-
-/* The flow that is served next. Some flow holds a packet, and each that does is listed. */
-static inline uint64_t choose(struct plain_fq *q, struct kept *k)
-{
-    k->first = q->first;
-    k->old = q->old;
-    k->listed = q->listed;
-    k->copied = false;
-    for (uint32_t look = 0; look < LOOKS; look++) {
-        if (q->listed == 0)
-            break;
-        uint64_t at = q->old < q->listed ? q->first + q->old : q->first;
-        uint64_t flow = q->order[at % FLOWS];
-        if (ZERO <= q->deficits[flow] && 0 < q->flow[flow].count)
-            return flow;
-        move(q, flow, k);
-    }
-    return 0;
-}
-
-static void stop_measurement(struct plain_flow *f)
-{
-    f->measuring = 0;
-    f->start = 0;
-    f->counted = 0;
-}
-
-/* The measurement has reached its threshold: take the sample into the average. */
-static void end_measurement(struct plain_flow *f, uint64_t clock)
-{
-    uint64_t took = clock - f->start;
-    uint64_t sample = took < 1 ? 1 : LONGEST < took ? LONGEST : took;
-    f->average = f->average == 0 ? sample : (sample + 3 * f->average) / 4;
-    stop_measurement(f);
-}
-
-/* The departure rate after a packet of this size has left. */
-static inline void measure(struct plain_flow *f, uint32_t size, uint64_t clock)
-{
-    if (f->measuring) {
-        f->counted += size;
-        if (THRESHOLD <= f->counted)
-            end_measurement(f, clock);
-        else if (f->count == 0)
-            stop_measurement(f); /* no sample across an empty queue */
-    }
-    if (!f->measuring && THRESHOLD <= f->bytes) {
-        f->measuring = 1;
-        f->start = clock;
-    }
 }
 
 /* The head leaves its flow, which has others behind it from `next` on. */

@@ -2,7 +2,8 @@
  * document 01's rules and refusals. */
 #include "plain.h"
 
-#include "../shared/pie.h"
+#define MEASURED struct plain_pair_queue
+#include "../shared/measure.h"
 
 #include <string.h>
 
@@ -186,38 +187,6 @@ uint32_t plain_pair_arrival(struct plain_shared *shared, struct plain_pair_queue
         return PLAIN_REFUSED_TABLES; /* 3 */
     return arrive(shared, intercom, passengers, second, q, handles, sizes, clock, handle, size, ecn,
                   u, false);
-}
-
-static void stop_measurement(struct plain_pair_queue *q)
-{
-    q->measuring = false;
-    q->start = 0;
-    q->counted = 0;
-}
-
-/* The measurement has reached its threshold: take the sample into the average. */
-static void end_measurement(struct plain_pair_queue *q, uint64_t clock)
-{
-    uint64_t took = clock - q->start;
-    uint32_t sample = took < 1 ? 1 : LONGEST < took ? LONGEST : (uint32_t)took;
-    q->average = q->average == 0 ? sample : (sample + 3 * q->average) / 4;
-    stop_measurement(q);
-}
-
-/* The departure rate after a packet of this size has left. */
-static inline void measure(struct plain_pair_queue *q, uint32_t size, uint64_t clock)
-{
-    if (q->measuring) {
-        q->counted += size;
-        if (THRESHOLD <= q->counted)
-            end_measurement(q, clock);
-        else if (q->count == 0)
-            stop_measurement(q); /* no sample across an empty queue */
-    }
-    if (!q->measuring && THRESHOLD <= q->bytes) {
-        q->measuring = true;
-        q->start = clock;
-    }
 }
 
 /* A departure with well-formed records and tables that fit; the packet is {0, 0} before. */

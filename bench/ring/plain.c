@@ -2,7 +2,8 @@
  * comments are the rules' and refusals' own. */
 #include "plain.h"
 
-#include "../shared/pie.h"
+#define MEASURED struct plain_state
+#include "../shared/measure.h"
 
 #include <string.h>
 
@@ -53,13 +54,6 @@ uint32_t plain_fresh(struct plain_state *s, uint32_t target, uint32_t buffer, ui
     s->last = clock;
     s->allowance = ALLOWANCE;
     return PLAIN_ACCEPTED;
-}
-
-static void stop_measurement(struct plain_state *s)
-{
-    s->measuring = false;
-    s->start = 0;
-    s->counted = 0;
 }
 
 /* Three times the queued bytes are above the buffer. */
@@ -143,15 +137,6 @@ uint32_t plain_arrival(struct plain_state *s, uint32_t *handles, size_t handles_
     return arrive(s, handles, sizes, clock, handle, size, ecn, u, false);
 }
 
-/* The measurement has reached its threshold: take the sample into the average. */
-static void end_measurement(struct plain_state *s, uint64_t clock)
-{
-    uint64_t took = clock - s->start;
-    uint32_t sample = took < 1 ? 1 : LONGEST < took ? LONGEST : (uint32_t)took;
-    s->average = s->average == 0 ? sample : (sample + 3 * s->average) / 4;
-    stop_measurement(s);
-}
-
 /* A departure from a well-formed record with tables that fit; the packet is {0, 0} before. */
 static inline uint32_t depart(struct plain_state *s, const uint32_t *handles, const uint32_t *sizes,
                               uint64_t clock, struct plain_packet *packet)
@@ -172,17 +157,7 @@ static inline uint32_t depart(struct plain_state *s, const uint32_t *handles, co
     s->count = count;
     s->bytes = bytes;
     s->clock = clock;
-    if (s->measuring) {
-        s->counted += size;
-        if (THRESHOLD <= s->counted)
-            end_measurement(s, clock);
-        else if (count == 0)
-            stop_measurement(s); /* no sample across an empty queue */
-    }
-    if (!s->measuring && THRESHOLD <= bytes) {
-        s->measuring = true;
-        s->start = clock;
-    }
+    measure(s, size, clock);
     return PLAIN_ACCEPTED;
 }
 

@@ -38,7 +38,7 @@ static double microseconds(struct timeval t)
 static double run(const char *program, const char *input, const char *output)
 {
     struct rusage usage;
-    int status;
+    int status = 0;
     pid_t child = fork();
     if (child == 0)
         become(program, input, output);
