@@ -1,347 +1,185 @@
 /*
- * The header against the definitions. The numbers stand here a second time, by hand: the words of
- * the record from crates/ring_words/specs/Words.antt, the answers from crates/ring_words/specs/Codes.antt, the
- * refusals from crates/refusals/specs/Numbers.antt. Then the library runs, and each field must hold
- * what document 01 gives for it, and each constant must be the answer of a call that deserves it.
+ * The header against the definitions. The numbers stand here a second time, by hand: of each record the place and the length of
+ * its fields, its size and its alignment, and the constants. Then the library runs, kind by kind (layout/), and each field must
+ * hold what the rules give for it, and each constant must be the answer of a call that deserves it.
  * It prints each mistake and ends with 1 if there is any.
  */
 #include <obikuteru.h>
 
+#include <string.h>
+
+#define LINKAGE
 #include "layout.h"
+#include "layout/parts.h"
 
-enum { SLOTS = 4 };
+#define COUNT(table) (sizeof(table) / sizeof *(table))
 
-#define WORD(field, place)                                                                             \
-    expect("the place of " #field, offsetof(struct obikuteru_state, field), 8 * (place));            \
-    expect("the length of " #field, sizeof((struct obikuteru_state *)0)->field, 8)
-
-static void record(void)
-{
-    struct before_state { char byte; struct obikuteru_state state; };
-
-    WORD(target, 0);
-    WORD(buffer, 1);
-    WORD(slots, 2);
-    WORD(clock, 3);
-    WORD(last, 4);
-    WORD(probability, 5);
-    WORD(old_delay, 6);
-    WORD(allowance, 7);
-    WORD(accumulated, 8);
-    WORD(average, 9);
-    WORD(measuring, 10);
-    WORD(start, 11);
-    WORD(counted, 12);
-    WORD(count, 13);
-    WORD(bytes, 14);
-    WORD(first, 15);
-    WORD(verdicts[0], 16);
-    WORD(verdicts[1], 17);
-    WORD(verdicts[2], 18);
-    WORD(verdicts[3], 19);
-    WORD(verdicts[4], 20);
-    WORD(profile, 21);
-    WORD(active, 22);
-    expect("the size of the record", sizeof(struct obikuteru_state), 184);
-    expect("the alignment of the record", offsetof(struct before_state, state), 8);
-}
-
-static void packet(void)
-{
-    struct before_packet { char byte; struct obikuteru_packet packet; };
-
-    expect("the place of handle", offsetof(struct obikuteru_packet, handle), 0);
-    expect("the place of size", offsetof(struct obikuteru_packet, size), 4);
-    expect("the size of the packet", sizeof(struct obikuteru_packet), 8);
-    expect("the alignment of the packet", offsetof(struct before_packet, packet), 4);
-}
-
-static void constants(void)
-{
-    expect("ENQUEUED", OBIKUTERU_ENQUEUED, 0);
-    expect("MARKED", OBIKUTERU_MARKED, 1);
-    expect("DROPPED_BYTES", OBIKUTERU_DROPPED_BYTES, 2);
-    expect("DROPPED_SLOTS", OBIKUTERU_DROPPED_SLOTS, 3);
-    expect("DROPPED_EARLY", OBIKUTERU_DROPPED_EARLY, 4);
-    expect("ACCEPTED", OBIKUTERU_ACCEPTED, 0);
-    expect("REFUSED_SETTINGS", OBIKUTERU_REFUSED_SETTINGS, 101);
-    expect("REFUSED_STATE", OBIKUTERU_REFUSED_STATE, 102);
-    expect("REFUSED_TABLES", OBIKUTERU_REFUSED_TABLES, 103);
-    expect("REFUSED_CLOCK", OBIKUTERU_REFUSED_CLOCK, 104);
-    expect("REFUSED_TOO_SOON", OBIKUTERU_REFUSED_TOO_SOON, 105);
-    expect("REFUSED_EMPTY", OBIKUTERU_REFUSED_EMPTY, 106);
-    expect("REFUSED_SIZE", OBIKUTERU_REFUSED_SIZE, 107);
-    expect("REFUSED_COUNTS", OBIKUTERU_REFUSED_COUNTS, 108);
-    expect("REFUSED_HEAD", OBIKUTERU_REFUSED_HEAD, 109);
-    expect("TICK_PERIOD", OBIKUTERU_TICK_PERIOD, 15000);
-    expect("RECORD_VERSION", OBIKUTERU_RECORD_VERSION, 3);
-    expect("PLAIN", OBIKUTERU_PLAIN, 0);
-    expect("CALM", OBIKUTERU_CALM, 1);
-    for (uint32_t answer = 0; answer <= 4; answer++)
-        expect("a verdict taken for a refusal", obikuteru_refused(answer), false);
-    for (uint32_t answer = 101; answer <= 109; answer++)
-        expect("a refusal known as one", obikuteru_refused(answer), true);
-}
-
-/* A well-formed record, no two of its fields alike. */
-static const struct obikuteru_state start_state = {
-    .target = 20000, .buffer = 60000, .slots = SLOTS, .clock = 1000000, .last = 985000,
-    .probability = 1000000, .old_delay = 12000, .allowance = 30000, .accumulated = 4294967296,
-    .average = 10000, .measuring = 1, .start = 990000, .counted = 16000, .count = 3, .bytes = 20001, .first = 2,
-    .verdicts = {11, 22, 33, 44, 55}, .profile = OBIKUTERU_CALM, .active = 9,
+struct field {
+    const char *record, *name;
+    size_t place, length, wanted_place, wanted_length;
 };
 
-static struct obikuteru_state state;
-static uint32_t handles[SLOTS], sizes[SLOTS];
+#define FIELD(record, field, place, length)                                                                        \
+    {#record, #record "." #field, offsetof(struct obikuteru_##record, field),                                      \
+     sizeof((struct obikuteru_##record *)0)->field, place, length}
 
-/* The queue of start_state: its packets 70, 71 and 72 stand at the places 2, 3 and 0. */
-static void restore(void)
+static const struct field fields[] = {
+    /* the ring: crates/ring_words/specs/Words.antt */
+    FIELD(state, target, 0, 8), FIELD(state, buffer, 8, 8), FIELD(state, slots, 16, 8), FIELD(state, clock, 24, 8),
+    FIELD(state, last, 32, 8), FIELD(state, probability, 40, 8), FIELD(state, old_delay, 48, 8),
+    FIELD(state, allowance, 56, 8), FIELD(state, accumulated, 64, 8), FIELD(state, average, 72, 8),
+    FIELD(state, measuring, 80, 8), FIELD(state, start, 88, 8), FIELD(state, counted, 96, 8),
+    FIELD(state, count, 104, 8), FIELD(state, bytes, 112, 8), FIELD(state, first, 120, 8),
+    FIELD(state, verdicts[0], 128, 8), FIELD(state, verdicts[1], 136, 8), FIELD(state, verdicts[2], 144, 8),
+    FIELD(state, verdicts[3], 152, 8), FIELD(state, verdicts[4], 160, 8), FIELD(state, profile, 168, 8),
+    FIELD(state, active, 176, 8),
+    FIELD(packet, handle, 0, 4), FIELD(packet, size, 4, 4),
+    /* bursts: crates/ring_burst/specs/Calls.antt and crates/ring_steps/specs/Lent.antt */
+    FIELD(call, clock, 0, 8), FIELD(call, handle, 8, 4), FIELD(call, size, 12, 4), FIELD(call, u, 16, 4),
+    FIELD(call, kind, 20, 4),
+    FIELD(answer, code, 0, 2), FIELD(answer, size, 2, 2), FIELD(answer, handle, 4, 4),
+    /* the modem: docs/DOCSIS-PIE.md */
+    FIELD(modem_state, target, 0, 8), FIELD(modem_state, buffer, 8, 8), FIELD(modem_state, slots, 16, 8),
+    FIELD(modem_state, peak, 24, 8), FIELD(modem_state, sustained, 32, 8), FIELD(modem_state, clock, 40, 8),
+    FIELD(modem_state, last, 48, 8), FIELD(modem_state, probability, 56, 8), FIELD(modem_state, accumulated, 64, 8),
+    FIELD(modem_state, old_delay, 72, 8), FIELD(modem_state, allowance, 80, 8), FIELD(modem_state, reset, 88, 8),
+    FIELD(modem_state, activity, 96, 8), FIELD(modem_state, first, 104, 8), FIELD(modem_state, count, 112, 8),
+    FIELD(modem_state, bytes, 120, 8),
+    /* two queues: docs/SHARED-TABLES.md */
+    FIELD(shared, slots, 0, 8), FIELD(shared, reserve[0], 8, 8), FIELD(shared, reserve[1], 16, 8),
+    FIELD(shared, used, 24, 8), FIELD(shared, freed, 32, 8), FIELD(shared, spare, 40, 8),
+    FIELD(pair_queue, target, 0, 8), FIELD(pair_queue, buffer, 8, 8), FIELD(pair_queue, clock, 16, 8),
+    FIELD(pair_queue, last, 24, 8), FIELD(pair_queue, probability, 32, 8), FIELD(pair_queue, old_delay, 40, 8),
+    FIELD(pair_queue, allowance, 48, 8), FIELD(pair_queue, accumulated, 56, 8), FIELD(pair_queue, average, 64, 8),
+    FIELD(pair_queue, measuring, 72, 8), FIELD(pair_queue, start, 80, 8), FIELD(pair_queue, counted, 88, 8),
+    FIELD(pair_queue, count, 96, 8), FIELD(pair_queue, bytes, 104, 8), FIELD(pair_queue, head, 112, 8),
+    FIELD(pair_queue, tail, 120, 8), FIELD(pair_queue, verdicts[0], 128, 8), FIELD(pair_queue, verdicts[1], 136, 8),
+    FIELD(pair_queue, verdicts[2], 144, 8), FIELD(pair_queue, verdicts[3], 152, 8),
+    FIELD(pair_queue, verdicts[4], 160, 8),
+    /* 64 flows: docs/SHARED-TABLES.md */
+    FIELD(fq, target, 0, 8), FIELD(fq, buffer, 8, 8), FIELD(fq, slots, 16, 8), FIELD(fq, salt, 24, 8),
+    FIELD(fq, clock, 32, 8), FIELD(fq, last, 40, 8), FIELD(fq, count, 48, 8), FIELD(fq, bytes, 56, 8),
+    FIELD(fq, used, 64, 8), FIELD(fq, freed, 72, 8), FIELD(fq, spare, 80, 8), FIELD(fq, verdicts[0], 88, 8),
+    FIELD(fq, verdicts[4], 120, 8), FIELD(fq, first, 128, 8), FIELD(fq, old, 136, 8), FIELD(fq, listed, 144, 8),
+    FIELD(fq, order[0], 152, 8), FIELD(fq, order[63], 656, 8), FIELD(fq, flow[0].probability, 664, 8),
+    FIELD(fq, flow[63].tail, 6800, 8), FIELD(fq, deficits[0], 6808, 4), FIELD(fq, deficits[63], 7060, 4),
+    FIELD(flow, probability, 0, 8), FIELD(flow, old_delay, 8, 8), FIELD(flow, allowance, 16, 8),
+    FIELD(flow, accumulated, 24, 8), FIELD(flow, average, 32, 8), FIELD(flow, measuring, 40, 8),
+    FIELD(flow, start, 48, 8), FIELD(flow, counted, 56, 8), FIELD(flow, count, 64, 8), FIELD(flow, bytes, 72, 8),
+    FIELD(flow, head, 80, 8), FIELD(flow, tail, 88, 8),
+    FIELD(flow_packet, flow, 0, 4), FIELD(flow_packet, handle, 4, 4), FIELD(flow_packet, size, 8, 4),
+    /* the log: docs/LOG.md */
+    FIELD(settings, target, 0, 8), FIELD(settings, buffer, 8, 4), FIELD(settings, slots, 12, 4),
+    FIELD(settings, clock, 16, 8), FIELD(settings, profile, 24, 1), FIELD(settings, unused, 25, 7),
+    FIELD(record, kind, 0, 1), FIELD(record, ecn, 1, 1), FIELD(record, unused, 2, 2), FIELD(record, handle, 4, 4),
+    FIELD(record, clock, 8, 8), FIELD(record, size, 16, 4), FIELD(record, u, 20, 4), FIELD(record, verdict, 24, 4),
+    FIELD(record, bytes, 28, 4), FIELD(record, probability, 32, 8),
+    FIELD(log, offset, 0, 4), FIELD(log, count, 4, 4),
+    FIELD(part, from, 0, 8), FIELD(part, length, 8, 8),
+    FIELD(replayed, record, 0, 8), FIELD(replayed, refusal, 8, 8), FIELD(replayed, verdict, 16, 8),
+    FIELD(replayed, probability, 24, 8), FIELD(replayed, bytes, 32, 8),
+    FIELD(compared, whose, 0, 8), FIELD(compared, record, 8, 8), FIELD(compared, part, 16, 16),
+};
+
+struct record {
+    const char *name;
+    size_t size, alignment, wanted_size, wanted_alignment;
+};
+
+#define RECORD(record, size, alignment)                                                                            \
+    {#record, sizeof(struct obikuteru_##record), __alignof__(struct obikuteru_##record), size, alignment}
+
+static const struct record records[] = {
+    RECORD(state, 184, 8), RECORD(packet, 8, 4), RECORD(call, 24, 8), RECORD(answer, 8, 4), RECORD(modem_state, 128, 8),
+    RECORD(shared, 48, 8), RECORD(pair_queue, 168, 8), RECORD(fq, 8 * 851 + 4 * 64, 8), RECORD(flow, 96, 8),
+    RECORD(flow_packet, 12, 4), RECORD(settings, 32, 8), RECORD(record, 40, 8), RECORD(log, 8, 4), RECORD(part, 16, 8),
+    RECORD(replayed, 40, 8), RECORD(compared, 32, 8),
+};
+
+struct constant {
+    const char *name;
+    uint64_t value, wanted;
+};
+
+#define CONSTANT(name, value) {#name, OBIKUTERU_##name, value}
+
+static const struct constant constants[] = {
+    /* the answers: crates/ring_words/specs/Codes.antt; the refusals: crates/refusals/specs/Numbers.antt */
+    CONSTANT(ENQUEUED, 0), CONSTANT(MARKED, 1), CONSTANT(DROPPED_BYTES, 2), CONSTANT(DROPPED_SLOTS, 3),
+    CONSTANT(DROPPED_EARLY, 4), CONSTANT(ACCEPTED, 0), CONSTANT(REFUSED_SETTINGS, 101), CONSTANT(REFUSED_STATE, 102),
+    CONSTANT(REFUSED_TABLES, 103), CONSTANT(REFUSED_CLOCK, 104), CONSTANT(REFUSED_TOO_SOON, 105),
+    CONSTANT(REFUSED_EMPTY, 106), CONSTANT(REFUSED_SIZE, 107), CONSTANT(REFUSED_COUNTS, 108),
+    CONSTANT(REFUSED_HEAD, 109), CONSTANT(TICK_PERIOD, 15000), CONSTANT(RECORD_VERSION, 3), CONSTANT(PLAIN, 0),
+    CONSTANT(CALM, 1),
+    /* bursts */
+    CONSTANT(CALL_ARRIVAL, 0), CONSTANT(CALL_ECN_ARRIVAL, 1), CONSTANT(CALL_DEPARTURE, 2), CONSTANT(CALL_TICK, 3),
+    CONSTANT(REFUSED_CALL, 120),
+    /* the modem */
+    CONSTANT(MODEM_TARGET, 10000), CONSTANT(MODEM_TICK_PERIOD, 16000), CONSTANT(MODEM_FLOWS, 16),
+    CONSTANT(MODEM_RECORD_VERSION, 1), CONSTANT(REFUSED_FLOW, 110),
+    /* two queues */
+    CONSTANT(PAIR_VERSION, 1), CONSTANT(INTERCOM, 0), CONSTANT(PASSENGERS, 1), CONSTANT(CALL_PASSENGERS, 4),
+    /* 64 flows */
+    CONSTANT(FQ_VERSION, 1),
+    /* the log */
+    CONSTANT(NOTE_MOST, 4096), CONSTANT(RECORDS_MOST, 100000), CONSTANT(LOG_MOST, 4004144),
+    CONSTANT(REFUSED_LOG, 111), CONSTANT(REFUSED_HEADER, 112), CONSTANT(REFUSED_RECORD, 113),
+    CONSTANT(REFUSED_ROOM, 114), CONSTANT(END, 1), CONSTANT(DISAGREES_VERDICT, 1), CONSTANT(DISAGREES_PROBABILITY, 2),
+    CONSTANT(DISAGREES_BYTES, 3), CONSTANT(SETTINGS_DIFFER, 1), CONSTANT(NOTES_DIFFER, 2),
+    CONSTANT(RECORDS_DIFFER, 3), CONSTANT(FIRST_ENDS, 4), CONSTANT(SECOND_ENDS, 5),
+};
+
+static void expect_of(const char *what, const char *of, uint64_t found, uint64_t wanted)
 {
-    static const uint32_t queued_handles[SLOTS] = {72, 7, 70, 71};
-    static const uint32_t queued_sizes[SLOTS] = {9001, 8, 5000, 6000};
+    char said[80];
+    snprintf(said, sizeof said, "%s %s", what, of);
+    expect(said, found, wanted);
+}
 
-    state = start_state;
-    for (int i = 0; i < SLOTS; i++) {
-        handles[i] = queued_handles[i];
-        sizes[i] = queued_sizes[i];
+static void check_tables(void)
+{
+    for (size_t i = 0; i < COUNT(fields); i++) {
+        expect_of("the place of", fields[i].name, fields[i].place, fields[i].wanted_place);
+        expect_of("the length of", fields[i].name, fields[i].length, fields[i].wanted_length);
     }
+    for (size_t i = 0; i < COUNT(records); i++) {
+        expect_of("the size of", records[i].name, records[i].size, records[i].wanted_size);
+        expect_of("the alignment of", records[i].name, records[i].alignment, records[i].wanted_alignment);
+    }
+    for (size_t i = 0; i < COUNT(constants); i++)
+        expect(constants[i].name, constants[i].value, constants[i].wanted);
 }
 
-static uint32_t arrive(uint64_t clock, uint32_t handle, uint32_t size, bool ecn)
+static void check_refusals(void)
 {
-    return obikuteru_arrival(&state, handles, SLOTS, sizes, SLOTS, clock, handle, size, ecn, 0);
+    for (uint32_t answer = 0; answer <= 4; answer++)
+        expect("a verdict taken for a refusal", obikuteru_refused(answer), false);
+    for (uint32_t answer = 101; answer <= 114; answer++)
+        expect("a refusal known as one", obikuteru_refused(answer), true);
+    expect("that of a call known as one", obikuteru_refused(OBIKUTERU_REFUSED_CALL), true);
 }
 
-static uint32_t depart(uint64_t clock, struct obikuteru_packet *packet)
+/* Of the records whose fields are words. */
+void expect_fields(const char *record, const void *found, const void *wanted)
 {
-    return obikuteru_departure(&state, handles, SLOTS, sizes, SLOTS, clock, packet);
-}
-
-/* Every field of `state`, by name. */
-static void expect_state(const char *after, const struct obikuteru_state *wanted)
-{
-    int before = mistakes;
-
-    expect("target", state.target, wanted->target);
-    expect("buffer", state.buffer, wanted->buffer);
-    expect("slots", state.slots, wanted->slots);
-    expect("clock", state.clock, wanted->clock);
-    expect("last", state.last, wanted->last);
-    expect("probability", state.probability, wanted->probability);
-    expect("old_delay", state.old_delay, wanted->old_delay);
-    expect("allowance", state.allowance, wanted->allowance);
-    expect("accumulated", state.accumulated, wanted->accumulated);
-    expect("average", state.average, wanted->average);
-    expect("measuring", state.measuring, wanted->measuring);
-    expect("start", state.start, wanted->start);
-    expect("counted", state.counted, wanted->counted);
-    expect("count", state.count, wanted->count);
-    expect("bytes", state.bytes, wanted->bytes);
-    expect("first", state.first, wanted->first);
-    for (int v = 0; v < 5; v++)
-        expect("a count of verdicts", state.verdicts[v], wanted->verdicts[v]);
-    expect("profile", state.profile, wanted->profile);
-    expect("active", state.active, wanted->active);
-    if (mistakes > before)
-        printf("layout: that was after %s.\n", after);
-}
-
-static void run_fresh(void)
-{
-    struct obikuteru_state wanted = {.target = 15000, .buffer = 64000, .slots = 64, .clock = 99,
-                                     .last = 99, .allowance = 150000, .active = 1};
-
-    state = start_state;
-    expect("fresh", obikuteru_fresh(&state, 15000, 64000, 64, OBIKUTERU_PLAIN, 99), OBIKUTERU_ACCEPTED);
-    expect_state("fresh", &wanted);
-    wanted.profile = OBIKUTERU_CALM;
-    wanted.active = 0;
-    state = start_state;
-    expect("calm fresh", obikuteru_fresh(&state, 15000, 64000, 64, OBIKUTERU_CALM, 99), OBIKUTERU_ACCEPTED);
-    expect_state("calm fresh", &wanted);
-}
-
-/* Delay 20,001 x 10,000 / 16,384 = 12,207; x = 12,207 - 20,000 + 10 x 207 = -5,723; k = 32. */
-static void run_tick(void)
-{
-    struct obikuteru_state wanted = start_state;
-
-    wanted.clock = wanted.last = 985000 + OBIKUTERU_TICK_PERIOD + 1;
-    wanted.old_delay = 12207;
-    wanted.probability = 1000000 - 96016; /* 5,723 x 8,388,608 / (15,625 x 32) = 96,016.0 */
-    wanted.allowance = 15000;
-    restore();
-    expect("a tick", obikuteru_tick(&state, 1000001), OBIKUTERU_ACCEPTED);
-    expect_state("a tick", &wanted);
-}
-
-/* The head ends the measurement: its sample is 10,100, the new average (10,100 + 30,000) / 4. */
-static void run_departures(void)
-{
-    struct obikuteru_state wanted = start_state;
-    struct obikuteru_packet packet;
-
-    wanted.clock = 1000100;
-    wanted.average = 10025;
-    wanted.measuring = wanted.start = wanted.counted = 0;
-    wanted.count = 2;
-    wanted.bytes = 15001;
-    wanted.first = 3;
-    restore();
-    expect("a departure", depart(1000100, &packet), OBIKUTERU_ACCEPTED);
-    expect("the handle that departs", packet.handle, 70);
-    expect("the size that departs", packet.size, 5000);
-    expect_state("a departure", &wanted);
-
-    wanted = start_state; /* the same, but the measurement goes on */
-    wanted.counted = 300 + 5000;
-    wanted.count = 2;
-    wanted.bytes = 15001;
-    wanted.first = 3;
-    restore();
-    state.counted = 300;
-    expect("a departure while measuring", depart(1000000, &packet), OBIKUTERU_ACCEPTED);
-    expect_state("a departure while measuring", &wanted);
-
-    wanted = start_state; /* the last packet leaves: the measurement is given up */
-    wanted.measuring = wanted.start = wanted.counted = 0;
-    wanted.count = wanted.bytes = 0;
-    wanted.first = 3;
-    restore();
-    state.counted = 300;
-    state.count = 1;
-    state.bytes = 5000;
-    expect("the last departure", depart(1000000, &packet), OBIKUTERU_ACCEPTED);
-    expect_state("the last departure", &wanted);
-}
-
-/* Marks end at one tenth. */
-static void run_marks(void)
-{
-    restore();
-    state.allowance = 0;
-    state.probability = 429496729;
-    expect("below one tenth", arrive(1000000, 85, 100, true), OBIKUTERU_MARKED);
-    restore();
-    state.allowance = 0;
-    state.probability = 429496730;
-    expect("from one tenth on", arrive(1000000, 86, 100, true), OBIKUTERU_DROPPED_EARLY);
-}
-
-/* With a sum below 0.85 even u = 0 is not early, and the sum rises. */
-static void run_sums(void)
-{
-    restore();
-    state.allowance = 0;
-    state.accumulated = 3650722201 - 1000000;
-    expect("a sum below 0.85", arrive(1000000, 87, 100, false), OBIKUTERU_ENQUEUED);
-    expect("the sum", state.accumulated, 3650722201);
-    state.accumulated = UINT64_C(36507222015);
-    expect("the greatest sum", obikuteru_well_formed(&state), true);
-    state.accumulated = UINT64_C(36507222016);
-    expect("a sum of 8.5", obikuteru_well_formed(&state), false);
-}
-
-/* One arrival of each verdict. With no allowance left and a sum of 2^32, u = 0 is early. */
-static void run_arrivals(void)
-{
-    struct obikuteru_state wanted = start_state;
-
-    restore();
-    expect("too many bytes", arrive(1000001, 80, 40000, false), OBIKUTERU_DROPPED_BYTES);
-    wanted.clock = 1000001;
-    wanted.verdicts[2] = 34;
-    expect_state("a drop for bytes", &wanted);
-    state.allowance = wanted.allowance = 0;
-    expect("an early drop", arrive(1000002, 81, 100, false), OBIKUTERU_DROPPED_EARLY);
-    wanted.clock = 1000002;
-    wanted.accumulated = 0;
-    wanted.verdicts[4] = 56;
-    expect_state("an early drop", &wanted);
-    state.accumulated = UINT64_C(36506222016); /* with this probability 8.5 */
-    expect("a mark", arrive(1000003, 82, 100, true), OBIKUTERU_MARKED);
-    wanted.clock = 1000003;
-    wanted.count = 4;
-    wanted.bytes = 20101;
-    wanted.verdicts[1] = 23;
-    expect_state("a mark", &wanted);
-    expect("no slot", arrive(1000004, 83, 100, true), OBIKUTERU_DROPPED_SLOTS);
-    wanted.clock = 1000004;
-    wanted.verdicts[3] = 45;
-    expect_state("a drop for slots", &wanted);
-    expect("the handle written", handles[1], 82);
-    expect("the size written", sizes[1], 100);
-    restore();
-    expect("an arrival", arrive(1000005, 84, 100, false), OBIKUTERU_ENQUEUED);
-    expect("the count of enqueued", state.verdicts[0], 12);
-    run_marks();
-    run_sums();
-}
-
-/* Three times 20,001 bytes are above 60,000: an arrival turns the queue active, and it begins anew. */
-static void run_activation(void)
-{
-    struct obikuteru_state wanted = start_state;
-
-    wanted.clock = 1000001;
-    wanted.probability = wanted.old_delay = wanted.accumulated = wanted.average = 0;
-    wanted.measuring = wanted.start = wanted.counted = 0;
-    wanted.allowance = 150000;
-    wanted.count = 4;
-    wanted.bytes = 20101;
-    wanted.verdicts[0] = 12;
-    wanted.active = 1;
-    restore();
-    state.probability = state.active = 0;
-    expect("an inactive queue", obikuteru_well_formed(&state), true);
-    expect("an arrival at it", arrive(1000001, 85, 100, true), OBIKUTERU_ENQUEUED);
-    expect_state("an activation", &wanted);
-    state.active = 0;
-    state.probability = 1;
-    expect("an inactive queue with a probability", obikuteru_well_formed(&state), false);
-    state.probability = 0;
-    state.profile = OBIKUTERU_PLAIN;
-    expect("an inactive plain queue", obikuteru_well_formed(&state), false);
-}
-
-/* Each refusal by a call to which no other applies. */
-static void run_refusals(void)
-{
-    struct obikuteru_packet packet;
-
-    restore();
-    expect("a short table", obikuteru_arrival(&state, handles, SLOTS - 1, sizes, SLOTS, 1000000, 1, 1, 0, 0),
-           OBIKUTERU_REFUSED_TABLES);
-    expect("a clock that went back", arrive(999999, 1, 1, false), OBIKUTERU_REFUSED_CLOCK);
-    expect("a packet of no bytes", arrive(1000000, 1, 0, false), OBIKUTERU_REFUSED_SIZE);
-    sizes[state.first] = 0;
-    expect("a head of no bytes", depart(1000000, &packet), OBIKUTERU_REFUSED_HEAD);
-    expect_state("four refusals", &start_state);
-    state.last = 1000000 - OBIKUTERU_TICK_PERIOD + 1;
-    expect("a tick too soon", obikuteru_tick(&state, 1000000), OBIKUTERU_REFUSED_TOO_SOON);
-    state.verdicts[4] = (UINT64_C(1) << 48) - 11 - 22 - 33 - 44;
-    expect("2^48 arrivals", arrive(1000000, 1, 1, false), OBIKUTERU_REFUSED_COUNTS);
-    expect("the record with them", obikuteru_well_formed(&state), true);
-    state.count = state.bytes = 0;
-    expect("a measurement on an empty queue", obikuteru_well_formed(&state), false);
-    state.measuring = state.start = state.counted = 0;
-    expect("an empty queue", depart(1000000, &packet), OBIKUTERU_REFUSED_EMPTY);
-    expect("wrong settings", obikuteru_fresh(&state, 0, 64000, SLOTS, OBIKUTERU_PLAIN, 0), OBIKUTERU_REFUSED_SETTINGS);
-    expect("a wrong profile", obikuteru_fresh(&state, 15000, 64000, SLOTS, 2, 0), OBIKUTERU_REFUSED_SETTINGS);
-    expect("the record of wrong settings", obikuteru_well_formed(&state), false);
-    expect("a record of zeros", obikuteru_tick(&state, 15000), OBIKUTERU_REFUSED_STATE);
+    for (size_t i = 0; i < COUNT(fields); i++)
+        if (strcmp(fields[i].record, record) == 0) {
+            uint64_t has, should;
+            memcpy(&has, (const char *)found + fields[i].place, sizeof has);
+            memcpy(&should, (const char *)wanted + fields[i].place, sizeof should);
+            expect(fields[i].name, has, should);
+        }
 }
 
 int main(void)
 {
-    record();
-    packet();
-    constants();
-    run_fresh();
-    run_tick();
-    run_departures();
-    run_arrivals();
-    run_activation();
-    run_refusals();
+    check_tables();
+    check_refusals();
+    check_ring();
+    check_burst();
+    check_modem();
+    check_pair();
+    check_fq();
+    check_log();
     return result();
 }

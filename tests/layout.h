@@ -1,13 +1,18 @@
-/* What the layout tests share: checks are counted, and each mistake is printed. */
+/* What the layout and burst tests share: checks are counted, and each mistake is printed. */
 #ifndef LAYOUT_H
 #define LAYOUT_H
 
 #include <inttypes.h>
 #include <stdio.h>
 
-static int checks, mistakes;
+/* Empty where the other files of a program use these too. */
+#ifndef LINKAGE
+#define LINKAGE static
+#endif
 
-static void expect(const char *what, uint64_t found, uint64_t wanted)
+LINKAGE int checks, mistakes;
+
+LINKAGE void expect(const char *what, uint64_t found, uint64_t wanted)
 {
     checks++;
     if (found != wanted) {
@@ -17,7 +22,7 @@ static void expect(const char *what, uint64_t found, uint64_t wanted)
 }
 
 /* The exit status: 1 if there was any mistake. */
-static int result(void)
+LINKAGE int result(void)
 {
     if (mistakes > 0)
         return 1;

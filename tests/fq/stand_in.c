@@ -1,9 +1,9 @@
 /*
- * The flows' calls by bench/plain_fq.c under the library's names: with it the comparison runs on plain
+ * The flows' calls by bench/fq/plain.c under the library's names: with it the comparison runs on plain
  * C, which shows that the bench measures against the same rules, refusals and all.
  *
- *   cc -O2 -Iinclude -c tests/fq/stand_in.c bench/plain_fq.c bench/plain_fq_burst.c
- *   ar rcs libstand.a stand_in.o plain_fq.o plain_fq_burst.o
+ *   cc -O2 -Iinclude -c tests/fq/stand_in.c bench/fq/plain.c bench/fq/burst.c
+ *   ar rcs libstand.a stand_in.o plain.o burst.o
  *   rustc --edition 2021 -O -L native=. -l static=stand tests/fq/main.rs -o fq
  *   cc -O2 -Iinclude tests/bursts_fq.c libstand.a -o bursts_fq
  *
@@ -14,7 +14,7 @@
 
 #include <string.h>
 
-#include "../../bench/plain_fq_burst.h"
+#include "../../bench/fq/plain.h"
 
 #define COMMON (19 * sizeof(uint64_t))
 

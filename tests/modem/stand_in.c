@@ -1,9 +1,9 @@
 /*
- * The modem's calls by bench/plain_modem.c, under the library's names: with it the comparison runs
+ * The modem's calls by bench/modem/plain.c, under the library's names: with it the comparison runs
  * on plain C, which shows that the bench measures against the same rules, refusals and all.
  *
- *   cc -O2 -Iinclude -c tests/modem/stand_in.c bench/plain_modem.c bench/plain_modem_burst.c
- *   ar rcs libstand.a stand_in.o plain_modem.o plain_modem_burst.o
+ *   cc -O2 -Iinclude -c tests/modem/stand_in.c bench/modem/plain.c bench/modem/burst.c
+ *   ar rcs libstand.a stand_in.o plain.o burst.o
  *   rustc --edition 2021 -O -L native=. -l static=stand tests/modem/main.rs -o modem
  *
  * A word that the narrower field of plain C cannot hold becomes the greatest number, which is out
@@ -14,7 +14,7 @@
 
 #include <string.h>
 
-#include "../../bench/plain_modem_burst.h"
+#include "../../bench/modem/plain.h"
 
 static uint32_t narrow(uint64_t word)
 {

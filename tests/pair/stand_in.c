@@ -1,10 +1,11 @@
 /*
- * The pair's calls by bench/plain_pair.c, and the queue's by bench/plain.c, under the library's names:
+ * The pair's calls by bench/pair/plain.c, and the queue's by bench/ring/plain.c, under the library's names:
  * with it the comparison runs on plain C, which shows that the bench measures against the same
  * rules, refusals and all.
  *
- *   cc -O2 -Iinclude -c tests/pair/stand_in.c bench/plain_pair.c bench/plain_pair_burst.c bench/plain.c
- *   ar rcs libstand.a stand_in.o plain_pair.o plain_pair_burst.o plain.o
+ *   cc -O2 -Iinclude -c tests/pair/stand_in.c bench/pair/plain.c bench/pair/burst.c
+ *   cc -O2 -Iinclude -c -o ring.o bench/ring/plain.c
+ *   ar rcs libstand.a stand_in.o plain.o burst.o ring.o
  *   rustc --edition 2021 -O -L native=. -l static=stand tests/pair/main.rs -o pair
  *
  * A word that the narrower field of plain C cannot hold becomes the greatest number, which is out
@@ -15,7 +16,8 @@
 
 #include <string.h>
 
-#include "../../bench/plain_pair_burst.h"
+#include "../../bench/pair/plain.h"
+#include "../../bench/ring/plain.h"
 
 static uint32_t narrow(uint64_t word)
 {

@@ -3,6 +3,7 @@
  * line: the call, the answer, and in the cases that show them a departure's moves, both lists, head
  * first, each flow with its deficit, and used freed spare. fq.txt is what it must print.
  */
+#define RECORDS struct obikuteru_fq fq;
 #include "steps.h"
 
 enum {
@@ -13,17 +14,6 @@ enum {
     ZERO = 65535, /* the word of a deficit of 0 */
     LOOKS = 2880
 };
-
-struct lent {
-    struct obikuteru_fq fq;
-    uint64_t length; /* of both tables */
-    uint32_t handles[SLOTS_MOST], sizes[SLOTS_MOST];
-};
-
-static bool changed(const struct lent *before, const struct lent *now)
-{
-    return memcmp(before, now, sizeof *now) != 0;
-}
 
 /* Both lists, apart from how the record keeps them, and the deficits as signed numbers. */
 enum { NEW, OLD };
@@ -207,12 +197,6 @@ static void departure(struct lent *now, const uint64_t *n, struct said *said)
         add(said->behind, "%u moves  ", moves_between(&before, &now->fq, packet.size, said));
     }
     add_record(said->behind, &now->fq);
-}
-
-/* place, size, link */
-static void word(struct lent *now, const uint64_t *n, struct said *said)
-{
-    write_word(now->sizes, n, said);
 }
 
 /* Each flow's PIE state becomes one that admits by rule 5 alone. */

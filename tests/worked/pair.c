@@ -3,19 +3,10 @@
  * line: the call, the answer, and in the cases that show them count:head-tail of each queue, used
  * freed spare, and the sizes table. pair.txt is what it must print.
  */
-#include "steps.h"
-
-struct lent {
-    struct obikuteru_shared shared;
+#define RECORDS                        \
+    struct obikuteru_shared shared;    \
     struct obikuteru_pair_queue queue[2];
-    uint64_t length; /* of both tables */
-    uint32_t handles[SLOTS_MOST], sizes[SLOTS_MOST];
-};
-
-static bool changed(const struct lent *before, const struct lent *now)
-{
-    return memcmp(before, now, sizeof *now) != 0;
-}
+#include "steps.h"
 
 static void add_records(char *text, const struct lent *now)
 {
@@ -82,12 +73,6 @@ static void tick(struct lent *now, const uint64_t *n, struct said *said)
         obikuteru_pair_tick(&now->shared, &now->queue[0], &now->queue[1], n[0] == 1, n[1]);
     add(said->call, "t%" PRIu64 " %" PRIu64, n[0], n[1]);
     add_answer(said->answer, answer, "ticked", changed(&before, now));
-}
-
-/* place, size, link */
-static void word(struct lent *now, const uint64_t *n, struct said *said)
-{
-    write_word(now->sizes, n, said);
 }
 
 /* queue, old delay */

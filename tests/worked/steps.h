@@ -1,7 +1,8 @@
 /*
  * What the two programs of worked cases share: a case is a title and a list of steps, a step a
  * function and its numbers. A step says its call, the answer, and what stands behind the answer on
- * the page; each makes a line.
+ * the page; each makes a line. A program defines RECORDS, the declarations of its records, before it
+ * includes this.
  */
 #ifndef STEPS_H
 #define STEPS_H
@@ -23,7 +24,11 @@ enum {
     NUMBERS = 5
 };
 
-struct lent; /* a program's records and tables */
+struct lent {
+    RECORDS
+    uint64_t length; /* of both tables */
+    uint32_t handles[SLOTS_MOST], sizes[SLOTS_MOST];
+};
 
 struct said {
     char call[TEXT_MOST], answer[TEXT_MOST], behind[TEXT_MOST];
@@ -42,6 +47,11 @@ struct worked_case {
 };
 
 #define CASE(title, shown, steps) {title, shown, steps, sizeof steps / sizeof *steps}
+
+static inline bool changed(const struct lent *before, const struct lent *now)
+{
+    return memcmp(before, now, sizeof *now) != 0;
+}
 
 /* Adds to a text, which must have room. */
 static inline void add(char *text, const char *format, ...)
@@ -90,12 +100,12 @@ static inline void add_word(char *text, uint32_t word)
     add(text, "%" PRIu32 ">%" PRIu32, word % LINK, word / LINK);
 }
 
-/* Writes to an element of sizes: place, size, link. */
-static inline void write_word(uint32_t *sizes, const uint64_t *n, struct said *said)
+/* A step that writes to an element of sizes: place, size, link. */
+static inline void word(struct lent *now, const uint64_t *n, struct said *said)
 {
-    sizes[n[0]] = (uint32_t)(n[1] + LINK * n[2]);
+    now->sizes[n[0]] = (uint32_t)(n[1] + LINK * n[2]);
     add(said->call, "sizes[%" PRIu64 "] := ", n[0]);
-    add_word(said->call, sizes[n[0]]);
+    add_word(said->call, now->sizes[n[0]]);
 }
 
 static inline void print_line(const struct said *said, bool shown)
