@@ -31,7 +31,7 @@ mod links;
 mod model;
 mod plans;
 mod report;
-#[path = "../compare/library.rs"]
+#[path = "../ring/library.rs"]
 #[allow(dead_code)]
 mod ring;
 mod runs;

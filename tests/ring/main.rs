@@ -1,10 +1,10 @@
 //! Compares the library with a model of the rules, call by call.
 //!
-//!   compare               the fixed seed; the same calls each time
-//!   compare counts        the same, and prints how often each thing was reached
-//!   compare seed N        one round with the seed N
-//!   compare soak SECONDS  rounds with new seeds until the time is over
-//!   compare guard         calls with memory that stands beside or between guarded pages
+//!   ring               the fixed seed; the same calls each time
+//!   ring counts        the same, and prints how often each thing was reached
+//!   ring seed N        one round with the seed N
+//!   ring soak SECONDS  rounds with new seeds until the time is over
+//!   ring guard         calls with memory that stands beside or between guarded pages
 //!
 //! It ends with 1 at the first difference, with 2 if calls but a soak's did not reach everything, and
 //! with 3 if it was not understood.
@@ -34,7 +34,7 @@ use shared::program::Round;
 use side::Lender;
 
 /// What this program calls itself.
-const NAME: &str = "compare";
+const NAME: &str = "ring";
 
 fn figures(lender: &mut dyn Lender) -> Result<u64, Failure> {
     examples::run(lender).map(|()| 0)

@@ -1,11 +1,11 @@
 //! Compares the library's log, replay and comparison with models written from the papers alone.
 //!
-//!   logs               the fixed seed; the same calls each time
-//!   logs counts        the same, and prints how often each thing was reached
-//!   logs seed N        one round with the seed N
-//!   logs part NAME     one part of the round with the fixed seed: writer, reader, replay, compare
-//!   logs soak SECONDS  rounds with new seeds until the time is over
-//!   logs page FILE     the worked log of docs/LOG.md
+//!   log               the fixed seed; the same calls each time
+//!   log counts        the same, and prints how often each thing was reached
+//!   log seed N        one round with the seed N
+//!   log part NAME     one part of the round with the fixed seed: writer, reader, replay, compare
+//!   log soak SECONDS  rounds with new seeds until the time is over
+//!   log page FILE     the worked log of docs/LOG.md
 //!
 //! All memory stands right before a page that nobody may touch, and then right after one.
 //! It ends with 1 at the first difference, with 2 if calls but a soak's did not reach everything, and
@@ -15,15 +15,15 @@ mod compare;
 mod coverage;
 mod failure;
 #[allow(dead_code)]
-#[path = "../compare/library.rs"]
+#[path = "../ring/library.rs"]
 mod library;
 mod log;
 mod memory;
 #[allow(dead_code)]
-#[path = "../compare/model.rs"]
+#[path = "../ring/model.rs"]
 mod model;
 #[allow(dead_code)]
-#[path = "../compare/plans.rs"]
+#[path = "../ring/plans.rs"]
 mod plans;
 mod replay;
 #[path = "../shared/basics.rs"]
@@ -38,7 +38,7 @@ use std::panic::{catch_unwind, AssertUnwindSafe};
 use std::process::exit;
 
 /// What this program calls itself.
-const NAME: &str = "logs";
+const NAME: &str = "log";
 const SEED: u64 = 8_033;
 
 /// One part of a round: its name, what it must reach, and its calls in memory before or after a
@@ -64,7 +64,7 @@ fn require(place: &str, run: impl FnOnce() -> Result<(), Failure>) {
         Ok(Err(Failure(lines))) => lines,
         Err(_) => "the model stopped".to_string(),
     };
-    println!("logs: difference in {place}");
+    println!("log: difference in {place}");
     println!("{failure}");
     exit(1);
 }
@@ -98,7 +98,7 @@ fn print(reached: &[Coverage], all: bool) {
 fn all_reached(reached: &[Coverage]) -> bool {
     let missing: Vec<String> = reached.iter().flat_map(Coverage::missing).collect();
     for label in &missing {
-        println!("logs: not reached: {label}");
+        println!("log: not reached: {label}");
     }
     missing.is_empty()
 }
@@ -123,7 +123,7 @@ fn one_round(seed: u64, all: bool) {
     round(seed, &mut reached);
     print(&reached, all);
     require_all(&reached);
-    println!("logs: {} calls, no difference", calls(&reached));
+    println!("log: {} calls, no difference", calls(&reached));
 }
 
 fn one_part(name: &str) {
@@ -131,7 +131,7 @@ fn one_part(name: &str) {
     let number = number.unwrap_or_else(|| misunderstood());
     let mut reached = (PARTS[number].coverage)();
     run(number, SEED, &mut reached);
-    println!("logs: {} calls of {name}, no difference", reached.calls);
+    println!("log: {} calls of {name}, no difference", reached.calls);
 }
 
 /// New seeds may miss in a short time what is rare: that is said, and is no failure.
@@ -140,17 +140,17 @@ fn soak(seconds: u64) {
     rounds::soak(seconds, |seed| round(seed, &mut reached));
     print(&reached, false);
     all_reached(&reached);
-    println!("logs: soak of {seconds} seconds, {} calls, no difference", calls(&reached));
+    println!("log: soak of {seconds} seconds, {} calls, no difference", calls(&reached));
 }
 
 fn page(file: &str) {
     let text = std::fs::read_to_string(file).unwrap_or_else(|_| misunderstood());
     require("the page's worked log", || log::page::check(&text));
-    println!("logs: the page's worked log is the writer's, byte by byte");
+    println!("log: the page's worked log is the writer's, byte by byte");
 }
 
 fn misunderstood() -> ! {
-    println!("logs: usage: logs [counts | seed N | part NAME | soak SECONDS | page FILE]");
+    println!("log: usage: log [counts | seed N | part NAME | soak SECONDS | page FILE]");
     exit(3);
 }
 
