@@ -14,14 +14,13 @@
 mod compare;
 mod coverage;
 mod failure;
-#[allow(dead_code)]
-#[path = "../ring/library.rs"]
-mod library;
 mod log;
 mod memory;
 #[allow(dead_code)]
 #[path = "../ring/model.rs"]
 mod model;
+#[path = "../ring/own.rs"]
+mod own;
 #[allow(dead_code)]
 #[path = "../ring/plans.rs"]
 mod plans;

@@ -29,11 +29,10 @@ mod layout;
 mod library;
 mod links;
 mod model;
+#[path = "../ring/own.rs"]
+mod own;
 mod plans;
 mod report;
-#[path = "../ring/library.rs"]
-#[allow(dead_code)]
-mod ring;
 mod runs;
 mod script;
 mod shadow;

@@ -1,7 +1,8 @@
 //! Names the things that happen to the profile and the activity of a queue at a call.
 
-use crate::model::{self, Arriving, State, CALM, CALM_STEP, TENTH};
-use crate::side::{Call, Side};
+use crate::kind::{Call, Side};
+use crate::model::{self, State, CALM, CALM_STEP, TENTH};
+use crate::shared::kind::{Arriving, What};
 
 /// What calm queues go through, in long runs as well.
 pub const CALM_EVENTS: [&str; 17] = [
@@ -55,28 +56,25 @@ pub const CALM_EDGES: [&str; 27] = [
     "plain tick that a calm queue would turn inactive at",
 ];
 
-/// Adds the places in the two lists of what was found.
-pub fn found(before: &Side, call: &Call, after: &Side, hits: &mut [Vec<usize>; 2]) {
+/// What was found of each list, by its places in them.
+pub fn found(before: &Side, call: &Call, after: &Side) -> (Found, Found) {
     let (b, a) = (&before.state, &after.state);
-    let (events, edges) = match call {
-        Call::Fresh(asked) => {
+    match &call.what {
+        What::Fresh(asked) => {
             let plain = model::Asked { profile: 0, ..*asked };
             let alone = asked.profile == 2 && !model::fresh_refusals(&plain)[1];
             let made = after.answer == 0 && asked.profile == CALM;
             (vec![(made, 0)], vec![(alone && after.answer == 101, 0)])
         }
-        _ if after.answer >= 100 => return,
-        Call::Arrival { packet, .. } => arrival(b, packet, a, after.answer),
-        Call::Departure { .. } => departure(b, a),
-        Call::Tick { .. } => tick(b, a),
-    };
-    let labels = |found: Vec<(bool, usize)>| -> Vec<usize> {
-        found.into_iter().filter_map(|(holds, label)| holds.then_some(label)).collect()
-    };
-    *hits = [labels(events), labels(edges)];
+        _ if after.answer >= 100 => (Vec::new(), Vec::new()),
+        What::Arrival(packet) => arrival(b, packet, a, after.answer),
+        What::Departure => departure(b, a),
+        What::Tick(_) => tick(b, a),
+    }
 }
 
-type Found = Vec<(bool, usize)>;
+/// Whether something happened, and its place in a list.
+pub type Found = Vec<(bool, usize)>;
 
 fn arrival(b: &State, packet: &Arriving, a: &State, answer: u32) -> (Found, Found) {
     let (idle, turned) = (a.active == 0, b.active == 0 && a.active != 0);

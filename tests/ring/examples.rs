@@ -1,9 +1,14 @@
 //! The figures of the document, run on both sides. The figures themselves are checked as well, so
 //! a misreading that model and library share would show here.
 
-use crate::model::{Arriving, State, WHOLE};
-use crate::shared::pair::{Failure, Pair};
-use crate::side::{Call, Lender, Lent, Side};
+use crate::kind::{Call, Ring, Side};
+use crate::model::{State, WHOLE};
+use crate::shared::kind::{Arriving, Lent};
+use crate::shared::lend::Lender;
+use crate::shared::pair;
+use crate::shared::pair::Pair;
+
+type Failure = pair::Failure<Ring>;
 
 const SLOTS: usize = 8;
 
@@ -93,7 +98,7 @@ fn state() -> State {
     }
 }
 
-fn one(lender: &mut dyn Lender, state: State, call: Call) -> Result<Side, Failure> {
+fn one(lender: &mut Lender, state: State, call: Call) -> Result<Side, Failure> {
     let start = Side::new(state, vec![1; SLOTS], vec![8_192; SLOTS]);
     let mut pair = Pair::new(&start, lender);
     pair.call(&call)?;
@@ -107,8 +112,9 @@ fn expect(what: &str, found: u64, figure: u64) -> Result<(), Failure> {
     Err(Failure::Broken(format!("{what} is {found}, and the document says {figure}")))
 }
 
-pub fn run(lender: &mut dyn Lender) -> Result<(), Failure> {
-    let tick = Call::Tick { clock: 1_015_000 };
+/// All of them; gives how many lines of the tables were met.
+pub fn run(lender: &mut Lender) -> Result<u64, Failure> {
+    let tick = Call::tick((), 1_015_000, 0);
     for (probability, delay, old_delay, figure) in TICKS {
         let before = State { probability, old_delay, average: delay, ..state() };
         let after = one(lender, before, tick)?;
@@ -127,20 +133,22 @@ pub fn run(lender: &mut dyn Lender) -> Result<(), Failure> {
     arrivals(lender)?;
     average(lender)?;
     last_packet(lender)?;
-    thirds(lender)
+    thirds(lender)?;
+    let arrivals = ARRIVALS.len() + MARKS.len() + SUMS.len();
+    Ok((arrivals + TICKS.len() + CAPS.len() + THIRDS.len() + HEADS.len()) as u64)
 }
 
 /// An inactive queue turns active above a third of its buffer and begins anew; an active one turns
 /// inactive at a tick that meets rule 8 with no more than that queued.
-fn thirds(lender: &mut dyn Lender) -> Result<(), Failure> {
-    let lent = Lent { handles: SLOTS, sizes: SLOTS };
+fn thirds(lender: &mut Lender) -> Result<(), Failure> {
+    let lent = Lent::both(SLOTS);
     let packet = Arriving { handle: 7, size: 1_000, ecn: false, u: 0 };
     for (buffer, above) in THIRDS {
         let kept = (6_000, 7_000, 0, 5);
         let inactive = State { profile: 1, active: 0, buffer, accumulated: 5, ..state() };
         let running = State { measuring: 1, start: 9, counted: 8, ..inactive };
         let before = State { average: kept.0, old_delay: kept.1, allowance: kept.2, ..running };
-        let after = one(lender, before, Call::Arrival { lent, clock: 1_000_000, packet })?;
+        let after = one(lender, before, Call::arrival((), lent, 1_000_000, packet))?;
         let s = after.state;
         expect("the verdict", u64::from(after.answer), 0)?;
         expect("the activity", s.active, u64::from(above))?;
@@ -151,32 +159,32 @@ fn thirds(lender: &mut dyn Lender) -> Result<(), Failure> {
         expect("the accumulated probability", s.accumulated, figures.3)?;
         expect("the measurement", s.measuring, u64::from(!above))?;
         let before = State { profile: 1, buffer, average: 7_499, old_delay: 7_499, ..state() };
-        let after = one(lender, before, Call::Tick { clock: 1_015_000 })?;
+        let after = one(lender, before, Call::tick((), 1_015_000, 0))?;
         expect("the activity", after.state.active, u64::from(above))?;
         expect("the allowance", after.state.allowance, 150_000)?;
     }
     Ok(())
 }
 
-fn arrivals(lender: &mut dyn Lender) -> Result<(), Failure> {
-    let lent = Lent { handles: SLOTS, sizes: SLOTS };
+fn arrivals(lender: &mut Lender) -> Result<(), Failure> {
+    let lent = Lent::both(SLOTS);
     for (probability, old_delay, bytes, u, early) in ARRIVALS {
         let before = State { probability, old_delay, bytes, ..state() };
         let packet = Arriving { handle: 7, size: 1_000, ecn: false, u };
-        let after = one(lender, before, Call::Arrival { lent, clock: 1_000_000, packet })?;
+        let after = one(lender, before, Call::arrival((), lent, 1_000_000, packet))?;
         let figure = if early { 4 } else { 0 };
         expect("the verdict", u64::from(after.answer), figure)?;
     }
     for (probability, ecn, figure) in MARKS {
         let before = State { probability, old_delay: 7_500, bytes: 3_001, ..state() };
         let packet = Arriving { handle: 7, size: 1_000, ecn, u: 0 };
-        let after = one(lender, before, Call::Arrival { lent, clock: 1_000_000, packet })?;
+        let after = one(lender, before, Call::arrival((), lent, 1_000_000, packet))?;
         expect("the verdict", u64::from(after.answer), figure)?;
     }
     for (accumulated, probability, u, ecn, figure, sum) in SUMS {
         let before = State { accumulated, probability, old_delay: 7_500, bytes: 3_001, ..state() };
         let packet = Arriving { handle: 7, size: 1_000, ecn, u };
-        let after = one(lender, before, Call::Arrival { lent, clock: 1_000_000, packet })?;
+        let after = one(lender, before, Call::arrival((), lent, 1_000_000, packet))?;
         expect("the verdict", u64::from(after.answer), figure)?;
         expect("the accumulated probability", after.state.accumulated, sum)?;
     }
@@ -184,11 +192,11 @@ fn arrivals(lender: &mut dyn Lender) -> Result<(), Failure> {
 }
 
 /// An average of 2,000 and a sample of 1,000 make 1,750.
-fn average(lender: &mut dyn Lender) -> Result<(), Failure> {
-    let lent = Lent { handles: SLOTS, sizes: SLOTS };
+fn average(lender: &mut Lender) -> Result<(), Failure> {
+    let lent = Lent::both(SLOTS);
     let running = State { measuring: 1, start: 1_000_000, counted: 8_192, ..state() };
     let before = State { average: 2_000, ..running };
-    let after = one(lender, before, Call::Departure { lent, clock: 1_001_000 })?;
+    let after = one(lender, before, Call::departure((), lent, 1_001_000))?;
     expect("the average", after.state.average, 1_750)
 }
 
@@ -198,12 +206,12 @@ const HEADS: [(u64, u64, u64, u64); 4] =
     [(1, 8_191, 2_000, 0), (1, 8_192, 1_750, 0), (2, 8_191, 2_000, 16_383), (2, 8_192, 1_750, 0)];
 
 /// A measurement that the last packet does not bring to its end is given up.
-fn last_packet(lender: &mut dyn Lender) -> Result<(), Failure> {
-    let lent = Lent { handles: SLOTS, sizes: SLOTS };
+fn last_packet(lender: &mut Lender) -> Result<(), Failure> {
+    let lent = Lent::both(SLOTS);
     for (count, counted, average, left) in HEADS {
         let queue = State { count, bytes: 8_192 * count, average: 2_000, ..state() };
         let before = State { measuring: 1, start: 1_000_000, counted, ..queue };
-        let after = one(lender, before, Call::Departure { lent, clock: 1_001_000 })?.state;
+        let after = one(lender, before, Call::departure((), lent, 1_001_000))?.state;
         expect("the average", after.average, average)?;
         expect("the counted bytes", after.counted, left)?;
         expect("the measurement", after.measuring, u64::from(left > 0))?;

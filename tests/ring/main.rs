@@ -9,46 +9,32 @@
 //! It ends with 1 at the first difference, with 2 if calls but a soak's did not reach everything, and
 //! with 3 if it was not understood.
 
-#[path = "../shared/bursts.rs"]
-mod burst;
-mod bursts;
 mod calm;
 mod coverage;
 mod events;
 mod examples;
-mod guard;
+mod kind;
 mod library;
 mod model;
 mod plans;
-mod report;
 mod runs;
-mod shadow;
-#[path = "../shared/mod.rs"]
+#[path = "../harness/mod.rs"]
 mod shared;
-mod side;
 mod single;
 mod states;
 
-use shared::pair::Failure;
 use shared::program::Round;
-use side::Lender;
 
 /// What this program calls itself.
 const NAME: &str = "ring";
 
-fn figures(lender: &mut dyn Lender) -> Result<u64, Failure> {
-    examples::run(lender).map(|()| 0)
-}
-
 fn main() {
-    let round = Round {
+    let round = Round::<kind::Ring> {
         seed: 8_033,
         batches: 400,
         runs: 5 * plans::KINDS,
         guarded: (20, 2 * plans::KINDS),
-        bursts: Some(burst::run),
-        figures: ("the figures of the document", figures),
-        checks: None,
+        figures: ("the figures of the document", examples::run),
     };
     round.main();
 }

@@ -1,10 +1,10 @@
 //! Random states: well formed, near the ends of every range, or with one condition broken.
 
+use crate::kind::{state_of, words};
 use crate::library::WORDS;
 use crate::model::{self, State, BANDS, CLOCK_MAX, FORCED, TENTH, TIME_MAX, WHOLE};
 use crate::shared::numbers::{above, outside, split, too_many, wild};
 use crate::shared::random::Random;
-use crate::side::{state_of, words};
 
 /// A well-formed state.
 pub fn well_formed(r: &mut Random) -> State {

@@ -3,7 +3,7 @@
 
 use super::random::Random;
 
-const CLOCK_MAX: u64 = 1 << 48;
+pub const CLOCK_MAX: u64 = 1 << 48;
 const SIZE_MAX: u64 = 65_535;
 
 /// How many elements of each table are lent to a call.
