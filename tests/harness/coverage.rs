@@ -37,6 +37,16 @@ pub struct List<K: Kind> {
     pub find: fn(&SideOf<K>, &CallOf<K>, &SideOf<K>) -> Found,
 }
 
+/// A list, by its four parts.
+pub fn list<K: Kind>(
+    name: &'static str,
+    about: About,
+    needed: (bool, bool),
+    find: fn(&SideOf<K>, &CallOf<K>, &SideOf<K>) -> Found,
+) -> List<K> {
+    List { name, about, needed, find }
+}
+
 pub const BOTH: (bool, bool) = (true, true);
 pub const SINGLE: (bool, bool) = (false, true);
 

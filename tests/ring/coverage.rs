@@ -11,7 +11,7 @@ use crate::calm;
 use crate::events;
 use crate::kind::{arriving, Call, Ring, Side};
 use crate::model::{self, Asked};
-use crate::shared::coverage::{About, Covered, List, BOTH, SINGLE};
+use crate::shared::coverage::{list, About, Covered, List, BOTH, SINGLE};
 use crate::shared::groups::owned;
 use crate::shared::kind::{Arriving, Lent};
 use crate::shared::report;
@@ -56,7 +56,7 @@ impl Covered for Ring {
 
     #[rustfmt::skip]
     fn lists() -> Vec<List<Ring>> {
-        let list = |name, about, needed, find| List { name, about, needed, find };
+        let list = list::<Ring>;
         vec![
             list("measurement", About::Departures, BOTH, events::measurement),
             list("event", About::All, BOTH, events::events),
