@@ -47,6 +47,19 @@ pub fn list<K: Kind>(
     List { name, about, needed, find }
 }
 
+/// The arrival's rules of a queue in shared tables, by name.
+pub const QUEUE_RULES: &[&str] = &[
+    "1 bytes",
+    "2 slots",
+    "3 allowance",
+    "4 short delay",
+    "5 small queue",
+    "6 sum below 0.85",
+    "6 sum of 8.5",
+    "6 u below the probability",
+    "7 otherwise",
+];
+
 pub const BOTH: (bool, bool) = (true, true);
 pub const SINGLE: (bool, bool) = (false, true);
 

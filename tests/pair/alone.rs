@@ -1,15 +1,18 @@
 //! A queue that keeps below its reserve, alone: the library's ring queue with that reserve for its
 //! slots. Whatever the other queue of the pair does, both must give the same answers.
 
-use crate::call::{Call, Kind};
+use crate::kind::{Call, Side};
 use crate::model::Queue;
-use crate::plans::Plan;
 use crate::own::Own;
-use crate::side::{handed_back, Packet, Side, UNWRITTEN};
+use crate::plans::Plan;
+use crate::shared::kind::What;
 use crate::words::queue_words;
 
 /// The ring queue's profile.
 const PLAIN: u64 = 0;
+
+/// What stands in a packet before a departure: it shows that nothing was written.
+const UNWRITTEN: [u32; 2] = [0xA5A5_5A5A; 2];
 
 pub struct Alone(Own);
 
@@ -33,23 +36,17 @@ impl Alone {
         if after.answer == 103 {
             return Ok(());
         }
-        let mut given = UNWRITTEN;
-        let answer = match call.kind {
-            Kind::Arrival { packet: p, .. } => {
-                self.0.arrival(call.clock, (p.handle, p.size, p.ecn, p.u))
+        let (answer, packet) = match call.what {
+            What::Arrival(p) => {
+                (self.0.arrival(call.clock, (p.handle, p.size, p.ecn, p.u)), [0; 2])
             }
-            Kind::Departure { .. } => {
-                let unwritten = [UNWRITTEN.handle, UNWRITTEN.size];
-                let (answer, [handle, size]) = self.0.departure(call.clock, unwritten);
-                given = Packet { handle, size };
-                answer
-            }
-            Kind::Tick => self.0.tick(call.clock),
-            Kind::Fresh { .. } => return Ok(()),
+            What::Departure => self.0.departure(call.clock, UNWRITTEN),
+            What::Tick(_) => (self.0.tick(call.clock), [0; 2]),
+            What::Fresh(_) => return Ok(()),
         };
         let same = answer == after.answer
-            && handed_back(call, given) == after.packet
-            && self.is_like(&after.records.queues[call.queue]);
+            && packet == [after.packet.handle, after.packet.size]
+            && self.is_like(&after.state.queues[call.to]);
         if same {
             return Ok(());
         }

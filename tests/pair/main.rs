@@ -14,17 +14,10 @@ mod aims;
 mod alone;
 mod broken;
 mod broken_queue;
-#[path = "../shared/bursts.rs"]
-mod burst;
-mod bursts;
-mod call;
-mod calls;
 mod coverage;
 mod damage;
 mod edges;
-mod flow;
-mod fresh_calls;
-mod guard;
+mod kind;
 mod layout;
 mod library;
 mod links;
@@ -32,14 +25,10 @@ mod model;
 #[path = "../ring/own.rs"]
 mod own;
 mod plans;
-mod report;
 mod runs;
 mod script;
-mod shadow;
-#[allow(dead_code)]
-#[path = "../shared/mod.rs"]
+#[path = "../harness/mod.rs"]
 mod shared;
-mod side;
 mod single;
 mod states;
 mod words;
@@ -54,14 +43,12 @@ fn main() {
     if std::env::args().skip(1).eq(["script"]) {
         return script::run();
     }
-    let round = Round {
+    let round = Round::<kind::Two> {
         seed: 80_337,
         batches: 500,
         runs: 4 * plans::KINDS,
         guarded: (60, plans::KINDS),
-        bursts: Some(burst::run),
         figures: ("the page's worked cases", worked::run),
-        checks: Some("steps of the page's worked cases"),
     };
     round.main();
 }
