@@ -37,7 +37,7 @@ mod records;
 mod runs;
 mod script;
 mod shadow;
-#[path = "../harness/mod.rs"]
+#[path = "../shared/mod.rs"]
 mod shared;
 mod single;
 #[allow(dead_code)]

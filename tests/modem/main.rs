@@ -19,7 +19,7 @@ mod model;
 mod plans;
 mod runs;
 mod shadow;
-#[path = "../harness/mod.rs"]
+#[path = "../shared/mod.rs"]
 mod shared;
 mod single;
 mod states;

@@ -27,7 +27,7 @@ mod own;
 mod plans;
 mod runs;
 mod script;
-#[path = "../harness/mod.rs"]
+#[path = "../shared/mod.rs"]
 mod shared;
 mod single;
 mod states;

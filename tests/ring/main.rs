@@ -18,7 +18,7 @@ mod library;
 mod model;
 mod plans;
 mod runs;
-#[path = "../harness/mod.rs"]
+#[path = "../shared/mod.rs"]
 mod shared;
 mod single;
 mod states;

@@ -124,7 +124,6 @@ fn around((least, most): (u64, u64)) -> Vec<u64> {
 }
 
 /// Sound numbers, but for one or two of them, which are at, beside and far from the ends of their ranges.
-#[allow(dead_code)]
 pub fn around_ends<const N: usize, E>(
     ranges: [(u64, u64); N],
     sound: [u64; N],
