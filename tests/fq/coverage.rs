@@ -1,4 +1,4 @@
-//! Counts what the compared calls reached, and names what they did not.
+//! What is counted of the flows.
 //!
 //! Pairs of refusals that can apply to one call together (those but 9 are evaluated on the raw fields,
 //! even where the record is not well formed):
@@ -7,80 +7,23 @@
 //!   tick:      any two of 2, 4, 5
 //! Refusal 1 stands alone: it is the only one of fresh.
 
-use crate::call::{Call, Kind, KINDS};
-use crate::edges::{self, LISTS};
+use crate::edges::{ends, lists, refused, rules, store, totals};
 use crate::flows::formed::*;
-use crate::flows::refusals::*;
-use crate::flows::rules::decide;
-use crate::flows::FLOWS;
+use crate::flows::rules::{decide, fresh};
+use crate::flows::{Settings, FLOWS};
+use crate::kind::{arriving, fresh_call, Call, Flows, Side, NOBODY};
 use crate::model::numbers::BANDS;
-use crate::model::refusals::Refusals;
-use crate::model::tick::{band, queueing_delay, step};
-use crate::shared::groups::{only_broken, owned, pair_labels, Groups, PAIR_NAMES, REFUSAL_NAMES};
-use crate::shared::lines::VERDICTS;
-use crate::side::Side;
+use crate::model::tick::{queueing_delay, step};
+use crate::model::Queue;
+use crate::shared::coverage::{list, About, Covered, Found, List, BOTH, QUEUE_RULES, SINGLE};
+use crate::shared::groups::owned;
+use crate::shared::kind::{Arriving, Lent, What, CALLS};
+use crate::shared::report;
 
-pub struct Coverage {
-    pub calls: u64,
-    groups: Groups,
-}
-
-const VERDICT: usize = 0;
-const RULE: usize = 1;
-const ACCEPTED: usize = 2;
-const CONDITION: usize = 3;
-const STEP_UP: usize = 4;
-const STEP_DOWN: usize = 5;
-const FLOW: usize = 6;
-const RUN_EVENT: usize = 7;
-const REFUSALS: usize = 8; // and 9, 10, 11: fresh, arrival, departure, tick
-const PAIRS: usize = 12; // and 13, 14: arrival, departure, tick
-const EDGES: usize = 15; // and the following: the lists of `edges`
-
-const APPLY: [&[usize]; 4] = [&[1], &[2, 3, 4, 7, 8, 9], &[2, 3, 4, 6, 9], &[2, 4, 5]];
-const APART: [&[(usize, usize)]; 4] = [&[], &[(2, 9), (3, 9)], &[(2, 9), (6, 9)], &[]];
-
-const RULES: [&str; 9] = [
-    "1 bytes",
-    "2 slots",
-    "3 allowance",
-    "4 short delay",
-    "5 small queue",
-    "6 sum below 0.85",
-    "6 sum of 8.5",
-    "6 u below the probability",
-    "7 otherwise",
-];
-
-/// What a long run can tell beyond its single calls.
-const RUN_EVENTS: [&str; 4] = [
-    "a flow takes a slot that another left",
-    "two senders in one flow",
-    "1,000 ticks with an empty flow",
-    "arrival within 150,000 of them",
-];
 pub const OTHERS_SLOT: usize = 0;
 pub const SHARED_FLOW: usize = 1;
 pub const EMPTY_TICKS: usize = 2;
 pub const ARRIVAL_AFTER_TICKS: usize = 3;
-
-fn refusal_labels(kind: usize, runs: bool) -> Vec<String> {
-    let given = |n: usize| APPLY[kind].contains(&n) && (!runs || (n != 2 && n != 9));
-    (0..10).map(|n| if given(n) { n.to_string() } else { String::new() }).collect()
-}
-
-/// A flow with a count above the slots or bytes above the buffer breaks a total too. Of the flows, the
-/// first and the last must be reached, and one between stands for all others.
-fn condition_labels() -> Vec<String> {
-    let never =
-        |name: &str| name.ends_with(": count <= slots") || name.ends_with(": bytes <= buffer");
-    let named = |(place, name): (usize, String)| match flow_of_condition(place) {
-        Some(flow) if never(&name) || !matches!(flow, 0 | 1 | 63) => String::new(),
-        Some(1) => name.replace("flow 1:", "a flow between:"),
-        _ => name,
-    };
-    condition_names().into_iter().enumerate().map(named).collect()
-}
 
 fn flow_of_condition(place: usize) -> Option<usize> {
     match place {
@@ -90,120 +33,136 @@ fn flow_of_condition(place: usize) -> Option<usize> {
     }
 }
 
-/// The label of a condition: one flow between the first and the last stands for the others.
-fn condition_label(place: usize) -> usize {
-    match (flow_of_condition(place), place) {
-        (Some(2..63), AT_DEFICITS..) => AT_DEFICITS + 1,
-        (Some(2..63), _) => AT_FLOWS + FLOW_CONDITIONS + (place - AT_FLOWS) % FLOW_CONDITIONS,
-        _ => place,
-    }
+/// A flow before and after a call.
+fn called(before: &Side, after: &Side, flow: u32) -> [Queue; 2] {
+    [before.state.queue(flow as usize), after.state.queue(flow as usize)]
 }
 
-impl Coverage {
-    /// Counts for the long runs, or for the single calls.
-    pub fn new(runs: bool) -> Coverage {
-        let mut groups = Groups::default();
-        let (both, single) = ((true, true), (false, true));
-        let bands: Vec<String> = BANDS.iter().map(|band| format!("k {}", band.1)).collect();
-        groups.add("verdict", both, owned(&VERDICTS));
-        groups.add("arrival rule", both, owned(&RULES));
-        groups.add("accepted", both, owned(&KINDS[1..]));
-        groups.add("only this condition broken", single, condition_labels());
-        groups.add("band with a step above zero", both, bands.clone());
-        groups.add("band with a step below zero", both, bands);
-        groups.add("flow served", both, (0..FLOWS).map(|flow| flow.to_string()).collect());
-        groups.add("long runs", (true, false), owned(&RUN_EVENTS));
-        for (kind, name) in REFUSAL_NAMES.into_iter().enumerate() {
-            groups.add(name, both, refusal_labels(kind, runs));
-        }
-        for (kind, name) in PAIR_NAMES.into_iter().enumerate().skip(1) {
-            groups.add(name, single, pair_labels(APPLY[kind], APART[kind], 10));
-        }
-        for list in &LISTS {
-            groups.add(list.name, list.needed, edges::labels(list));
-        }
-        Coverage { calls: 0, groups }
-    }
-
-    /// Counts one call that was compared.
-    pub fn note(&mut self, before: &Side, call: &Call, after: &Side) {
-        self.calls += 1;
-        self.note_refusals(before, call, after);
-        if after.answer < 100 {
-            self.note_accepted(before, call, after);
-        }
-        for (place, list) in LISTS.iter().enumerate() {
-            self.groups.hit_all(EDGES + place, list.found(before, call, after));
-        }
-    }
-
-    /// Counts one of `RUN_EVENTS`.
-    pub fn note_run_event(&mut self, label: usize) {
-        self.groups.hit(RUN_EVENT, label);
-    }
-
-    fn note_refusals(&mut self, before: &Side, call: &Call, after: &Side) {
-        let (kind, applying) = (call.place(), applying(before, call));
-        if (101..=109).contains(&after.answer) {
-            self.groups.hit(REFUSALS + kind, after.answer as usize - 100);
-        }
-        if kind == 0 {
-            return;
-        }
-        self.groups.hit_pairs(PAIRS + kind - 1, &applying);
-        if let Some(broken) = only_broken(&conditions(&before.record)) {
-            self.groups.hit(CONDITION, condition_label(broken));
-        }
-    }
-
-    fn note_accepted(&mut self, before: &Side, call: &Call, after: &Side) {
-        match call.kind {
-            Kind::Fresh { .. } => return,
-            Kind::Arrival { packet, .. } => {
-                self.groups.hit(VERDICT, after.answer as usize);
-                let rule = decide(&before.record, after.flow as usize, &packet).rule;
-                self.groups.hit(RULE, rule as usize);
-            }
-            Kind::Departure { .. } => self.groups.hit(FLOW, after.packet[0] as usize),
-            Kind::Tick => self.note_steps(before),
-        }
-        self.groups.hit(ACCEPTED, call.place() - 1);
-    }
-
-    fn note_steps(&mut self, before: &Side) {
-        for flow in 0..FLOWS {
-            let q = before.record.queue(flow);
-            match step(&q, queueing_delay(&q)) {
-                1.. => self.groups.hit(STEP_UP, band(q.probability)),
-                0 => {}
-                _ => self.groups.hit(STEP_DOWN, band(q.probability)),
-            }
-        }
-    }
-
-    /// What was needed and not reached.
-    pub fn missing(&self, runs: bool) -> Vec<String> {
-        self.groups.missing(runs)
-    }
-
-    pub fn print(&self, runs: bool, all: bool) {
-        self.groups.print(runs, all);
-    }
+fn arrived(before: &Side, after: &Side) -> [Queue; 2] {
+    called(before, after, after.flow)
 }
 
-/// The refusals that apply to a call.
-fn applying(before: &Side, call: &Call) -> Refusals {
-    let (r, clock) = (&before.record, call.clock);
-    match call.kind {
-        Kind::Fresh { settings } => fresh_refusals(&settings),
-        Kind::Arrival { lent, key, packet } => {
-            let tables = (&before.handles[..lent.handles], &before.sizes[..lent.sizes]);
-            arrival_refusals(r, tables, clock, &key, &packet)
+fn left(before: &Side, after: &Side) -> [Queue; 2] {
+    called(before, after, after.packet.flow)
+}
+
+/// What a tick does to at least one flow.
+fn ticks(before: &Side, after: &Side) -> Found {
+    let mut all = rules::tick(&called(before, after, 0));
+    for flow in 1..FLOWS as u32 {
+        let found = rules::tick(&called(before, after, flow));
+        for (label, (_, happened)) in all.iter_mut().zip(found) {
+            label.1 |= happened;
         }
-        Kind::Departure { lent } => {
-            let tables = (&before.handles[..lent.handles], &before.sizes[..lent.sizes]);
-            departure_refusals(r, tables, clock)
+    }
+    all
+}
+
+impl Covered for Flows {
+    const VERDICTS: [&'static str; 5] = report::VERDICTS;
+    const RULES: &'static [&'static str] = QUEUE_RULES;
+    const APPLY: [&'static [usize]; 4] = [&[1], &[2, 3, 4, 7, 8, 9], &[2, 3, 4, 6, 9], &[2, 4, 5]];
+    const APART: [&'static [(usize, usize)]; 4] = [&[], &[(2, 9), (3, 9)], &[(2, 9), (6, 9)], &[]];
+    const BANDS: &'static [(u64, i64)] = &BANDS;
+    const RUN_EVENTS: (&'static str, &'static [&'static str]) = (
+        "long runs",
+        &[
+            "a flow takes a slot that another left",
+            "two senders in one flow",
+            "1,000 ticks with an empty flow",
+            "arrival within 150,000 of them",
+        ],
+    );
+    const NO_BURST: &'static [&'static str] =
+        &["ready: calm", "ready: turned active", "ready: turned inactive", "a flow above 15"];
+
+    /// A flow with a count above the slots or bytes above the buffer breaks a total too. Of the flows, the
+    /// first and the last must be reached, and one between stands for all others.
+    fn conditions() -> Vec<String> {
+        let never =
+            |name: &str| name.ends_with(": count <= slots") || name.ends_with(": bytes <= buffer");
+        let named = |(place, name): (usize, String)| match flow_of_condition(place) {
+            Some(flow) if never(&name) || !matches!(flow, 0 | 1 | 63) => String::new(),
+            Some(1) => name.replace("flow 1:", "a flow between:"),
+            _ => name,
+        };
+        condition_names().into_iter().enumerate().map(named).collect()
+    }
+
+    fn holding(before: &Side, _: &Call) -> Option<Vec<bool>> {
+        Some(conditions(&before.state).to_vec())
+    }
+
+    fn condition_label(place: usize) -> usize {
+        match (flow_of_condition(place), place) {
+            (Some(2..63), AT_DEFICITS..) => AT_DEFICITS + 1,
+            (Some(2..63), _) => AT_FLOWS + FLOW_CONDITIONS + (place - AT_FLOWS) % FLOW_CONDITIONS,
+            _ => place,
         }
-        Kind::Tick => tick_refusals(r, clock),
+    }
+
+    fn rule(before: &Side, call: &Call, after: &Side) -> usize {
+        decide(&before.state, after.flow as usize, &arriving(call.packet())).rule as usize
+    }
+
+    fn steps(before: &Side, _: &Call) -> Vec<(u64, i64)> {
+        let step_of = |flow| {
+            let q = before.state.queue(flow);
+            (q.probability, step(&q, queueing_delay(&q)))
+        };
+        (0..FLOWS).map(step_of).collect()
+    }
+
+    fn more_groups() -> Vec<(&'static str, (bool, bool), Vec<String>)> {
+        let served = (0..FLOWS).map(|flow| flow.to_string()).collect();
+        vec![("accepted", BOTH, owned(&CALLS[1..])), ("flow served", BOTH, served)]
+    }
+
+    fn more(call: &Call, after: &Side) -> Vec<(usize, usize)> {
+        match call.what {
+            _ if after.answer >= 100 || call.is_fresh() => Vec::new(),
+            What::Departure => vec![(0, 1), (1, after.packet.flow as usize)],
+            _ => vec![(0, call.place() - 1)],
+        }
+    }
+
+    #[rustfmt::skip]
+    fn lists() -> Vec<List<Flows>> {
+        let list = list::<Flows>;
+        vec![
+            list("arrival", About::Arrivals, SINGLE, |b, c, a| rules::arrival(&arrived(b, a), c.packet(), a.answer)),
+            list("arrival, edges of rules", About::Arrivals, SINGLE,
+                |b, c, a| rules::arrival_edges(&arrived(b, a), c.packet(), a.answer)),
+            list("totals at an arrival", About::Arrivals, BOTH, totals::arrival),
+            list("totals at an arrival, edges", About::Arrivals, SINGLE, totals::arrival_edges),
+            list("lists at an arrival", About::Arrivals, BOTH, lists::arrival),
+            list("place of an arrival", About::Arrivals, BOTH, store::entering),
+            list("damage that an arrival does not see", About::Arrivals, SINGLE, store::entering_damaged),
+            list("arrival refused by 9", About::WrongArrivals, SINGLE, refused::arrival),
+            list("departure", About::Departures, SINGLE, |b, _, a| rules::departure(&left(b, a), a.packet.size)),
+            list("departure, edges of rules", About::Departures, SINGLE,
+                |b, _, a| rules::departure_edges(&left(b, a), a.packet.size)),
+            list("choosing", About::Departures, BOTH, lists::choosing),
+            list("choosing, edges", About::Departures, SINGLE, lists::choosing_edges),
+            list("place of a departure", About::Departures, BOTH, store::leaving),
+            list("damage that a departure does not see", About::Departures, SINGLE, store::leaving_damaged),
+            list("departure refused by 6 or 9", About::RefusedDepartures, SINGLE, refused::departure),
+            list("tick of some flow", About::Ticks, BOTH, |b, _, a| ticks(b, a)),
+            list("end of a range", About::Sound, SINGLE, ends::ends),
+            list("tables of whole pages", About::Sound, BOTH, ends::whole_pages),
+        ]
+    }
+
+    fn sample() -> (Side, [Call; 4]) {
+        let set = Settings { target: 15_000, buffer: 64_000, slots: 4, salt: 0, clock: 0 };
+        let side = Side::new(fresh(&set).1, vec![0; 4], vec![0; 4]);
+        let (lent, packet) = (Lent::both(4), Arriving { handle: 7, size: 100, ecn: false, u: 0 });
+        let calls = [
+            fresh_call(set),
+            Call::arrival(NOBODY, lent, 0, packet),
+            Call::departure(NOBODY, lent, 0),
+            Call::tick(NOBODY, 15_000, 0),
+        ];
+        (side, calls)
     }
 }

@@ -18,14 +18,11 @@ mod aims;
 mod broken;
 #[path = "../pair/broken_queue.rs"]
 mod broken_queue;
-mod call;
-mod calls;
 mod coverage;
 mod damage;
 mod edges;
 mod flows;
-mod fresh_calls;
-mod guard;
+mod kind;
 #[allow(dead_code)]
 #[path = "../pair/layout.rs"]
 mod layout;
@@ -37,14 +34,11 @@ mod links;
 mod model;
 mod plans;
 mod records;
-mod report;
 mod runs;
 mod script;
 mod shadow;
-#[allow(dead_code)]
 #[path = "../shared/mod.rs"]
 mod shared;
-mod side;
 mod single;
 #[allow(dead_code)]
 #[path = "../pair/states.rs"]
@@ -60,14 +54,12 @@ fn main() {
     if std::env::args().skip(1).eq(["script"]) {
         return script::run();
     }
-    let round = Round {
+    let round = Round::<kind::Flows> {
         seed: 80_337,
         batches: 120,
         runs: 2 * plans::KINDS,
         guarded: (50, plans::KINDS),
-        bursts: None,
         figures: ("the page's worked cases", worked::run),
-        checks: Some("steps of the page's worked cases"),
     };
     round.main();
 }

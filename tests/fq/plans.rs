@@ -1,11 +1,11 @@
 //! Settings, senders and traffic of a long run.
 
-use crate::calls;
 use crate::flows::hash::{flow_of, Key};
 use crate::flows::{Settings, FLOWS};
 use crate::model::numbers::{BUFFER, CLOCK_MAX};
 use crate::shared::random::Random;
-use crate::shared::traffic::{Phase, Traffic, EAGER, PHASES};
+use crate::shared::traffic::Traffic;
+use crate::single::any_key;
 
 pub struct Plan {
     pub settings: Settings,
@@ -34,7 +34,7 @@ pub fn plan(r: &mut Random, kind: u64) -> Plan {
     };
     let sizes = r.pick(&[(40, 1_500), (1_000, 1_500), (64, 9_000), (1, 1_500)]);
     let traffic = Traffic { ns_per_byte: r.range(300, 5_000), sizes, lucky: r.one_in(5) };
-    let keys = (0..r.pick(&[1, 3, 10, 40])).map(|_| calls::key(r)).collect();
+    let keys = (0..r.pick(&[1, 3, 10, 40])).map(|_| any_key(r)).collect();
     let flood = r.pick(&[0, 0, 50, 90]);
     let mut plan = Plan { settings, traffic, keys, flood, arrivals_left: 0, eager: false };
     choose(r, kind, &mut plan);
@@ -77,7 +77,7 @@ fn choose(r: &mut Random, kind: u64, plan: &mut Plan) {
 fn one_for_each(r: &mut Random, salt: u32) -> Vec<Key> {
     let mut keys = Vec::new();
     for flow in 0..FLOWS {
-        let mut key = calls::key(r);
+        let mut key = any_key(r);
         while flow_of(&key, salt) != flow {
             key[r.range(0, 12) as usize] = r.number() as u8;
         }
@@ -87,14 +87,6 @@ fn one_for_each(r: &mut Random, salt: u32) -> Vec<Key> {
 }
 
 impl Plan {
-    pub fn next_phase(&self, r: &mut Random, phase: Phase) -> Phase {
-        match phase {
-            _ if self.eager => r.pick(&EAGER),
-            Phase::Quiet => r.pick(&[Phase::Burst, Phase::Overload, Phase::Light]),
-            _ => r.pick(&PHASES),
-        }
-    }
-
     pub fn key(&self, r: &mut Random) -> Key {
         if r.range(0, 99) < self.flood {
             return self.keys[0];

@@ -1,42 +1,99 @@
-//! Single calls on random records: accepted ones, and ones to which chosen refusals apply; on
-//! chains that are whole, and on damaged ones.
+//! Random records with tables, whole chains and damaged ones, and calls on them.
 
 use crate::aims;
 use crate::broken;
-use crate::call::Call;
-use crate::calls::{self, What};
 use crate::damage;
-use crate::flows::formed::{AT_DEFICITS, AT_FLOWS, AT_LISTS, CONDITIONS, FLOW_CONDITIONS};
+use crate::flows::formed::{
+    well_formed, AT_DEFICITS, AT_FLOWS, AT_LISTS, CONDITIONS, FLOW_CONDITIONS,
+};
 use crate::flows::hash::{flow_of, Key};
 use crate::flows::schedule::choose;
-use crate::flows::{Record, FLOWS};
-pub use crate::fresh_calls::run as fresh_calls;
+use crate::flows::{Record, Settings, FLOWS};
+use crate::kind::{fresh_call, Call, Flows, Side, NOBODY};
+use crate::layout;
+use crate::model::formed::verdict_sum;
 use crate::model::numbers::*;
-use crate::model::refusals::Refusals;
-use crate::model::Queue;
 use crate::records;
-use crate::shared::numbers::{split, wanted};
+use crate::shared::bursts::{Bursting, Standing};
+use crate::shared::kind::{Arriving, Refusals};
+use crate::shared::numbers::{around_ends, split};
+use crate::shared::pair::Failure;
 use crate::shared::random::Random;
-use crate::side::Side;
+use crate::shared::single::{self, some_refusals, Do, Drawn};
 
-/// A call after the first one.
-pub fn next(r: &mut Random, _: &Call, side: &Side) -> Call {
-    let what = what(r);
-    let wanted = if r.one_in(3) { wanted(r, refusals(what)) } else { Refusals::default() };
-    let key = calls::key(r);
-    calls::next(r, what, &key, side, &wanted)
+impl Drawn for Flows {
+    fn case(r: &mut Random) -> (Side, Call) {
+        let what = r.pick(Flows::CALLS);
+        let wanted = some_refusals::<Flows>(r, what);
+        let broken = wanted[2].then(|| condition(r));
+        let (mut record, key) = (records::record(r), any_key(r));
+        let (flow, others) = prepare(r, what, &key, &wanted, broken, &mut record);
+        records::list(r, &mut record, others);
+        if what == Do::Arrival && record.flows[flow].count == 0 && r.one_in(4) {
+            records::unlist(&mut record, flow);
+        }
+        let flow = if what == Do::Departure { served(r, &mut record, flow) } else { flow };
+        let spare = layout::spare(r, what, wanted[9]).min(SLOTS.1 - record.common.count);
+        let (handles, sizes) = records::lay_out(r, &mut record, spare);
+        let mut side = Side::new(record, handles, sizes);
+        damage::tables(r, what, flow, wanted[9], &mut side);
+        if let Some(condition) = broken {
+            match r.one_in(6) {
+                true => broken::scramble(r, &mut side.state),
+                false => broken::break_one(r, &mut side.state, condition),
+            }
+        }
+        let call = single::call::<Flows>(r, what, key, &side, &wanted);
+        (side, call)
+    }
+
+    fn next_to(r: &mut Random, _: &Key) -> Key {
+        any_key(r)
+    }
+
+    fn packet(r: &mut Random, side: &Side, key: &Key, wrong: bool) -> Arriving {
+        let c = &side.state.common;
+        let flow = &side.state.flows[flow_of(key, c.salt as u32)];
+        single::packet(r, c.buffer.saturating_sub(c.bytes), flow.probability, wrong)
+    }
+
+    /// One setting or two at a time at, beside and far from the ends of their ranges, and ticks on the
+    /// record that fresh returned. The record's memory is not prepared.
+    fn fresh_calls(
+        run: &mut dyn FnMut(&Side, &[Call]) -> Result<(), Failure<Flows>>,
+    ) -> Result<(), Failure<Flows>> {
+        let mut dirty = Record::zero();
+        dirty.common.words_mut().fill(3);
+        dirty.order = [5; 64];
+        dirty.flow_words_mut().fill(7);
+        dirty.deficits = [9; 64];
+        let side = Side::new(dirty, Vec::new(), Vec::new());
+        let ranges = [TARGET, BUFFER, SLOTS, (0, u64::from(u32::MAX)), (0, CLOCK_MAX)];
+        around_ends(ranges, [15_000, 64_000, 64, 7, 5], |words| {
+            let [target, buffer, slots, salt, clock] = words;
+            let fresh = fresh_call(Settings { target, buffer, slots, salt: salt as u32, clock });
+            let tick = |clock: u64| Call::tick(NOBODY, clock, 0);
+            run(&side, &[fresh, tick(clock), tick(clock.saturating_add(15_000))])
+        })
+    }
 }
 
-fn what(r: &mut Random) -> What {
-    r.pick(&[What::Arrival, What::Arrival, What::Departure, What::Departure, What::Tick])
-}
-
-/// The refusals that a call can get.
-fn refusals(what: What) -> &'static [usize] {
-    match what {
-        What::Arrival => &[2, 3, 4, 7, 8, 9],
-        What::Departure => &[2, 3, 4, 6, 9],
-        What::Tick => &[2, 4, 5],
+/// Any key, or one of few bytes that are not 0.
+pub fn any_key(r: &mut Random) -> Key {
+    let mut key = [0; 13];
+    for byte in &mut key {
+        let any = r.number() as u8;
+        *byte = r.pick(&[any, any, any, 0, 255]);
+    }
+    match r.range(0, 7) {
+        0 => [0; 13],
+        1 => [255; 13],
+        2 | 3 => {
+            let mut few = [0; 13];
+            few[r.range(0, 12) as usize] = key[0];
+            few
+        }
+        _ => key,
     }
 }
 
@@ -54,65 +111,34 @@ fn condition(r: &mut Random) -> usize {
     }
 }
 
-/// A record with tables, and a call to which the wanted refusals apply where they can.
-pub fn case(r: &mut Random) -> (Side, Call) {
-    let what = what(r);
-    let wanted: Refusals = wanted(r, refusals(what));
-    let broken = wanted[2].then(|| condition(r));
-    let (mut record, key) = (records::record(r), calls::key(r));
-    let (flow, others) = prepare(r, what, &key, &wanted, broken, &mut record);
-    records::list(r, &mut record, others);
-    if what == What::Arrival && record.flows[flow].count == 0 && r.one_in(4) {
-        records::unlist(&mut record, flow);
-    }
-    let flow = if what == What::Departure { served(r, &mut record, flow) } else { flow };
-    let spare = match what {
-        What::Arrival if wanted[9] => r.pick(&[2, 2, 3]),
-        What::Arrival => r.pick(&[0, 0, 1, 2]),
-        _ => 0,
-    };
-    let spare = spare.min(SLOTS.1 - record.common.count);
-    let (handles, sizes) = records::lay_out(r, &mut record, spare);
-    let mut side = Side::new(record, handles, sizes);
-    damage::tables(r, what, flow, wanted[9], &mut side);
-    if let Some(condition) = broken {
-        match r.one_in(6) {
-            true => broken::scramble(r, &mut side.record),
-            false => broken::break_one(r, &mut side.record, condition),
-        }
-    }
-    let call = calls::next(r, what, &key, &side, &wanted);
-    (side, call)
-}
-
 /// What the call, the wanted refusals and the condition to be broken need of the record: the flow that
 /// the call is about, and how many flows without packets are listed.
 fn prepare(
     r: &mut Random,
-    what: What,
+    what: Do,
     key: &Key,
     wanted: &Refusals,
     broken: Option<usize>,
     record: &mut Record,
 ) -> (usize, usize) {
     let flow = flow_of(key, record.common.salt as u32);
-    if what != What::Departure {
-        records::change(record, flow, |q| aim(r, what, q));
+    if what != Do::Departure {
+        records::change(record, flow, |q| aims::aim(r, what, q));
         records::fit(record, flow);
     }
     let c = &mut record.common;
     if wanted[5] {
         c.last = c.clock.saturating_sub(r.pick(&[0, 1, 14_998, 14_999]));
     }
-    if wanted[8] || (what != What::Arrival && r.one_in(8)) {
+    if wanted[8] || (what != Do::Arrival && r.one_in(8)) {
         c.verdicts = split(r, COUNTS_MAX);
     }
     if wanted[6] {
         (0..FLOWS).for_each(|flow| records::empty(record, flow));
-    } else if what == What::Departure && record.common.count == 0 {
+    } else if what == Do::Departure && record.common.count == 0 {
         records::hold(r, record, flow);
     }
-    if what == What::Arrival && wanted[9] && r.one_in(2) {
+    if what == Do::Arrival && wanted[9] && r.one_in(2) {
         record.flows[flow].allowance = FULL_ALLOWANCE;
     }
     let others = broken.and_then(|condition| broken::prepare(r, record, condition));
@@ -129,7 +155,7 @@ fn served(r: &mut Random, record: &mut Record, flow: usize) -> usize {
         owe_all(r, record);
     }
     let flow = choose(record).flow;
-    records::change(record, flow, |q| aim(r, What::Departure, q));
+    records::change(record, flow, |q| aims::aim(r, Do::Departure, q));
     records::fit(record, flow);
     flow
 }
@@ -153,15 +179,25 @@ fn owe_all(r: &mut Random, record: &mut Record) {
     }
 }
 
-/// Brings the called flow near an edge of the call, often.
-fn aim(r: &mut Random, what: What, q: &mut Queue) {
-    match (what, r.range(0, 7)) {
-        (What::Arrival, 0 | 1) => aims::at_late_rules(r, q),
-        (What::Arrival, 2..=4) => aims::at_early_verdicts(r, q),
-        (What::Departure, 0..=2) => aims::at_last_packet(r, q),
-        (What::Departure, 3) => aims::at_start(r, q),
-        (What::Tick, 0 | 1) => aims::at_refill(r, q),
-        (What::Tick, 2 | 3) => aims::at_decay(r, q),
-        _ => {}
+impl Bursting for Flows {
+    const UNKNOWN: &'static [u32] = &[4, 5, 256, 1 << 16, u32::MAX];
+    const NUMBERS: usize = 10;
+
+    fn counts<'a>(record: &'a mut Record, _: &Key) -> Option<&'a mut [u64; 5]> {
+        Some(&mut record.common.verdicts)
+    }
+
+    /// After the kind the key, and three bytes that nobody reads.
+    fn numbered(key: &Key, kind: u32) -> Vec<u32> {
+        let mut bytes = [0xA5; 16];
+        bytes[..13].copy_from_slice(key);
+        let number = |four: &[u8]| u32::from_le_bytes([four[0], four[1], four[2], four[3]]);
+        [kind].into_iter().chain(bytes.chunks(4).map(number)).collect()
+    }
+
+    fn standing(side: &Side, _: &Key) -> Standing {
+        let formed = well_formed(&side.state);
+        let counted = verdict_sum(&side.state.queue(0));
+        Standing { formed, calm: false, active: false, counted, no_flow: false }
     }
 }

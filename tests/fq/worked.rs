@@ -1,15 +1,18 @@
 //! The worked cases of docs/SHARED-TABLES.md for the flows, read from the page itself: the library and
 //! the model must give what it says.
 
-use crate::call::{Call, Kind, Lent};
 use crate::flows::hash::{flow_of, hash, Key};
 use crate::flows::schedule::choose;
 use crate::flows::{Record, Settings, COMMON_FIELDS, FLOW_FIELDS};
-use crate::library;
+use crate::kind::{fresh_call, library_flow, Call, Flows, Side, NOBODY};
 use crate::model::store::word;
-use crate::model::Arriving;
-use crate::shared::pair::{Failure, Pair};
-use crate::side::{Lender, Side};
+use crate::shared::kind::{Arriving, Lent, What};
+use crate::shared::lend::Lender;
+use crate::shared::pair;
+use crate::shared::pair::Pair;
+use crate::shared::script::answer_word;
+
+type Failure = pair::Failure<Flows>;
 
 const PAGE: &str = include_str!("../../docs/SHARED-TABLES.md");
 
@@ -18,11 +21,11 @@ const CASES: u64 = 8;
 
 struct Case<'a> {
     title: &'static str,
-    pair: Pair<'a>,
+    pair: Pair<'a, Flows>,
 }
 
 /// All cases; gives the number of steps that were checked.
-pub fn run(lender: &mut dyn Lender) -> Result<u64, Failure> {
+pub fn run(lender: &mut Lender) -> Result<u64, Failure> {
     let block = PAGE.split("```\n").find(|block| block.starts_with("8.1.")).unwrap_or("");
     let (mut cases, mut checks) = (0, 0);
     let nobody = Side::new(Record::zero(), Vec::new(), Vec::new());
@@ -83,7 +86,7 @@ fn elements<T>(list: &mut [T], place: Option<usize>) -> &mut [T] {
 
 /// Changes one side by hand.
 fn change(side: &mut Side, what: &str, value: &str) {
-    let r = &mut side.record;
+    let r = &mut side.state;
     if let Some((flow, field)) = what.split_once('.') {
         let at = FLOW_FIELDS.iter().position(|name| *name == field).expect("a field on the page");
         let flows: Vec<usize> = placed(flow).1.map_or((0..64).collect(), |flow| vec![flow]);
@@ -130,8 +133,7 @@ impl Case<'_> {
     }
 
     fn change(&mut self, what: &str, value: &str) {
-        change(&mut self.pair.model, what, value);
-        change(&mut self.pair.library, what, value);
+        self.pair.change(|side| change(side, what, value));
     }
 
     /// A call on a changed record, which is what it was afterwards.
@@ -154,10 +156,10 @@ impl Case<'_> {
             ["a", clock, key, handle, size] => {
                 let (handle, size) = (number(handle) as u32, number(size) as u32);
                 let packet = Arriving { handle, size, ecn: false, u: 0 };
-                Call::arrival(lent, number(clock), key_of(key), packet)
+                Call::arrival(key_of(key), lent, number(clock), packet)
             }
-            ["d", clock] => Call::departure(lent, number(clock)),
-            ["t", clock] => Call::tick(number(clock)),
+            ["d", clock] => Call::departure(NOBODY, lent, number(clock)),
+            ["t", clock] => Call::tick(NOBODY, number(clock), 0),
             _ => panic!("'{text}' is no call"),
         }
     }
@@ -168,7 +170,7 @@ impl Case<'_> {
             side.handles = vec![0; slots as usize];
             side.sizes = vec![0; slots as usize];
         }
-        Call::fresh(Settings { target: 15_000, buffer, slots, salt: 0, clock: 0 })
+        fresh_call(Settings { target: 15_000, buffer, slots, salt: 0, clock: 0 })
     }
 
     /// The library's answer as the page writes it, with lists and store if `all`.
@@ -178,18 +180,18 @@ impl Case<'_> {
         if !all {
             return text;
         }
-        if matches!(call.kind, Kind::Departure { .. }) && library.answer == 0 {
-            text += &format!("; {} moves", choose(&before.record).total());
+        if matches!(call.what, What::Departure) && library.answer == 0 {
+            text += &format!("; {} moves", choose(&before.state).total());
         }
-        let c = &library.record.common;
-        text + &format!("; {}; {} {} {}", lists_text(&library.record), c.used, c.freed, c.spare)
+        let c = &library.state.common;
+        text + &format!("; {}; {} {} {}", lists_text(&library.state), c.used, c.freed, c.spare)
     }
 }
 
 /// The hash of the model, and the library's flows.
 fn key_answer(key: &Key) -> String {
     let flows = [0, 5, u32::MAX].map(|salt| {
-        let flow = library::flow(key.as_ptr(), salt);
+        let flow = library_flow(key.as_ptr(), salt);
         assert!(flow as usize == flow_of(key, salt), "the library has another flow for {key:?}");
         flow.to_string()
     });
@@ -197,18 +199,15 @@ fn key_answer(key: &Key) -> String {
 }
 
 fn answer_text(call: &Call, after: &Side) -> String {
-    const VERDICTS: [&str; 5] =
-        ["enqueued", "marked", "dropped-bytes", "dropped-slots", "dropped-early"];
-    let [flow, handle, size] = after.packet;
-    match (call.kind, after.answer) {
-        (_, 101..) => format!("refused {}", after.answer - 100),
-        (Kind::Fresh { .. }, _) => "made".to_string(),
-        (Kind::Arrival { .. }, 0) => {
-            format!("enqueued at {}", after.record.flows[after.flow as usize].tail)
+    let packet = after.packet;
+    match (&call.what, after.answer) {
+        (What::Arrival(_), 0) => {
+            format!("enqueued at {}", after.state.flows[after.flow as usize].tail)
         }
-        (Kind::Arrival { .. }, verdict) => VERDICTS[verdict as usize].to_string(),
-        (Kind::Departure { .. }, _) => format!("flow {flow}, {handle} {size}"),
-        (Kind::Tick, _) => "ticked".to_string(),
+        (What::Departure, 0) => {
+            format!("flow {}, {} {}", packet.flow, packet.handle, packet.size)
+        }
+        _ => answer_word(call.place(), after.answer),
     }
 }
 

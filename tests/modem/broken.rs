@@ -1,11 +1,11 @@
 //! Records and rows with one condition broken, or many.
 
+use crate::kind::{state_of, words};
 use crate::model::numbers::*;
 use crate::model::State;
 use crate::shared::numbers::{above, outside, wild};
 use crate::shared::random::Random;
 use crate::states;
-use crate::words::{state_of, words};
 
 /// The place of the condition on the row.
 pub const ROW: usize = 21;

@@ -10,30 +10,19 @@
 //! with 3 if it was not understood.
 
 mod aims;
-mod alone;
 mod broken;
-#[path = "../shared/bursts.rs"]
-mod burst;
-mod bursts;
-mod call;
-mod calls;
 mod coverage;
 mod edges;
-mod flow;
-mod guard;
+mod kind;
 mod library;
 mod model;
 mod plans;
-mod report;
 mod runs;
-mod sample;
 mod shadow;
 #[path = "../shared/mod.rs"]
 mod shared;
-mod side;
 mod single;
 mod states;
-mod words;
 mod worked;
 
 use shared::program::Round;
@@ -42,14 +31,12 @@ use shared::program::Round;
 const NAME: &str = "modem";
 
 fn main() {
-    let round = Round {
+    let round = Round::<kind::Modem> {
         seed: 8_034,
         batches: 500,
         runs: 16,
         guarded: (60, 4),
-        bursts: Some(burst::run),
         figures: ("the page's worked numbers", worked::run),
-        checks: Some("checks of the page's worked numbers"),
     };
     round.main();
 }

@@ -4,7 +4,6 @@ use crate::model::numbers::{CLOCK_MAX, RATE};
 use crate::model::Settings;
 use crate::shared::random::Random;
 use crate::shared::traffic::Traffic;
-pub use crate::shared::traffic::{Phase, PHASES};
 
 /// What a flow is made of.
 pub struct Plan {

@@ -1,10 +1,10 @@
 //! Rules that hold over a whole run of a flow from fresh, checked without the model: a queue of our
 //! own follows the library's answers.
 
-use crate::call::{Call, Kind};
+use crate::kind::{Call, Side};
 use crate::model::{Row, State};
-use crate::shared::packets::Packets;
-use crate::side::Side;
+use crate::shared::kind::What;
+use crate::shared::shadow::{plain_verdict, Packets};
 
 /// The time after the drop that made a flow active in which nothing is dropped early.
 const GRACE: u64 = 128_000;
@@ -24,9 +24,9 @@ impl Shadow {
 
     /// Whether the rules of a run hold after this call; the sentence says which does not.
     pub fn follow(&mut self, call: &Call, before: &Side, after: &Side) -> Result<(), String> {
-        let flow = call.flow as usize;
+        let flow = call.to as usize;
         let others = |side: &Side| -> Vec<Row> {
-            let rows = side.counts.iter().enumerate();
+            let rows = side.state.counts.iter().enumerate();
             rows.filter(|(place, _)| *place != flow).map(|(_, row)| *row).collect()
         };
         if others(before) != others(after) {
@@ -36,18 +36,18 @@ impl Shadow {
             return Err(format!("refusal {} in a run from fresh", after.answer - 100));
         }
         if flow > 15 || after.answer >= 100 {
-            return self.agrees(&after.state, &after.counts[flow.min(15)], flow > 15);
+            return self.agrees(&after.state, &after.state.counts[flow.min(15)], flow > 15);
         }
         self.clock = call.clock;
-        match call.kind {
-            Kind::Arrival { packet, .. } => {
+        match call.what {
+            What::Arrival(packet) => {
                 self.arrived((packet.handle, packet.size), &before.state, after)?;
             }
-            Kind::Departure { .. } => self.packets.leave(after.packet)?,
-            Kind::Fresh { .. } => *self = Shadow::new(call.clock, [0; 5]),
-            Kind::Tick { .. } => {}
+            What::Departure => self.packets.leave((after.packet.handle, after.packet.size))?,
+            What::Fresh(_) => *self = Shadow::new(call.clock, [0; 5]),
+            What::Tick(_) => {}
         }
-        self.agrees(&after.state, &after.counts[flow], false)
+        self.agrees(&after.state, &after.state.counts[flow], false)
     }
 
     fn arrived(&mut self, packet: (u32, u32), before: &State, after: &Side) -> Result<(), String> {
@@ -60,11 +60,8 @@ impl Shadow {
             self.packets.enter(packet);
         }
         let room = before.settings.buffer - before.bytes;
-        let plain = match (u64::from(packet.1) > room, before.count == before.settings.slots) {
-            (true, _) => 2,
-            (false, true) => 3,
-            (false, false) => 0,
-        };
+        let slot = before.count < before.settings.slots;
+        let plain = plain_verdict(u64::from(packet.1) <= room, slot);
         let protected = before.probability == 0 || before.allowance > 0;
         if protected && verdict != plain {
             return Err("dropped early with probability 0 or an allowance".into());

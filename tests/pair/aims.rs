@@ -4,7 +4,21 @@ use crate::model::numbers::*;
 use crate::model::tick::step;
 use crate::model::Queue;
 use crate::shared::random::Random;
+use crate::shared::single::Do;
 use crate::states::{self, LOW_SUM};
+
+/// Brings the called queue near an edge of the call, often.
+pub fn aim(r: &mut Random, what: Do, q: &mut Queue) {
+    match (what, r.range(0, 7)) {
+        (Do::Arrival, 0 | 1) => at_late_rules(r, q),
+        (Do::Arrival, 2..=4) => at_early_verdicts(r, q),
+        (Do::Departure, 0..=2) => at_last_packet(r, q),
+        (Do::Departure, 3) => at_start(r, q),
+        (Do::Tick, 0 | 1) => at_refill(r, q),
+        (Do::Tick, 2 | 3) => at_decay(r, q),
+        _ => {}
+    }
+}
 
 /// One packet queued of a buffer that has room for any other.
 fn make_room(q: &mut Queue, bytes: u64) {
@@ -12,7 +26,7 @@ fn make_room(q: &mut Queue, bytes: u64) {
 }
 
 /// Arrival rules 4 to 7 decide, near their edges.
-pub fn at_late_rules(r: &mut Random, q: &mut Queue) {
+fn at_late_rules(r: &mut Random, q: &mut Queue) {
     make_room(q, r.pick(&[2_999, 3_000, 3_001, 3_001, 60_000]));
     q.allowance = 0;
     q.old_delay = q.target / 2 - 1 + r.range(0, 3);
@@ -25,7 +39,7 @@ pub fn at_late_rules(r: &mut Random, q: &mut Queue) {
 
 /// None of arrival rules 1 to 5 decides on a small packet; the probability is near the one from
 /// which nothing is marked, the sum near its edges.
-pub fn at_early_verdicts(r: &mut Random, q: &mut Queue) {
+fn at_early_verdicts(r: &mut Random, q: &mut Queue) {
     make_room(q, r.pick(&[3_001, 3_001, 60_000]));
     q.allowance = 0;
     q.old_delay = q.target.div_ceil(2) + r.pick(&[0, 0, 1, TIME_MAX / 2]);
@@ -39,7 +53,7 @@ pub fn at_early_verdicts(r: &mut Random, q: &mut Queue) {
 
 /// A measurement runs with one packet queued or two, and the head takes it to its end or just does
 /// not.
-pub fn at_last_packet(r: &mut Random, q: &mut Queue) {
+fn at_last_packet(r: &mut Random, q: &mut Queue) {
     q.count = 1;
     while q.measuring == 0 {
         states::measurement(r, q);
@@ -54,14 +68,14 @@ pub fn at_last_packet(r: &mut Random, q: &mut Queue) {
 }
 
 /// A small head leaves just the bytes with which a measurement starts, or one less.
-pub fn at_start(r: &mut Random, q: &mut Queue) {
+fn at_start(r: &mut Random, q: &mut Queue) {
     make_room(q, RATE_THRESHOLD + r.range(0, 1));
     q.count = 2;
     (q.measuring, q.start, q.counted) = (0, 0, 0);
 }
 
 /// A tick fills the allowance or just does not.
-pub fn at_refill(r: &mut Random, q: &mut Queue) {
+fn at_refill(r: &mut Random, q: &mut Queue) {
     let half = q.target / 2;
     make_room(q, RATE_THRESHOLD); // the delay is the average
     q.average = half - 1 + r.range(0, 2);
@@ -75,7 +89,7 @@ pub fn at_refill(r: &mut Random, q: &mut Queue) {
 }
 
 /// Both delays are 0 at a tick, or one of them is not.
-pub fn at_decay(r: &mut Random, q: &mut Queue) {
+fn at_decay(r: &mut Random, q: &mut Queue) {
     make_room(q, 1);
     q.average = r.pick(&[0, 0, 0, 16_383, 16_384]);
     q.old_delay = r.pick(&[0, 0, 0, 1]);

@@ -1,21 +1,20 @@
 //! A queue that keeps below its reserve, alone: the library's ring queue with that reserve for its
 //! slots. Whatever the other queue of the pair does, both must give the same answers.
 
-use crate::call::{Call, Kind};
+use crate::kind::{Call, Side};
 use crate::model::Queue;
+use crate::own::Own;
 use crate::plans::Plan;
-use crate::ring::{self, Packet, Record, WORDS};
-use crate::side::{handed_back, Side, UNWRITTEN};
+use crate::shared::kind::What;
 use crate::words::queue_words;
 
 /// The ring queue's profile.
 const PLAIN: u64 = 0;
 
-pub struct Alone {
-    record: Record,
-    handles: Vec<u32>,
-    sizes: Vec<u32>,
-}
+/// What stands in a packet before a departure: it shows that nothing was written.
+const UNWRITTEN: [u32; 2] = [0xA5A5_5A5A; 2];
+
+pub struct Alone(Own);
 
 impl Alone {
     /// The ring queue, if there is a reserve, with the verdict counts of the pair's.
@@ -24,11 +23,11 @@ impl Alone {
         if set.reserve == 0 {
             return None;
         }
-        let mut record = Record([0; WORDS]);
-        ring::fresh(&mut record, set.target, set.buffer, set.reserve, PLAIN, set.clock);
-        record.0[16..21].copy_from_slice(&q.verdicts);
-        let length = set.reserve as usize;
-        Some(Alone { record, handles: vec![0; length], sizes: vec![0; length] })
+        let table = vec![0; set.reserve as usize];
+        let settings = [set.target, set.buffer, set.reserve, PLAIN, set.clock];
+        let mut own = Own::fresh(settings, table.clone(), table);
+        own.record[16..21].copy_from_slice(&q.verdicts);
+        Some(Alone(own))
     }
 
     /// Runs the call on the ring queue too; the sentence says what differs. A call with wrong tables
@@ -37,22 +36,17 @@ impl Alone {
         if after.answer == 103 {
             return Ok(());
         }
-        let mut packet = Packet { handle: UNWRITTEN.handle, size: UNWRITTEN.size };
-        let (record, handles, sizes) = (&mut self.record, &mut self.handles, &mut self.sizes);
-        let answer = match call.kind {
-            Kind::Arrival { packet: p, .. } => {
-                ring::arrival(record, handles, sizes, call.clock, (p.handle, p.size, p.ecn, p.u))
+        let (answer, packet) = match call.what {
+            What::Arrival(p) => {
+                (self.0.arrival(call.clock, (p.handle, p.size, p.ecn, p.u)), [0; 2])
             }
-            Kind::Departure { .. } => {
-                ring::departure(record, handles, sizes, call.clock, &mut packet)
-            }
-            Kind::Tick => ring::tick(record, call.clock),
-            Kind::Fresh { .. } => return Ok(()),
+            What::Departure => self.0.departure(call.clock, UNWRITTEN),
+            What::Tick(_) => (self.0.tick(call.clock), [0; 2]),
+            What::Fresh(_) => return Ok(()),
         };
-        let given = crate::side::Packet { handle: packet.handle, size: packet.size };
         let same = answer == after.answer
-            && handed_back(call, given) == after.packet
-            && self.is_like(&after.records.queues[call.queue]);
+            && packet == [after.packet.handle, after.packet.size]
+            && self.is_like(&after.state.queues[call.to]);
         if same {
             return Ok(());
         }
@@ -64,7 +58,7 @@ impl Alone {
 
     /// All but slots, head and tail; the ring has its slots and first place there.
     fn is_like(&self, q: &Queue) -> bool {
-        let (ring, pair) = (&self.record.0, queue_words(q));
+        let (ring, pair) = (&self.0.record, queue_words(q));
         ring[..2] == pair[..2] && ring[3..15] == pair[2..14] && ring[16..21] == pair[16..]
     }
 }

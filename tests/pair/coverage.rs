@@ -1,4 +1,4 @@
-//! Counts what the compared calls reached, and names what they did not.
+//! What is counted of the pair.
 //!
 //! Pairs of refusals that can apply to one call together (those but 9 of an arrival are evaluated
 //! on the raw fields, even where the records are not well formed):
@@ -7,194 +7,114 @@
 //!   tick:      any two of 2, 4, 5
 //! Refusal 1 stands alone: it is the only one of fresh.
 
-use crate::burst;
-use crate::call::{Call, Kind, KINDS, QUEUES};
-use crate::edges::{self, LISTS};
+use crate::edges::{ends, refused, rules, store};
+use crate::kind::{arriving, fresh_call, Call, Side, Two, QUEUES};
 use crate::model::arrival::decide;
 use crate::model::formed::{condition_names, conditions};
+use crate::model::fresh::fresh;
 use crate::model::numbers::BANDS;
-use crate::model::refusals::*;
-use crate::model::tick::{band, queueing_delay, step};
-use crate::report::VERDICTS;
-use crate::shared::groups::{only_broken, owned, pair_labels, Groups, PAIR_NAMES, REFUSAL_NAMES};
-use crate::side::Side;
+use crate::model::tick::{queueing_delay, step};
+use crate::model::{Queue, Settings};
+use crate::shared::coverage::{by_queue, list, About, Covered, List, BOTH, QUEUE_RULES, SINGLE};
+use crate::shared::kind::{Arriving, Lent, CALLS};
 
-pub struct Coverage {
-    pub calls: u64,
-    groups: Groups,
+/// The called queue before and after.
+fn called(before: &Side, call: &Call, after: &Side) -> [Queue; 2] {
+    [before.state.queues[call.to], after.state.queues[call.to]]
 }
 
-const VERDICT: usize = 0;
-const RULE: usize = 1;
-const ACCEPTED: usize = 2;
-const CONDITION: usize = 3;
-const STEP_UP: usize = 4;
-const STEP_DOWN: usize = 5;
-const RUN_EVENT: usize = 6;
-const BURST: usize = 7;
-const REFUSALS: usize = 8; // and 9, 10, 11: fresh, arrival, departure, tick
-const PAIRS: usize = 12; // and 13, 14: arrival, departure, tick
-const EDGES: usize = 15; // and the following: the lists of `edges`
+impl Covered for Two {
+    const VERDICTS: [&'static str; 5] =
+        ["enqueued", "marked", "dropped-bytes", "dropped-slots", "dropped-early"];
+    const RULES: &'static [&'static str] = QUEUE_RULES;
+    const QUEUES: &'static [&'static str] = &QUEUES;
+    const APPLY: [&'static [usize]; 4] = [&[1], &[2, 3, 4, 7, 8, 9], &[2, 3, 4, 6, 9], &[2, 4, 5]];
+    const APART: [&'static [(usize, usize)]; 4] = [&[], &[(2, 9), (3, 9)], &[(6, 9)], &[]];
+    const BANDS: &'static [(u64, i64)] = &BANDS;
+    const RUN_EVENTS: (&'static str, &'static [&'static str]) = (
+        "long runs",
+        &[
+            "the passengers take a slot that the intercom left",
+            "the intercom takes a slot that the passengers left",
+            "the intercom answers as if alone",
+            "the passengers answer as if alone",
+            "alone, early verdict",
+            "alone, dropped by slots elsewhere",
+            "1,000 ticks with an empty queue",
+            "arrival within 150,000 of them",
+        ],
+    );
+    const NO_BURST: &'static [&'static str] =
+        &["ready: calm", "ready: turned active", "ready: turned inactive", "a flow above 15"];
 
-const APPLY: [&[usize]; 4] = [&[1], &[2, 3, 4, 7, 8, 9], &[2, 3, 4, 6, 9], &[2, 4, 5]];
-const APART: [&[(usize, usize)]; 4] = [&[], &[(2, 9), (3, 9)], &[(6, 9)], &[]];
-
-const RULES: [&str; 9] = [
-    "1 bytes",
-    "2 slots",
-    "3 allowance",
-    "4 short delay",
-    "5 small queue",
-    "6 sum below 0.85",
-    "6 sum of 8.5",
-    "6 u below the probability",
-    "7 otherwise",
-];
-
-/// What a long run can tell beyond its single calls.
-const RUN_EVENTS: [&str; 8] = [
-    "the passengers take a slot that the intercom left",
-    "the intercom takes a slot that the passengers left",
-    "the intercom answers as if alone",
-    "the passengers answer as if alone",
-    "alone, early verdict",
-    "alone, dropped by slots elsewhere",
-    "1,000 ticks with an empty queue",
-    "arrival within 150,000 of them",
-];
-
-/// A label for each number that applies, of each queue; fresh has one for both.
-fn refusal_labels(kind: usize, runs: bool) -> Vec<String> {
-    let given = |n: usize| APPLY[kind].contains(&n) && (!runs || (n != 2 && n != 9));
-    let label = |place: usize| match (place % 10, place / 10) {
-        (n, queue) if given(n) && (kind > 0 || queue == 0) => format!("{n}, {}", QUEUES[queue]),
-        _ => String::new(),
-    };
-    (0..20).map(label).collect()
-}
-
-/// That a count is above the slots cannot be the only condition broken.
-fn condition_labels() -> Vec<String> {
-    let alone = |name: String| if name.ends_with("count <= slots") { String::new() } else { name };
-    condition_names().into_iter().map(alone).collect()
-}
-
-fn by_queue(names: &[&str]) -> Vec<String> {
-    QUEUES
-        .iter()
-        .flat_map(|queue| names.iter().map(move |name| format!("{queue}: {name}")))
-        .collect()
-}
-
-impl Coverage {
-    /// Counts for the long runs, or for the single calls.
-    pub fn new(runs: bool) -> Coverage {
-        let mut groups = Groups::default();
-        let (both, single) = ((true, true), (false, true));
-        let bands: Vec<String> = BANDS.iter().map(|band| format!("k {}", band.1)).collect();
-        groups.add("verdict", both, by_queue(&VERDICTS));
-        groups.add("arrival rule", both, by_queue(&RULES));
-        groups.add("accepted", both, by_queue(&KINDS[1..]));
-        groups.add("only this condition broken", single, condition_labels());
-        groups.add("band with a step above zero", both, bands.clone());
-        groups.add("band with a step below zero", both, bands);
-        groups.add("long runs", (true, false), owned(&RUN_EVENTS));
-        groups.add("burst", single, burst::labels());
-        for (kind, name) in REFUSAL_NAMES.into_iter().enumerate() {
-            groups.add(name, both, refusal_labels(kind, runs));
-        }
-        for (kind, name) in PAIR_NAMES.into_iter().enumerate().skip(1) {
-            groups.add(name, single, pair_labels(APPLY[kind], APART[kind], 10));
-        }
-        for list in &LISTS {
-            groups.add(list.name, list.needed, edges::labels(list));
-        }
-        Coverage { calls: 0, groups }
+    /// That a count is above the slots cannot be the only condition broken.
+    fn conditions() -> Vec<String> {
+        let alone =
+            |name: String| if name.ends_with("count <= slots") { String::new() } else { name };
+        condition_names().into_iter().map(alone).collect()
     }
 
-    /// Counts one call that was compared.
-    pub fn note(&mut self, before: &Side, call: &Call, after: &Side) {
-        self.calls += 1;
-        self.note_refusals(before, call, after);
-        if after.answer < 100 {
-            self.note_accepted(before, call, after);
-        }
-        for (place, list) in LISTS.iter().enumerate() {
-            self.groups.hit_all(EDGES + place, list.found(before, call, after));
+    fn holding(before: &Side, _: &Call) -> Option<Vec<bool>> {
+        Some(conditions(&before.state).to_vec())
+    }
+
+    fn rule(before: &Side, call: &Call, _: &Side) -> usize {
+        decide(&before.state, call.to, &arriving(call.packet())).rule as usize
+    }
+
+    fn queue(to: &usize) -> usize {
+        *to
+    }
+
+    fn steps(before: &Side, call: &Call) -> Vec<(u64, i64)> {
+        let q = &before.state.queues[call.to];
+        vec![(q.probability, step(q, queueing_delay(q)))]
+    }
+
+    fn more_groups() -> Vec<(&'static str, (bool, bool), Vec<String>)> {
+        vec![("accepted", BOTH, by_queue::<Two>(&CALLS[1..]))]
+    }
+
+    fn more(call: &Call, after: &Side) -> Vec<(usize, usize)> {
+        match after.answer < 100 && !call.is_fresh() {
+            true => vec![(0, 3 * call.to + call.place() - 1)],
+            false => Vec::new(),
         }
     }
 
-    /// Counts one of `RUN_EVENTS`.
-    pub fn note_run_event(&mut self, label: usize) {
-        self.groups.hit(RUN_EVENT, label);
+    #[rustfmt::skip]
+    fn lists() -> Vec<List<Two>> {
+        let list = list::<Two>;
+        vec![
+            list("arrival", About::Arrivals, BOTH, |b, c, a| rules::arrival(&called(b, c, a), c.packet(), a.answer)),
+            list("arrival, edges of rules", About::Arrivals, SINGLE,
+                |b, c, a| rules::arrival_edges(&called(b, c, a), c.packet(), a.answer)),
+            list("slots at an arrival", About::Arrivals, BOTH, store::slots),
+            list("place of an arrival", About::Arrivals, BOTH, store::entering),
+            list("damage that an arrival does not see", About::Arrivals, SINGLE, store::entering_damaged),
+            list("arrival refused by 9", About::WrongArrivals, SINGLE, refused::arrival),
+            list("departure", About::Departures, BOTH, |b, c, a| rules::departure(&called(b, c, a), a.packet.size)),
+            list("departure, edges of rules", About::Departures, SINGLE,
+                |b, c, a| rules::departure_edges(&called(b, c, a), a.packet.size)),
+            list("place of a departure", About::Departures, BOTH, store::leaving),
+            list("damage that a departure does not see", About::Departures, SINGLE, store::leaving_damaged),
+            list("departure refused by 9", About::WrongDepartures, SINGLE, refused::departure),
+            list("tick", About::Ticks, BOTH, |b, c, a| rules::tick(&called(b, c, a))),
+            list("end of a range", About::Sound, SINGLE, ends::ends),
+            list("tables of whole pages", About::Sound, BOTH, ends::whole_pages),
+        ]
     }
 
-    /// Counts one of `burst::LABELS`.
-    pub fn note_burst(&mut self, label: usize) {
-        self.groups.hit(BURST, label);
-    }
-
-    fn note_refusals(&mut self, before: &Side, call: &Call, after: &Side) {
-        let (kind, applying) = (call.place(), applying(before, call));
-        if (101..=109).contains(&after.answer) {
-            self.groups.hit(REFUSALS + kind, 10 * call.queue + after.answer as usize - 100);
-        }
-        if kind == 0 {
-            return;
-        }
-        self.groups.hit_pairs(PAIRS + kind - 1, &applying);
-        if let Some(broken) = only_broken(&conditions(&before.records)) {
-            self.groups.hit(CONDITION, broken);
-        }
-    }
-
-    fn note_accepted(&mut self, before: &Side, call: &Call, after: &Side) {
-        let queue = call.queue;
-        if !call.is_fresh() {
-            self.groups.hit(ACCEPTED, 3 * queue + call.place() - 1);
-        }
-        match call.kind {
-            Kind::Arrival { packet, .. } => {
-                self.groups.hit(VERDICT, 5 * queue + after.answer as usize);
-                let rule = decide(&before.records, queue, &packet).rule;
-                self.groups.hit(RULE, 9 * queue + rule as usize);
-            }
-            Kind::Tick => {
-                let q = &before.records.queues[queue];
-                match step(q, queueing_delay(q)) {
-                    step if step > 0 => self.groups.hit(STEP_UP, band(q.probability)),
-                    step if step < 0 => self.groups.hit(STEP_DOWN, band(q.probability)),
-                    _ => {}
-                }
-            }
-            _ => {}
-        }
-    }
-
-    /// What was needed and not reached.
-    pub fn missing(&self, runs: bool) -> Vec<String> {
-        self.groups.missing(runs)
-    }
-
-    pub fn print(&self, runs: bool, all: bool) {
-        self.groups.print(runs, all);
-    }
-}
-
-/// The refusals that apply to a call.
-fn applying(before: &Side, call: &Call) -> Refusals {
-    let r = &before.records;
-    let Call { queue, clock, kind } = *call;
-    match kind {
-        Kind::Fresh { slots, settings } => fresh_refusals(slots, &settings),
-        Kind::Arrival { lent, packet } => {
-            let tables = (&before.handles[..lent.handles], &before.sizes[..lent.sizes]);
-            arrival_refusals(r, queue, tables, clock, &packet)
-        }
-        Kind::Departure { lent } => {
-            let tables = (&before.handles[..lent.handles], &before.sizes[..lent.sizes]);
-            departure_refusals(r, queue, tables, clock)
-        }
-        Kind::Tick => tick_refusals(r, queue, clock),
+    fn sample() -> (Side, [Call; 4]) {
+        let set = Settings { target: 15_000, buffer: 64_000, reserve: 1, clock: 0 };
+        let side = Side::new(fresh(4, [set, set]).1, vec![0; 4], vec![0; 4]);
+        let (lent, packet) = (Lent::both(4), Arriving { handle: 7, size: 100, ecn: false, u: 0 });
+        let calls = [
+            fresh_call(4, [set, set]),
+            Call::arrival(0, lent, 0, packet),
+            Call::departure(0, lent, 0),
+            Call::tick(0, 15_000, 0),
+        ];
+        (side, calls)
     }
 }

@@ -5,6 +5,7 @@ use crate::model::numbers::*;
 use crate::model::store::word;
 use crate::model::{Queue, Records, Shared};
 use crate::shared::random::Random;
+use crate::shared::single::{filled, size_of_next, Do};
 
 /// Gives the records slots enough for their packets and `spare` free slots more, reserves, places,
 /// and tables a little longer than the slots that hold their chains.
@@ -13,6 +14,15 @@ pub fn lay_out(r: &mut Random, records: &mut Records, spare: u64) -> (Vec<u32>, 
     take_slots(r, &mut records.shared, first + second, spare);
     choose_reserves(r, records);
     lay_chains(r, &mut records.shared, &mut records.queues)
+}
+
+/// How many slots are freed at least: two and more where 9 is wanted for an arrival.
+pub fn spare(r: &mut Random, what: Do, wanted: bool) -> u64 {
+    match what {
+        Do::Arrival if wanted => r.pick(&[2, 2, 3]),
+        Do::Arrival => r.pick(&[0, 0, 1, 2]),
+        _ => 0,
+    }
 }
 
 /// Slots for so many packets, and what is freed of them.
@@ -28,9 +38,7 @@ pub fn take_slots(r: &mut Random, s: &mut Shared, queued: u64, spare: u64) {
 /// last free slot, is anything.
 pub fn lay_chains(r: &mut Random, s: &mut Shared, queues: &mut [Queue]) -> (Vec<u32>, Vec<u32>) {
     let slots = s.slots as usize;
-    let length = slots + r.pick(&[1, 1, 2, 5]);
-    let mut fill = || -> Vec<u32> { (0..length).map(|_| r.number() as u32).collect() };
-    let (handles, mut sizes) = (fill(), fill());
+    let (handles, mut sizes) = filled(r, s.slots);
     let mut places = shuffled(r, s.used as usize);
     move_ends(r, &mut places, queues);
     let mut freed = &places[..];
@@ -80,10 +88,7 @@ fn lay_chain(r: &mut Random, q: &mut Queue, slots: u64, chain: &[usize], sizes: 
     let mut bytes = q.bytes;
     for (i, &place) in chain.iter().enumerate() {
         let others = (chain.len() - i - 1) as u64;
-        let least = bytes.saturating_sub(SIZE.1 * others).max(1);
-        let most = (bytes - others).min(SIZE.1);
-        let any = r.range(least, most);
-        let size = r.pick(&[least, most, any, any]).clamp(least, most);
+        let size = size_of_next(r, bytes, others, &[]);
         let link = chain.get(i + 1).map_or(r.range(0, 65_535), |&next| next as u64);
         sizes[place] = word(size as u32, link);
         bytes -= size;

@@ -14,33 +14,21 @@ mod aims;
 mod alone;
 mod broken;
 mod broken_queue;
-#[path = "../shared/bursts.rs"]
-mod burst;
-mod bursts;
-mod call;
-mod calls;
 mod coverage;
 mod damage;
 mod edges;
-mod flow;
-mod fresh_calls;
-mod guard;
+mod kind;
 mod layout;
 mod library;
 mod links;
 mod model;
+#[path = "../ring/own.rs"]
+mod own;
 mod plans;
-mod report;
-#[path = "../compare/library.rs"]
-#[allow(dead_code)]
-mod ring;
 mod runs;
 mod script;
-mod shadow;
-#[allow(dead_code)]
 #[path = "../shared/mod.rs"]
 mod shared;
-mod side;
 mod single;
 mod states;
 mod words;
@@ -55,14 +43,12 @@ fn main() {
     if std::env::args().skip(1).eq(["script"]) {
         return script::run();
     }
-    let round = Round {
+    let round = Round::<kind::Two> {
         seed: 80_337,
         batches: 500,
         runs: 4 * plans::KINDS,
         guarded: (60, plans::KINDS),
-        bursts: Some(burst::run),
         figures: ("the page's worked cases", worked::run),
-        checks: Some("steps of the page's worked cases"),
     };
     round.main();
 }

@@ -3,8 +3,8 @@
 use crate::model::numbers::{BUFFER, CLOCK_MAX};
 use crate::model::Settings;
 use crate::shared::random::Random;
-pub use crate::shared::traffic::Phase;
-use crate::shared::traffic::{Traffic, EAGER, PHASES};
+use crate::shared::runs::next_phase;
+use crate::shared::traffic::{Phase, Traffic, EAGER};
 
 /// What a queue is made of.
 #[derive(Clone, Copy)]
@@ -105,10 +105,9 @@ fn reserve(r: &mut Random, kind: u64, slots: u64, plans: &mut [Plan; 2]) {
 
 impl Plan {
     pub fn next_phase(&self, r: &mut Random, phase: Phase) -> Phase {
-        match phase {
-            _ if self.eager => r.pick(&EAGER),
-            Phase::Quiet => r.pick(&[Phase::Burst, Phase::Overload, Phase::Light]),
-            _ => r.pick(&PHASES),
+        match self.eager {
+            true => r.pick(&EAGER),
+            false => next_phase(r, phase),
         }
     }
 }

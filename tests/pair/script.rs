@@ -1,10 +1,9 @@
 //! The script program by the model: what `./obikuteru pair` must print.
 
-use crate::call::{Call, Kind, Lent};
-use crate::model::{Arriving, Records, Settings};
-use crate::report::answer_name;
-use crate::shared::script::{self, number};
-use crate::side::Side;
+use crate::kind::{fresh_call, Call, Side, Two};
+use crate::model::{Records, Settings};
+use crate::shared::kind::{Arriving, Lent, What};
+use crate::shared::script::{self, answer_word, number};
 
 /// The most slots of a script's pair.
 const SLOTS: u64 = 4_096;
@@ -25,25 +24,16 @@ fn answer(line: &[u8], side: &mut Option<Side>) -> Option<String> {
         let table = vec![0; SLOTS as usize];
         Side::new(Records::default(), table.clone(), table)
     });
-    side.call_model(&lent(call, side));
-    let q = side.records.queues[call.queue];
-    let word = match (call.kind, side.answer) {
-        (Kind::Fresh { .. }, 0) => "ok".to_string(),
-        (Kind::Departure { .. }, 0) => format!("departed {}", side.packet.0),
-        _ => answer_name(&call, side.answer),
+    // Tables of the slots are lent, which are 0 after a refused fresh.
+    let lent = Lent::both(side.state.shared.slots as usize);
+    side.call_model::<Two>(&Call { lent, ..call });
+    let q = side.state.queues[call.to];
+    let word = match (&call.what, side.answer) {
+        (What::Fresh(_), 0) => "ok".to_string(),
+        (What::Departure, 0) => format!("departed {}", side.packet.handle),
+        _ => answer_word(call.place(), side.answer),
     };
     Some(format!("{word} {} {}", q.probability, q.bytes))
-}
-
-/// The call with tables of the slots, which are 0 after a refused fresh.
-fn lent(call: Call, side: &Side) -> Call {
-    let lent = Lent::both(side.records.shared.slots as usize);
-    let kind = match call.kind {
-        Kind::Arrival { packet, .. } => Kind::Arrival { lent, packet },
-        Kind::Departure { .. } => Kind::Departure { lent },
-        other => other,
-    };
-    Call { kind, ..call }
 }
 
 /// A line of one of the four forms: fields one space apart.
@@ -58,7 +48,7 @@ fn call(line: &[u8]) -> Option<Call> {
             let narrow = fields.iter().all(|&field| field <= u64::from(u32::MAX));
             let settings = |target, buffer, reserve| Settings { target, buffer, reserve, clock: 0 };
             let pair = [settings(t0, b0, r0), settings(t1, b1, r1)];
-            (narrow && slots <= SLOTS).then(|| Call::fresh(slots, pair))
+            (narrow && slots <= SLOTS).then(|| fresh_call(slots, pair))
         }
         ("a", &[queue, clock, handle, size, ecn, u]) => {
             let narrow = [handle, size, u].map(|field| u32::try_from(field).ok());
@@ -67,7 +57,7 @@ fn call(line: &[u8]) -> Option<Call> {
             (queue <= 1 && ecn <= 1).then(|| Call::arrival(queue as usize, none, clock, packet))
         }
         ("d", &[queue, clock]) if queue <= 1 => Some(Call::departure(queue as usize, none, clock)),
-        ("t", &[queue, clock]) if queue <= 1 => Some(Call::tick(queue as usize, clock)),
+        ("t", &[queue, clock]) if queue <= 1 => Some(Call::tick(queue as usize, clock, 0)),
         _ => None,
     }
 }

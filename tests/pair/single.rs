@@ -1,108 +1,122 @@
-//! Single calls on random records: accepted ones, and ones to which chosen refusals apply; on
-//! chains that are whole, and on damaged ones.
+//! Random records with tables, whole chains and damaged ones, and calls on them.
 
 use crate::aims;
 use crate::broken;
-use crate::call::Call;
-use crate::calls::{self, What};
 use crate::damage;
+use crate::kind::{fresh_call, Call, Side, Two};
 use crate::layout;
-use crate::model::formed::CONDITIONS;
+use crate::model::formed::{verdict_sum, well_formed, CONDITIONS};
 use crate::model::numbers::*;
-use crate::model::refusals::Refusals;
-use crate::model::{Queue, Records};
-use crate::shared::numbers::wanted;
+use crate::model::{Queue, Records, Settings};
+use crate::shared::bursts::{Bursting, Standing};
+use crate::shared::kind::{Arriving, Refusals};
+use crate::shared::numbers::around_ends;
+use crate::shared::pair::Failure;
 use crate::shared::random::Random;
-use crate::side::Side;
+use crate::shared::single::{self, some_refusals, Do, Drawn};
 use crate::states;
 
-pub use crate::fresh_calls::run as fresh_calls;
-
-/// A call after the first one.
-pub fn next(r: &mut Random, _: &Call, side: &Side) -> Call {
-    let what = what(r);
-    let wanted = if r.one_in(3) { wanted(r, refusals(what)) } else { Refusals::default() };
-    let queue = queue(r);
-    calls::next(r, what, queue, side, &wanted)
-}
-
-pub fn what(r: &mut Random) -> What {
-    r.pick(&[What::Arrival, What::Arrival, What::Departure, What::Departure, What::Tick])
-}
-
-pub fn queue(r: &mut Random) -> usize {
-    r.range(0, 1) as usize
-}
-
-/// The refusals that a call can get.
-pub fn refusals(what: What) -> &'static [usize] {
-    match what {
-        What::Arrival => &[2, 3, 4, 7, 8, 9],
-        What::Departure => &[2, 3, 4, 6, 9],
-        What::Tick => &[2, 4, 5],
-    }
-}
-
-/// Records with tables, and a call to which the wanted refusals apply where they can.
-pub fn case(r: &mut Random) -> (Side, Call) {
-    let (what, queue) = (what(r), queue(r));
-    let wanted: Refusals = wanted(r, refusals(what));
-    let broken = wanted[2].then(|| r.range(0, CONDITIONS as u64 - 1) as usize);
-    let mut records = states::records(r);
-    aim(r, what, &mut records.queues[queue]);
-    prepare(r, what, &wanted, &mut records.queues[queue]);
-    if let Some(condition) = broken {
-        prepare_to_break(r, &mut records, condition);
-    }
-    let spare = match what {
-        What::Arrival if wanted[9] => r.pick(&[2, 2, 3]),
-        What::Arrival => r.pick(&[0, 0, 1, 2]),
-        _ => 0,
-    };
-    if records.queues[0].count + records.queues[1].count > SLOTS.1 {
-        aims::at_empty(&mut records.queues[1 - queue]);
-    }
-    let room = SLOTS.1 - records.queues[0].count - records.queues[1].count;
-    let (handles, sizes) = layout::lay_out(r, &mut records, spare.min(room));
-    let mut side = Side::new(records, handles, sizes);
-    damage::tables(r, what, queue, wanted[9], &mut side);
-    if let Some(condition) = broken {
-        match r.one_in(6) {
-            true => broken::scramble(r, &mut side.records),
-            false => broken::break_one(r, &mut side.records, condition),
+impl Drawn for Two {
+    fn case(r: &mut Random) -> (Side, Call) {
+        let what = r.pick(Two::CALLS);
+        let queue = r.range(0, 1) as usize;
+        let wanted = some_refusals::<Two>(r, what);
+        let broken = wanted[2].then(|| r.range(0, CONDITIONS as u64 - 1) as usize);
+        let mut records = states::records(r);
+        aims::aim(r, what, &mut records.queues[queue]);
+        prepare(r, what, &wanted, &mut records.queues[queue]);
+        if let Some(condition) = broken {
+            prepare_to_break(r, &mut records, condition);
         }
+        let spare = layout::spare(r, what, wanted[9]);
+        if records.queues[0].count + records.queues[1].count > SLOTS.1 {
+            aims::at_empty(&mut records.queues[1 - queue]);
+        }
+        let room = SLOTS.1 - records.queues[0].count - records.queues[1].count;
+        let (handles, sizes) = layout::lay_out(r, &mut records, spare.min(room));
+        let mut side = Side::new(records, handles, sizes);
+        damage::tables(r, what, queue, wanted[9], &mut side);
+        if let Some(condition) = broken {
+            match r.one_in(6) {
+                true => broken::scramble(r, &mut side.state),
+                false => broken::break_one(r, &mut side.state, condition),
+            }
+        }
+        let call = single::call::<Two>(r, what, queue, &side, &wanted);
+        (side, call)
     }
-    let call = calls::next(r, what, queue, &side, &wanted);
-    (side, call)
+
+    fn next_to(r: &mut Random, _: &usize) -> usize {
+        r.range(0, 1) as usize
+    }
+
+    fn packet(r: &mut Random, side: &Side, to: &usize, wrong: bool) -> Arriving {
+        let q = &side.state.queues[*to];
+        single::packet(r, q.buffer.saturating_sub(q.bytes), q.probability, wrong)
+    }
+
+    /// One setting or two at a time at, beside and far from the ends of their ranges, and a tick of
+    /// each queue on the records that fresh returned.
+    fn fresh_calls(
+        run: &mut dyn FnMut(&Side, &[Call]) -> Result<(), Failure<Two>>,
+    ) -> Result<(), Failure<Two>> {
+        let queue = [TARGET, BUFFER, (0, 64), (0, CLOCK_MAX)];
+        let [a, b, c, d] = queue;
+        let sound = [64, 15_000, 64_000, 20, 5, 20_000, 30_000, 30, 1_000_000];
+        around_ends([SLOTS, a, b, c, d, a, b, c, d], sound, |words| fresh(words, run))?;
+        RESERVES.into_iter().try_for_each(|(slots, reserves)| {
+            let mut words = sound;
+            (words[0], words[3], words[7]) = (slots, reserves.0, reserves.1);
+            fresh(words, run)
+        })
+    }
 }
 
-/// Brings the called queue near an edge of the call, often.
-fn aim(r: &mut Random, what: What, q: &mut Queue) {
-    match (what, r.range(0, 7)) {
-        (What::Arrival, 0 | 1) => aims::at_late_rules(r, q),
-        (What::Arrival, 2..=4) => aims::at_early_verdicts(r, q),
-        (What::Departure, 0..=2) => aims::at_last_packet(r, q),
-        (What::Departure, 3) => aims::at_start(r, q),
-        (What::Tick, 0 | 1) => aims::at_refill(r, q),
-        (What::Tick, 2 | 3) => aims::at_decay(r, q),
-        _ => {}
-    }
+/// Slots and reserves whose sum is the slots, one above them, or small only where it wraps round.
+const RESERVES: [(u64, (u64, u64)); 10] = [
+    (1, (1, 0)),
+    (1, (0, 1)),
+    (1, (1, 1)),
+    (4, (2, 3)),
+    (65_536, (65_536, 0)),
+    (65_536, (32_768, 32_768)),
+    (65_536, (32_768, 32_769)),
+    (64, (u64::MAX, 1)),
+    (64, (2, u64::MAX)),
+    (64, (1 << 63, 1 << 63)),
+];
+
+fn fresh(
+    words: [u64; 9],
+    run: &mut dyn FnMut(&Side, &[Call]) -> Result<(), Failure<Two>>,
+) -> Result<(), Failure<Two>> {
+    let [slots, target, buffer, reserve, clock, more @ ..] = words;
+    let first = Settings { target, buffer, reserve, clock };
+    let [target, buffer, reserve, clock] = more;
+    let second = Settings { target, buffer, reserve, clock };
+    let mut dirty = Records::default();
+    dirty.shared.freed = 3;
+    (dirty.queues[0].measuring, dirty.queues[1].measuring) = (7, u64::MAX);
+    dirty.queues[0].tail = 9;
+    let fresh = fresh_call(slots, [first, second]);
+    let ticks = [Call::tick(0, first.clock, 0), Call::tick(1, second.clock, 0)];
+    run(&Side::new(dirty, Vec::new(), Vec::new()), &[fresh, ticks[0], ticks[1]])
 }
 
 /// What refusals 5, 6, 8 and 9 need of the called queue.
-fn prepare(r: &mut Random, what: What, wanted: &Refusals, q: &mut Queue) {
+fn prepare(r: &mut Random, what: Do, wanted: &Refusals, q: &mut Queue) {
     if wanted[5] {
         q.last = q.clock.saturating_sub(r.pick(&[0, 1, 14_998, 14_999]));
     }
     if wanted[6] {
         aims::at_empty(q);
-    } else if what == What::Departure && q.count == 0 {
+    } else if what == Do::Departure && q.count == 0 {
         (q.count, q.bytes) = (1, q.buffer.min(r.spread(1, SIZE.1)));
     }
-    if wanted[8] || (what != What::Arrival && r.one_in(8)) {
+    if wanted[8] || (what != Do::Arrival && r.one_in(8)) {
         q.verdicts = states::split(r, COUNTS_MAX);
     }
-    if what == What::Arrival && wanted[9] && r.one_in(2) {
+    if what == Do::Arrival && wanted[9] && r.one_in(2) {
         q.allowance = FULL_ALLOWANCE;
     }
 }
@@ -125,4 +139,26 @@ fn prepare_to_break(r: &mut Random, records: &mut Records, condition: usize) {
     let q = &mut records.queues[(condition - 4) / 21];
     q.bytes = q.bytes.clamp(q.count, SIZE.1 * q.count);
     q.buffer = q.buffer.max(q.bytes);
+}
+
+impl Bursting for Two {
+    const UNKNOWN: &'static [u32] = &[8, 9, 256, 1 << 16, u32::MAX];
+
+    fn counts<'a>(records: &'a mut Records, to: &usize) -> Option<&'a mut [u64; 5]> {
+        Some(&mut records.queues[*to].verdicts)
+    }
+
+    fn numbered(to: &usize, kind: u32) -> Vec<u32> {
+        vec![4 * *to as u32 + kind]
+    }
+
+    fn kind_of(number: u32) -> Option<u32> {
+        (number < 8).then_some(number % 4)
+    }
+
+    fn standing(side: &Side, _: &usize) -> Standing {
+        let formed = well_formed(&side.state);
+        let counted = side.state.queues.iter().map(verdict_sum).max().unwrap_or(0);
+        Standing { formed, calm: false, active: false, counted, no_flow: false }
+    }
 }

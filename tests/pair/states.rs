@@ -1,7 +1,8 @@
 //! Random records, near the ends of every range.
 
 use crate::model::numbers::*;
-use crate::model::{Queue, Records};
+use crate::model::{self, Queue, Records};
+use crate::shared::kind::{Arriving, View};
 pub use crate::shared::numbers::split;
 use crate::shared::random::Random;
 
@@ -114,4 +115,15 @@ pub fn measurement(r: &mut Random, q: &mut Queue) {
 pub fn sound_counts(r: &mut Random) -> [u64; 5] {
     let sum = r.pick(&[0, 1, 5, COUNTS_MAX - 1, 1_000_000, COUNTS_MAX / 2]);
     split(r, sum)
+}
+
+/// The model's arguments of an arrival.
+pub fn arriving(p: &Arriving) -> model::Arriving {
+    model::Arriving { handle: p.handle, size: p.size, ecn: p.ecn, u: p.u }
+}
+
+#[rustfmt::skip]
+pub fn view_of(q: &Queue, slots: u64) -> View {
+    let Queue { buffer, clock, last, count, bytes, probability, target, old_delay, allowance, accumulated, verdicts, .. } = *q;
+    View { slots, buffer, clock, last, count, bytes, probability, target, old_delay, allowance, accumulated, verdicts }
 }

@@ -1,12 +1,16 @@
 //! The page's worked cases, read from the page and run on both sides. What stands there is checked
 //! as well, so a misreading that model and library share would show here.
 
-use crate::call::{Call, Lent};
+use crate::kind::{fresh_call, Call, Side, Two};
 use crate::model::store::{link_of, size_of, word};
-use crate::model::{Arriving, Records, Settings};
-use crate::shared::pair::{Failure, Pair};
-use crate::report::answer_name;
-use crate::side::{Lender, Side};
+use crate::model::{Records, Settings};
+use crate::shared::kind::{Arriving, Lent};
+use crate::shared::lend::Lender;
+use crate::shared::pair;
+use crate::shared::pair::Pair;
+use crate::shared::script::answer_word;
+
+type Failure = pair::Failure<Two>;
 
 const PAGE: &str = include_str!("../../docs/SHARED-TABLES.md");
 
@@ -15,12 +19,12 @@ const CASES: usize = 8;
 
 struct Case<'a> {
     title: &'a str,
-    pair: Pair<'a>,
+    pair: Pair<'a, Two>,
     checks: u64,
 }
 
 /// All cases; gives the number of steps that were checked.
-pub fn run(lender: &mut dyn Lender) -> Result<u64, Failure> {
+pub fn run(lender: &mut Lender) -> Result<u64, Failure> {
     let block = PAGE.split("```\n").nth(1).unwrap_or("");
     let (mut cases, mut checks) = (0, 0);
     let nobody = Side::new(Records::default(), Vec::new(), Vec::new());
@@ -78,8 +82,8 @@ impl Case<'_> {
                 (_, Some(place)) => {
                     side.sizes[place.parse::<usize>().expect("a place")] = word_of(value)
                 }
-                ("slots", _) => side.records.shared.slots = numbers(value)[0],
-                ("old_delay1", _) => side.records.queues[1].old_delay = numbers(value)[0],
+                ("slots", _) => side.state.shared.slots = numbers(value)[0],
+                ("old_delay1", _) => side.state.queues[1].old_delay = numbers(value)[0],
                 _ => panic!("'{what}' cannot be changed"),
             }
         }
@@ -97,7 +101,7 @@ impl Case<'_> {
                 Call::arrival(queue, lent, fields[0], Arriving { handle, size, ecn: false, u: 0 })
             }
             "d" => Call::departure(queue, lent, fields[0]),
-            _ => Call::tick(queue, fields[0]),
+            _ => Call::tick(queue, fields[0], 0),
         }
     }
 
@@ -114,26 +118,26 @@ impl Case<'_> {
             side.handles = vec![0; fields[0] as usize];
             side.sizes = vec![0; fields[0] as usize];
         }
-        Call::fresh(fields[0], [settings(0), settings(1)])
+        fresh_call(fields[0], [settings(0), settings(1)])
     }
 
     /// The library's answer as the page writes it, with records and table if `all`.
     fn answer(&self, call: &Call, all: bool) -> String {
         let Pair { before, library, .. } = &self.pair;
-        let mut text = answer_name(call, library.answer);
-        let q = |side: &Side| side.records.queues[call.queue];
+        let mut text = answer_word(call.place(), library.answer);
+        let q = |side: &Side| side.state.queues[call.to];
         if text == "enqueued" {
             text += &format!(" at {}", q(library).tail);
         } else if text == "departed" {
-            let (handle, size) = library.packet;
+            let (handle, size) = (library.packet.handle, library.packet.size);
             text += &format!(" {handle} {size} from {}", q(before).head);
         }
         if !all {
             return text;
         }
-        let s = library.records.shared;
+        let s = library.state.shared;
         let [first, second] =
-            library.records.queues.map(|q| format!("{}:{}-{}", q.count, q.head, q.tail));
+            library.state.queues.map(|q| format!("{}:{}-{}", q.count, q.head, q.tail));
         let words: Vec<String> = library
             .sizes
             .iter()

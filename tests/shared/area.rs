@@ -3,7 +3,6 @@
 //! nothing to spare on either side.
 
 use std::ptr::{copy_nonoverlapping, null_mut};
-use std::slice::{from_raw_parts, from_raw_parts_mut};
 
 /// The length of a page on x86-64, and of one under the emulator of AArch64.
 pub const PAGE: usize = 4_096;
@@ -73,67 +72,5 @@ impl Area {
         let place = self.place(content.len() * 4) as *mut u32;
         unsafe { copy_nonoverlapping(content.as_ptr(), place, content.len()) };
         place
-    }
-}
-
-/// Both tables of a queue, each beside guarded pages.
-pub struct Tables {
-    handles: Area,
-    sizes: Area,
-}
-
-impl Tables {
-    pub fn new(at_end: bool) -> Tables {
-        Tables { handles: Area::new(5, at_end), sizes: Area::new(5, at_end) }
-    }
-
-    /// Runs something on both tables, which are put into place and fetched back.
-    pub fn lend<T>(
-        &mut self,
-        (handles, sizes): (&mut [u32], &mut [u32]),
-        run: impl FnOnce(&mut [u32], &mut [u32]) -> T,
-    ) -> T {
-        let (h, s) = (self.handles.table(handles), self.sizes.table(sizes));
-        let h = unsafe { from_raw_parts_mut(h, handles.len()) };
-        let s = unsafe { from_raw_parts_mut(s, sizes.len()) };
-        let result = run(h, s);
-        handles.copy_from_slice(h);
-        sizes.copy_from_slice(s);
-        result
-    }
-
-    /// The same, with handles that are read-only meanwhile.
-    #[allow(dead_code)]
-    pub fn lend_sizes<T>(
-        &mut self,
-        (handles, sizes): (&[u32], &mut [u32]),
-        run: impl FnOnce(&[u32], &mut [u32]) -> T,
-    ) -> T {
-        let (h, s) = (self.handles.table(handles), self.sizes.table(sizes));
-        let h = unsafe { from_raw_parts(h, handles.len()) };
-        let s = unsafe { from_raw_parts_mut(s, sizes.len()) };
-        self.handles.access(READ);
-        let result = run(h, s);
-        self.handles.access(READ_WRITE);
-        sizes.copy_from_slice(s);
-        result
-    }
-
-    /// Runs something on both tables, which are read-only meanwhile.
-    #[allow(dead_code)]
-    pub fn read<T>(
-        &mut self,
-        (handles, sizes): (&[u32], &[u32]),
-        run: impl FnOnce(&[u32], &[u32]) -> T,
-    ) -> T {
-        let (h, s) = (self.handles.table(handles), self.sizes.table(sizes));
-        let h = unsafe { from_raw_parts(h, handles.len()) };
-        let s = unsafe { from_raw_parts(s, sizes.len()) };
-        self.handles.access(READ);
-        self.sizes.access(READ);
-        let result = run(h, s);
-        self.handles.access(READ_WRITE);
-        self.sizes.access(READ_WRITE);
-        result
     }
 }

@@ -1,6 +1,5 @@
 //! What the comparison of logs shares with those of the kinds of queue.
 
-pub mod answers;
 pub mod random;
 pub mod rounds;
 pub mod stop;

@@ -1,26 +1,51 @@
-//! Bursts: a list of calls in one entry, against the same calls one by one. Included by the kinds that
-//! have bursts; the module `bursts` of such a kind says what its lists are made of:
-//!   start, next       a side with its first call and an empty burst, and the next call
-//!   numbers, kind_of  the six numbers of a call, and the kind (0 to 3) that the last of them names
-//!   standing, fields  how a burst finds a side, and all fields of its records by name
-//!   UNKNOWN           kinds that do not exist
-//!   IMPOSSIBLE        the labels of `LABELS` that the kind cannot reach
+//! Bursts: a list of calls in one entry, against the same calls one by one.
 
-use crate::bursts;
-use crate::coverage::Coverage;
-use crate::shared::area::{Area, READ, READ_WRITE};
-use crate::shared::groups::owned;
-use crate::shared::numbers::Lent;
-use crate::shared::pair::{Failure, Pair};
-use crate::shared::random::Random;
-use crate::side::{Call, Lender, Side};
-use std::slice::{from_raw_parts, from_raw_parts_mut};
+use super::coverage::{Coverage, Covered};
+use super::groups::owned;
+use super::kind::{Call, CallOf, Kind, Lent, Refusals, SideOf, What};
+use super::lend::Lender;
+use super::numbers::{split, CLOCK_MAX};
+use super::pair::{Failure, Pair};
+use super::random::Random;
+use super::report::fields;
+use super::single::{call, some_refusals, Do, Drawn};
+use super::stop;
 
-/// A list of calls as six numbers each, and how many answers are asked for.
+/// What the lists of a kind's bursts are made of.
+pub trait Bursting: Drawn {
+    /// The kinds of call to choose from.
+    const IN_BURSTS: &'static [Do] = Self::CALLS;
+    /// Numbers that name no kind of call.
+    const UNKNOWN: &'static [u32];
+    /// How many numbers a call has.
+    const NUMBERS: usize = 6;
+    /// Whether each call says whom it is for; otherwise the burst does.
+    const EACH_TO: bool = true;
+
+    fn burst_case(r: &mut Random) -> (SideOf<Self>, CallOf<Self>) {
+        Self::case(r)
+    }
+    /// The verdict counts that a call of this queue adds to, if there are any.
+    fn counts<'a>(state: &'a mut Self::State, to: &Self::To) -> Option<&'a mut [u64; 5]>;
+    fn steady_credits(_: &mut Random) -> u32 {
+        1
+    }
+    /// The number that a kind of call (0 to 3) has, and the numbers after it.
+    fn numbered(_: &Self::To, kind: u32) -> Vec<u32> {
+        vec![kind]
+    }
+    /// The kind of call (0 to 3) that a number names.
+    fn kind_of(number: u32) -> Option<u32> {
+        (number < 4).then_some(number)
+    }
+    fn standing(side: &SideOf<Self>, to: &Self::To) -> Standing;
+}
+
+/// A list of calls as numbers, and how many answers are asked for.
 #[derive(Debug)]
-pub struct Burst {
-    /// The flow that all calls are for; 0 where the kind has none.
-    pub flow: u32,
+pub struct Burst<T> {
+    /// Whom all calls are for, where a call does not say so itself.
+    pub to: T,
     pub lent: Lent,
     pub calls: Vec<u32>,
     pub answers: usize,
@@ -29,15 +54,16 @@ pub struct Burst {
 /// How a burst finds a side.
 pub struct Standing {
     pub formed: bool,
-    pub slots: u64,
     pub calm: bool,
     pub active: bool,
     /// Arrivals counted, by the queue that has most.
     pub counted: u128,
+    /// Whether the burst is for a flow that there is not.
+    pub no_flow: bool,
 }
 
 /// What stands in the answers before a burst: it shows that nothing was written.
-const UNANSWERED: u64 = 0xA5A5_5A5A_A5A5_5A5A;
+pub const UNANSWERED: u64 = 0xA5A5_5A5A_A5A5_5A5A;
 
 /// The answer to an unknown kind, and to lengths that do not fit.
 const REFUSED: u32 = 120;
@@ -77,28 +103,27 @@ pub const LABELS: [&str; 26] = [
 const LENGTHS: usize = 9; // and the following: unknown kind, refused by 108, verdicts, departed, ...
 
 /// The labels that the kind must reach; an empty one stands for what cannot be.
-pub fn labels() -> Vec<String> {
-    let possible = LABELS.map(|name| if bursts::IMPOSSIBLE.contains(&name) { "" } else { name });
-    owned(&possible)
+pub fn labels<K: Covered>() -> Vec<String> {
+    owned(&LABELS.map(|name| if K::NO_BURST.contains(&name) { "" } else { name }))
 }
 
 /// Bursts of random lengths on random records.
-pub fn run(
+pub fn run<K: Bursting>(
     r: &mut Random,
     count: u64,
-    lender: &mut dyn Lender,
-    coverage: &mut Coverage,
-) -> Result<(), Failure> {
+    lender: &mut Lender,
+    coverage: &mut Coverage<K>,
+) -> Result<(), Failure<K>> {
     for _ in 0..count {
         let any = r.range(1, 40);
         let length = r.pick(&[0, 1, 2, 8, 31, 32, 33, 64, any, any]) as usize;
-        let (side, first, mut burst) = bursts::start(r, length);
+        let (side, first, mut burst) = start::<K>(r, length);
         let (answers, after) = one_by_one(r, &side, first, &mut burst, lender)?;
         coverage.calls += burst.answers as u64;
         note(coverage, (&side, &after), &burst, &answers);
         compare(&side, &burst, (0, &answers, &after), lender)?;
         if r.one_in(4) {
-            misfit(r, &mut burst);
+            misfit::<K>(r, &mut burst);
             coverage.note_burst(LENGTHS);
             let unanswered = vec![UNANSWERED; burst.answers];
             compare(&side, &burst, (REFUSED, &unanswered, &side), lender)?;
@@ -107,70 +132,125 @@ pub fn run(
     Ok(())
 }
 
+/// A side and its first call, sometimes with counts that have just room for so many arrivals or just do
+/// not; and an empty burst.
+fn start<K: Bursting>(r: &mut Random, length: usize) -> (SideOf<K>, CallOf<K>, Burst<K::To>) {
+    let (mut side, first) = K::burst_case(r);
+    if let Some(counts) = K::counts(&mut side.state, &first.to) {
+        if r.one_in(5) {
+            let n = length as u64;
+            let room = r.pick(&[n, n, n.saturating_sub(1), n + 1, n / 2]);
+            *counts = split(r, CLOCK_MAX - room);
+        }
+    }
+    let slots = K::view(&side.state, &first.to).slots;
+    let lent = match first.has_tables() {
+        true => first.lent,
+        false => Lent::random(r, side.handles.len(), slots, false),
+    };
+    (side, first, Burst { to: first.to, lent, calls: Vec::new(), answers: length })
+}
+
+/// The next call: one for which refusals may have been chosen, or one of steady traffic.
+fn next<K: Bursting>(
+    r: &mut Random,
+    side: &SideOf<K>,
+    burst: &Burst<K::To>,
+    wild: bool,
+) -> CallOf<K> {
+    let (what, lent) = (r.pick(K::IN_BURSTS), burst.lent);
+    let to = if K::EACH_TO { K::next_to(r, &burst.to) } else { burst.to };
+    if wild || r.one_in(20) {
+        let wanted = if r.one_in(3) { some_refusals::<K>(r, what) } else { Refusals::default() };
+        return Call { lent, ..call::<K>(r, what, to, side, &wanted) };
+    }
+    let q = K::view(&side.state, &to);
+    let clock = q.clock.saturating_add(r.spread(0, 2_000)).min(CLOCK_MAX).max(q.clock);
+    match what {
+        Do::Arrival => Call::arrival(to, lent, clock, K::packet(r, side, &to, false)),
+        Do::Departure => Call::departure(to, lent, clock),
+        Do::Tick => {
+            let due = clock.max(q.last.saturating_add(K::TICK_PERIOD));
+            Call::tick(to, due, K::steady_credits(r))
+        }
+    }
+}
+
+/// The numbers of a call, in the order of the C header; what its kind does not use is not 0.
+fn numbers<K: Bursting>(call: &CallOf<K>) -> Vec<u32> {
+    let ([handle, size, u], kind) = match call.what {
+        What::Arrival(p) => ([p.handle, p.size, p.u], u32::from(p.ecn)),
+        What::Departure => ([7, 65_537, u32::MAX], 2),
+        What::Tick(credits) => ([u32::MAX, credits, 2], 3),
+        What::Fresh(_) => unreachable!(),
+    };
+    let mut all = vec![call.clock as u32, (call.clock >> 32) as u32, handle, size, u];
+    all.extend(K::numbered(&call.to, kind));
+    all
+}
+
 /// Runs calls by the model and by the single entries, which must agree, and puts them into the burst.
 /// Gives the words of their answers, and what is left.
-fn one_by_one(
+fn one_by_one<K: Bursting>(
     r: &mut Random,
-    side: &Side,
-    first: Call,
-    burst: &mut Burst,
-    lender: &mut dyn Lender,
-) -> Result<(Vec<u64>, Side), Failure> {
-    let mut pair = Pair::new(side, lender);
+    side: &SideOf<K>,
+    first: CallOf<K>,
+    burst: &mut Burst<K::To>,
+    lender: &mut Lender,
+) -> Result<(Vec<u64>, SideOf<K>), Failure<K>> {
+    let mut pair = Pair::<K>::new(side, lender);
     let mut answers = Vec::new();
     let wild = r.one_in(3);
-    let mut next = first;
+    let mut call = first;
     for _ in 0..burst.answers {
         if r.one_in(20) {
             burst.calls.extend((0..5).map(|_| r.number() as u32));
-            burst.calls.push(r.pick(&bursts::UNKNOWN));
+            burst.calls.push(r.pick(K::UNKNOWN));
+            burst.calls.extend((6..K::NUMBERS).map(|_| r.number() as u32));
             answers.push(u64::from(REFUSED));
             continue;
         }
-        pair.call(&next)?;
-        burst.calls.extend(bursts::numbers(&next));
-        answers.push(word(&pair.library));
-        next = bursts::next(r, &pair.model, burst, wild);
+        pair.call(&call)?;
+        burst.calls.extend(numbers::<K>(&call));
+        answers.push(word::<K>(&pair.library));
+        call = next::<K>(r, &pair.model, burst, wild);
     }
     Ok((answers, pair.library.clone()))
 }
 
-/// An answer as a word: code, then size and handle of the packet that left.
-fn word(side: &Side) -> u64 {
-    let (handle, size) = side.packet;
-    u64::from(side.answer) | u64::from(size) << 16 | u64::from(handle) << 32
-}
-
-/// For how many arrivals counts have room: for as many as there are calls, for about as many, or half.
-pub fn room(r: &mut Random, calls: usize) -> u64 {
-    let n = calls as u64;
-    r.pick(&[n, n, n.saturating_sub(1), n + 1, n / 2])
-}
-
-/// The six numbers of a call, in the order of the C header.
-pub fn six(clock: u64, [handle, size, u]: [u32; 3], kind: u32) -> [u32; 6] {
-    [clock as u32, (clock >> 32) as u32, handle, size, u, kind]
+/// An answer as a word: code, then flow, size and handle of the packet that left.
+fn word<K: Kind>(side: &SideOf<K>) -> u64 {
+    let p = side.packet;
+    let low = u64::from(side.answer) | u64::from(p.flow) << 8;
+    low | u64::from(p.size) << 16 | u64::from(p.handle) << 32
 }
 
 /// Changes the burst so that its lengths do not fit.
-fn misfit(r: &mut Random, burst: &mut Burst) {
+fn misfit<K: Bursting>(r: &mut Random, burst: &mut Burst<K::To>) {
     match r.range(0, 3) {
-        0 => burst.calls.extend([0; 6]),
+        0 => burst.calls.extend(vec![0; K::NUMBERS]),
         1 => burst.calls.push(0),
         2 if !burst.calls.is_empty() => burst.calls.truncate(burst.calls.len() - 1),
         _ => burst.answers += 1,
     }
 }
 
+/// Prints a burst at which the library stops the program.
+fn print_before<K: Bursting>(side: &SideOf<K>, burst: &Burst<K::To>) {
+    println!("burst: {burst:?}");
+    println!("before: {:?}", fields::<K>(&side.state));
+}
+
 /// Runs the burst from this side: its answer, its answers and what it leaves are the expected ones.
-fn compare(
-    side: &Side,
-    burst: &Burst,
-    (answer, answers, after): (u32, &[u64], &Side),
-    lender: &mut dyn Lender,
-) -> Result<(), Failure> {
+fn compare<K: Bursting>(
+    side: &SideOf<K>,
+    burst: &Burst<K::To>,
+    (answer, answers, after): (u32, &[u64], &SideOf<K>),
+    lender: &mut Lender,
+) -> Result<(), Failure<K>> {
     let mut given = side.clone();
-    let (said, words_said) = lender.burst(&mut given, burst);
+    let run = || lender.burst::<K>(&mut given, burst);
+    let (said, words_said) = stop::watched(print_before::<K>, side, burst, run);
     if said != answer {
         return Err(broken(side, burst, format!("it answers {said}, not {answer}")));
     }
@@ -178,10 +258,14 @@ fn compare(
         let (is, should) = (words_said[i], answers[i]);
         return Err(broken(side, burst, format!("call {i} is answered {is:#x}, not {should:#x}")));
     }
-    for ((name, is), (_, should)) in bursts::fields(&given).into_iter().zip(bursts::fields(after)) {
-        if is != should {
-            return Err(broken(side, burst, format!("it leaves {name} {is}, not {should}")));
-        }
+    if given.state != after.state {
+        let (is, should) = (fields::<K>(&given.state), fields::<K>(&after.state));
+        let differs = is.into_iter().zip(should).find(|(is, should)| is != should);
+        return Err(broken(
+            side,
+            burst,
+            format!("a word that it leaves and that it should: {differs:?}"),
+        ));
     }
     if given.handles != after.handles || given.sizes != after.sizes {
         return Err(broken(side, burst, "it leaves other tables".to_string()));
@@ -189,16 +273,22 @@ fn compare(
     Ok(())
 }
 
-fn broken(side: &Side, burst: &Burst, sentence: String) -> Failure {
+fn broken<K: Bursting>(side: &SideOf<K>, burst: &Burst<K::To>, sentence: String) -> Failure<K> {
     Failure::Broken(format!(
         "a burst differs from its calls one by one: {sentence}; {:?}, {burst:?}",
-        bursts::fields(side)
+        fields::<K>(&side.state)
     ))
 }
 
 /// Counts what a burst reached, from one side to the other.
-fn note(coverage: &mut Coverage, (side, after): (&Side, &Side), burst: &Burst, answers: &[u64]) {
-    let Standing { formed, slots, calm, active, counted } = bursts::standing(side, burst);
+fn note<K: Bursting>(
+    coverage: &mut Coverage<K>,
+    (side, after): (&SideOf<K>, &SideOf<K>),
+    burst: &Burst<K::To>,
+    answers: &[u64],
+) {
+    let Standing { formed, calm, active, counted, no_flow } = K::standing(side, &burst.to);
+    let slots = K::view(&side.state, &burst.to).slots;
     let fit = burst.lent.handles as u64 == slots && burst.lent.sizes as u64 == slots;
     let needed = counted + burst.answers as u128;
     let ready = formed && fit && needed <= COUNTS_MAX;
@@ -212,21 +302,21 @@ fn note(coverage: &mut Coverage, (side, after): (&Side, &Side), burst: &Burst, a
         sound && needed == COUNTS_MAX,
         burst.answers == 0,
         burst.answers == 64,
-        burst.flow > 15,
+        no_flow,
     ];
     for label in (0..reached.len()).filter(|&label| reached[label]) {
         coverage.note_burst(label);
     }
-    let turned = bursts::standing(after, burst).active;
+    let turned = K::standing(after, &burst.to).active;
     if ready && turned != active {
         coverage.note_burst(if turned { 24 } else { 25 });
     }
-    for (call, answer) in burst.calls.chunks(6).zip(answers) {
-        note_call(coverage, ready, bursts::kind_of(call[5]), (answer & 0xffff) as usize);
+    for (call, answer) in burst.calls.chunks(K::NUMBERS).zip(answers) {
+        note_call(coverage, ready, K::kind_of(call[5]), (answer & 0xff) as usize);
     }
 }
 
-fn note_call(coverage: &mut Coverage, ready: bool, kind: Option<u32>, code: usize) {
+fn note_call<K: Bursting>(coverage: &mut Coverage<K>, ready: bool, kind: Option<u32>, code: usize) {
     let label = match (ready, kind, code) {
         (_, None, _) => 10,
         (_, _, 108) => 11,
@@ -238,39 +328,4 @@ fn note_call(coverage: &mut Coverage, ready: bool, kind: Option<u32>, code: usiz
         _ => return,
     };
     coverage.note_burst(label);
-}
-
-/// Runs a burst in memory of its own.
-pub fn directly(burst: &Burst, run: impl FnOnce(&[u32], &mut [u64]) -> u32) -> (u32, Vec<u64>) {
-    let mut answers = vec![UNANSWERED; burst.answers];
-    (run(&burst.calls, &mut answers), answers)
-}
-
-/// Memory beside guarded pages for calls, which are read-only during a burst, and for answers.
-pub struct Lists {
-    calls: Area,
-    answers: Area,
-}
-
-impl Lists {
-    pub fn new(at_end: bool) -> Lists {
-        Lists { calls: Area::new(1, at_end), answers: Area::new(1, at_end) }
-    }
-
-    /// Runs a burst there.
-    pub fn run(
-        &mut self,
-        burst: &Burst,
-        run: impl FnOnce(&[u32], &mut [u64]) -> u32,
-    ) -> (u32, Vec<u64>) {
-        let calls = self.calls.table(&burst.calls);
-        self.calls.access(READ);
-        let answers = self.answers.place(8 * burst.answers) as *mut u64;
-        let calls = unsafe { from_raw_parts(calls, burst.calls.len()) };
-        let answers = unsafe { from_raw_parts_mut(answers, burst.answers) };
-        answers.fill(UNANSWERED);
-        let answer = run(calls, answers);
-        self.calls.access(READ_WRITE);
-        (answer, answers.to_vec())
-    }
 }

@@ -57,11 +57,6 @@ impl Groups {
         self.0[group].counts[label] += 1;
     }
 
-    #[allow(dead_code)]
-    pub fn hit_all(&mut self, group: usize, labels: Vec<usize>) {
-        labels.into_iter().for_each(|label| self.hit(group, label));
-    }
-
     /// Counts each two refusals that apply to one call.
     pub fn hit_pairs(&mut self, group: usize, applying: &[bool]) {
         let numbers: Vec<usize> = (0..applying.len()).filter(|&n| applying[n]).collect();

@@ -1,18 +1,25 @@
-//! What the comparisons of all kinds of queue share. A kind has its own calls, model and coverage, and its
-//! program: modules `coverage`, `guard`, `report`, `runs`, `side` and `single`, and its name.
+//! The harness: what the comparisons of all kinds of queue share. A kind says by the traits of `kind`,
+//! `coverage`, `single`, `bursts` and `runs` what its records, calls and rules are.
 
-pub mod answers;
+#![allow(dead_code)]
+
 pub mod area;
+pub mod bursts;
+pub mod chains;
+pub mod coverage;
+pub mod flow;
 pub mod groups;
-pub mod lines;
+pub mod kind;
+pub mod lend;
 pub mod numbers;
-pub mod packets;
 pub mod pair;
 pub mod program;
 pub mod random;
+pub mod report;
 pub mod rounds;
-#[allow(dead_code)]
+pub mod runs;
 pub mod script;
+pub mod shadow;
+pub mod single;
 pub mod stop;
-#[allow(dead_code)]
 pub mod traffic;

@@ -3,7 +3,7 @@
 
 use super::random::Random;
 
-const CLOCK_MAX: u64 = 1 << 48;
+pub const CLOCK_MAX: u64 = 1 << 48;
 const SIZE_MAX: u64 = 65_535;
 
 /// How many elements of each table are lent to a call.
@@ -124,7 +124,6 @@ fn around((least, most): (u64, u64)) -> Vec<u64> {
 }
 
 /// Sound numbers, but for one or two of them, which are at, beside and far from the ends of their ranges.
-#[allow(dead_code)]
 pub fn around_ends<const N: usize, E>(
     ranges: [(u64, u64); N],
     sound: [u64; N],

@@ -1,46 +1,47 @@
 //! Model and library side by side: each call runs on both, and everything is compared.
 
-use super::random::Random;
+use super::kind::{CallOf, Kind, SideOf};
+use super::lend::Lender;
+use super::report;
 use super::stop;
-use crate::coverage::Coverage;
-use crate::report;
-use crate::side::{Call, Direct, Lender, Side};
 use crate::NAME;
 
 /// A call on which model and library differ, with all its inputs.
-pub struct Difference {
-    pub before: Side,
-    pub call: Call,
-    pub model: Side,
-    pub library: Side,
+pub struct Difference<K: Kind> {
+    pub before: SideOf<K>,
+    pub call: CallOf<K>,
+    pub model: SideOf<K>,
+    pub library: SideOf<K>,
 }
 
 /// Why a comparison ended before its time.
-pub enum Failure {
-    Difference(Box<Difference>),
+pub enum Failure<K: Kind> {
+    Difference(Box<Difference<K>>),
     /// A sentence on a rule of the long runs that the library breaks.
     Broken(String),
 }
 
-pub struct Pair<'a> {
-    pub before: Side,
-    pub model: Side,
-    pub library: Side,
-    lender: &'a mut dyn Lender,
+pub struct Pair<'a, K: Kind> {
+    pub before: SideOf<K>,
+    pub model: SideOf<K>,
+    pub library: SideOf<K>,
+    lender: &'a mut Lender,
 }
 
-impl<'a> Pair<'a> {
-    pub fn new(start: &Side, lender: &'a mut dyn Lender) -> Pair<'a> {
+impl<'a, K: Kind> Pair<'a, K> {
+    pub fn new(start: &SideOf<K>, lender: &'a mut Lender) -> Self {
         let (before, model, library) = (start.clone(), start.clone(), start.clone());
         Pair { before, model, library, lender }
     }
 
-    /// Runs one call on both sides and compares answer, state, tables and packet.
-    pub fn call(&mut self, call: &Call) -> Result<(), Failure> {
+    /// Runs one call on both sides and compares answer, record, tables and packet.
+    pub fn call(&mut self, call: &CallOf<K>) -> Result<(), Failure<K>> {
         self.before.copy_from(&self.model);
-        self.model.call_model(call);
-        let (lender, library) = (&mut self.lender, &mut self.library);
-        stop::watched(report::print_before, &self.before, call, || lender.call(library, call));
+        self.model.call_model::<K>(call);
+        let (lender, library) = (&mut *self.lender, &mut self.library);
+        stop::watched(report::print_before::<K>, &self.before, call, || {
+            lender.call::<K>(library, call)
+        });
         if self.model == self.library {
             return Ok(());
         }
@@ -51,37 +52,15 @@ impl<'a> Pair<'a> {
             library: self.library.clone(),
         })))
     }
-}
 
-impl Pair<'_> {
-    /// Runs one call on both sides, and counts what it reached.
-    pub fn noted(&mut self, call: &Call, coverage: &mut Coverage) -> Result<(), Failure> {
-        self.call(call)?;
-        coverage.note(&self.before, call, &self.library);
-        Ok(())
-    }
-
-    /// Runs this call and a few more in succession; a record that is refused is left at once.
-    pub fn several(
-        &mut self,
-        r: &mut Random,
-        first: Call,
-        coverage: &mut Coverage,
-        next: fn(&mut Random, &Call, &Side) -> Call,
-    ) -> Result<(), Failure> {
-        let mut call = first;
-        for _ in 0..1 + r.range(0, 4) {
-            self.noted(&call, coverage)?;
-            if self.library.answer == 102 {
-                break;
-            }
-            call = next(r, &first, &self.model);
-        }
-        Ok(())
+    /// Changes both sides by hand.
+    pub fn change(&mut self, change: impl Fn(&mut SideOf<K>)) {
+        change(&mut self.model);
+        change(&mut self.library);
     }
 }
 
-impl Failure {
+impl<K: Kind> Failure<K> {
     /// Prints the failure, and for a difference whether the one call alone gives it again.
     pub fn print(&self, place: &str) {
         match self {
@@ -95,11 +74,11 @@ impl Failure {
     }
 }
 
-impl Difference {
+impl<K: Kind> Difference<K> {
     /// Runs the one call again, alone, in memory of its own.
     fn again(&self) -> &'static str {
-        let mut lender = Direct;
-        let mut pair = Pair::new(&self.before, &mut lender);
+        let mut lender = Lender::own();
+        let mut pair = Pair::<K>::new(&self.before, &mut lender);
         match pair.call(&self.call) {
             Err(Failure::Difference(d)) if d.library == self.library => {
                 "This one call, run alone, gives the same difference."

@@ -1,45 +1,41 @@
 //! The program of a comparison: single calls, long runs and the papers' figures, on the fixed seed, on
 //! new seeds, or in guarded memory.
 
-use super::pair::{Failure, Pair};
+use super::bursts::{self, Bursting};
+use super::coverage::Coverage;
+use super::lend::Lender;
+use super::pair::Failure;
 use super::random::Random;
 use super::rounds;
+use super::runs::{self, Running};
+use super::single;
 use super::stop;
-use crate::coverage::Coverage;
-use crate::guard::Guarded;
-use crate::side::{Direct, Lender};
-use crate::{runs, single, NAME};
+use crate::NAME;
 use std::process::exit;
 
-/// Random states of a batch of single calls.
+/// Random records of a batch of single calls.
 const STARTS: u64 = 1_000;
 
-pub type Bursts = fn(&mut Random, u64, &mut dyn Lender, &mut Coverage) -> Result<(), Failure>;
-
 /// How much of a kind of queue is compared.
-pub struct Round {
+pub struct Round<K: Running> {
     pub seed: u64,
     pub batches: u64,
     pub runs: u64,
     /// Batches and runs in guarded memory.
     pub guarded: (u64, u64),
-    /// Bursts of calls, if the kind has them: so many of them.
-    pub bursts: Option<Bursts>,
     /// The papers' figures: what they are called, and their run, which gives how many were checked.
-    pub figures: (&'static str, fn(&mut dyn Lender) -> Result<u64, Failure>),
-    /// What is printed before the number of those checks, if anything.
-    pub checks: Option<&'static str>,
+    pub figures: (&'static str, fn(&mut Lender) -> Result<u64, Failure<K>>),
 }
 
 /// What the single calls and the long runs reached, and how many figures were met.
-struct Reached {
-    single: Coverage,
-    runs: Coverage,
+struct Reached<K: Running> {
+    single: Coverage<K>,
+    runs: Coverage<K>,
     figures: u64,
 }
 
-impl Reached {
-    fn new() -> Reached {
+impl<K: Running> Reached<K> {
+    fn new() -> Self {
         Reached { single: Coverage::new(false), runs: Coverage::new(true), figures: 0 }
     }
 
@@ -47,14 +43,12 @@ impl Reached {
         self.single.calls + self.runs.calls
     }
 
-    fn print(&self, all: bool, checks: Option<&str>) {
+    fn print(&self, all: bool, figures: &str) {
         println!("single calls: {}", self.single.calls);
         self.single.print(false, all);
         println!("calls of long runs: {}", self.runs.calls);
         self.runs.print(true, all);
-        if let Some(checks) = checks {
-            println!("{checks}: {}", self.figures);
-        }
+        println!("checks of {figures}: {}", self.figures);
     }
 
     /// Says what was not reached; whether there is nothing of it.
@@ -78,7 +72,7 @@ impl Reached {
 }
 
 /// Runs one part of a round, and ends the program with 1 if it fails.
-fn require(place: &str, run: impl FnOnce() -> Result<(), Failure>) {
+fn require<K: Running>(place: &str, run: impl FnOnce() -> Result<(), Failure<K>>) {
     stop::set_place(place);
     if let Err(failure) = run() {
         failure.print(place);
@@ -92,24 +86,24 @@ fn part(seed: u64, part: u64) -> Random {
     Random::new(mixed.number())
 }
 
-impl Round {
+impl<K: Running + Bursting> Round<K> {
     /// All parts of one round with the memory of the given lender.
     fn run(
         &self,
         seed: u64,
         (batches, runs): (u64, u64),
-        lender: &mut dyn Lender,
-        reached: &mut Reached,
+        lender: &mut Lender,
+        reached: &mut Reached<K>,
     ) {
         let place = format!("fresh calls (seed {seed})");
         require(&place, || single::fresh_calls(lender, &mut reached.single));
         for batch in 0..batches {
             let place = format!("single calls, batch {batch} of seed {seed}");
             let mut r = part(seed, 2 * batch);
-            require(&place, || self.batch(&mut r, lender, &mut reached.single));
+            require(&place, || batch_of(&mut r, lender, &mut reached.single));
         }
         for run in 0..runs {
-            let place = format!("{} of seed {seed}", runs::name(run));
+            let place = format!("{} of seed {seed}", runs::name::<K>(run));
             let mut r = part(seed, 2 * run + 1);
             require(&place, || runs::run(&mut r, run, lender, &mut reached.runs));
         }
@@ -120,27 +114,10 @@ impl Round {
         });
     }
 
-    /// Random records, each with a few calls in succession, then a few bursts.
-    fn batch(
-        &self,
-        r: &mut Random,
-        lender: &mut dyn Lender,
-        coverage: &mut Coverage,
-    ) -> Result<(), Failure> {
-        for _ in 0..STARTS {
-            let (side, first) = single::case(r);
-            Pair::new(&side, lender).several(r, first, coverage, single::next)?;
-        }
-        match self.bursts {
-            Some(run) => run(r, STARTS / 20, lender, coverage),
-            None => Ok(()),
-        }
-    }
-
     fn once(&self, seed: u64, all: bool) {
         let mut reached = Reached::new();
-        self.run(seed, (self.batches, self.runs), &mut Direct, &mut reached);
-        reached.print(all, self.checks);
+        self.run(seed, (self.batches, self.runs), &mut Lender::own(), &mut reached);
+        reached.print(all, self.figures.0);
         reached.require_all();
         println!("{NAME}: {} calls, no difference", reached.calls());
     }
@@ -149,9 +126,9 @@ impl Round {
     fn soak(&self, seconds: u64) {
         let mut reached = Reached::new();
         rounds::soak(seconds, |seed| {
-            self.run(seed, (self.batches, self.runs), &mut Direct, &mut reached)
+            self.run(seed, (self.batches, self.runs), &mut Lender::own(), &mut reached)
         });
-        reached.print(false, self.checks);
+        reached.print(false, self.figures.0);
         reached.all();
         println!("{NAME}: soak of {seconds} seconds, {} calls, no difference", reached.calls());
     }
@@ -162,7 +139,7 @@ impl Round {
             let place = if at_end { "before" } else { "after" };
             println!("memory right {place} a guarded page, tables of whole pages between two");
             let mut reached = Reached::new();
-            self.run(self.seed, self.guarded, &mut Guarded::new(at_end), &mut reached);
+            self.run(self.seed, self.guarded, &mut Lender::guarded(at_end), &mut reached);
             reached.require_all();
             calls += reached.calls();
         }
@@ -181,6 +158,18 @@ impl Round {
             _ => misunderstood(),
         });
     }
+}
+
+/// Random records, each with a few calls in succession, then a few bursts.
+fn batch_of<K: Bursting>(
+    r: &mut Random,
+    lender: &mut Lender,
+    coverage: &mut Coverage<K>,
+) -> Result<(), Failure<K>> {
+    for _ in 0..STARTS {
+        single::several(r, lender, coverage)?;
+    }
+    bursts::run(r, STARTS / 20, lender, coverage)
 }
 
 fn misunderstood() -> ! {

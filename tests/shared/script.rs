@@ -34,3 +34,14 @@ pub fn number(word: &str) -> Option<u64> {
     let digits = !word.is_empty() && word.bytes().all(|byte| byte.is_ascii_digit());
     digits.then(|| word.parse().ok()).flatten()
 }
+
+/// An answer as the pages write it.
+pub fn answer_word(place: usize, answer: u32) -> String {
+    const VERDICTS: [&str; 5] =
+        ["enqueued", "marked", "dropped-bytes", "dropped-slots", "dropped-early"];
+    match (place, answer) {
+        (_, 101..=110) => format!("refused {}", answer - 100),
+        (1, _) => VERDICTS[answer as usize].to_string(),
+        (place, _) => ["made", "", "departed", "ticked"][place].to_string(),
+    }
+}

@@ -1,16 +1,16 @@
 //! Ends of ranges in well-formed records, and ends of tables.
 
-use super::Found;
-use crate::call::{Call, Kind};
 use crate::flows::Flow;
+use crate::kind::{Call, Side};
 use crate::model::formed::verdict_sum;
 use crate::shared::area::PAGE;
-use crate::side::Side;
+use crate::shared::coverage::Found;
+use crate::shared::kind::What;
 
 #[rustfmt::skip]
 pub fn ends(before: &Side, call: &Call, _after: &Side) -> Found {
-    let (r, c) = (&before.record, &before.record.common);
-    let size = if let Kind::Arrival { packet, .. } = call.kind { packet.size } else { 2 };
+    let (r, c) = (&before.state, &before.state.common);
+    let size = if let What::Arrival(packet) = call.what { packet.size } else { 2 };
     let sum = verdict_sum(&r.queue(0));
     let any = |holds: &dyn Fn(&Flow) -> bool| r.flows.iter().any(holds);
     vec![
@@ -52,11 +52,11 @@ pub fn ends(before: &Side, call: &Call, _after: &Side) -> Found {
 /// right beside both of their ends.
 #[rustfmt::skip]
 pub fn whole_pages(before: &Side, call: &Call, after: &Side) -> Found {
-    let slots = before.record.common.slots;
+    let slots = before.state.common.slots;
     let whole = after.answer < 100 && slots as usize * 4 % PAGE == 0;
-    let arrives = matches!(call.kind, Kind::Arrival { .. });
-    let flow = if arrives { after.flow } else { after.packet[0] } as usize;
-    let (f, now) = (&before.record.flows[flow], &after.record.flows[flow]);
+    let arrives = matches!(call.what, What::Arrival(_));
+    let flow = if arrives { after.flow } else { after.packet.flow } as usize;
+    let (f, now) = (&before.state.flows[flow], &after.state.flows[flow]);
     let wrote = whole && now.count > f.count;
     let left = whole && now.count < f.count;
     vec![

@@ -1,13 +1,12 @@
 //! What a call does to the lists and deficits.
 
-use super::Found;
-use crate::call::Call;
 use crate::flows::schedule::choose;
-use crate::side::Side;
+use crate::kind::{Call, Side};
+use crate::shared::coverage::Found;
 
 #[rustfmt::skip]
 pub fn arrival(before: &Side, _call: &Call, after: &Side) -> Found {
-    let (r, c, now, flow) = (&before.record, &before.record.common, &after.record.common, after.flow as usize);
+    let (r, c, now, flow) = (&before.state, &before.state.common, &after.state.common, after.flow as usize);
     let admitted = after.answer < 2;
     let enters = now.listed > c.listed;
     let stays = admitted && !enters;
@@ -33,7 +32,7 @@ pub fn arrival(before: &Side, _call: &Call, after: &Side) -> Found {
 
 #[rustfmt::skip]
 pub fn choosing(before: &Side, _call: &Call, after: &Side) -> Found {
-    let (r, c, now) = (&before.record, &before.record.common, &after.record.common);
+    let (r, c, now) = (&before.state, &before.state.common, &after.state.common);
     let choice = choose(r);
     let (total, [new_owes, old_owes, new_empty, old_empty]) = (choice.total(), choice.moves);
     let from_new = !choice.schedule.new_is_empty();
@@ -51,18 +50,18 @@ pub fn choosing(before: &Side, _call: &Call, after: &Side) -> Found {
         ("an emptied old flow leaves", old_empty > 0),
         ("the only old flow goes to the end", old_owes > 0 && now.listed == 1),
         ("chosen after a quantum or more", r.deficit(choice.flow) < 0),
-        ("the deficit becomes negative", after.record.deficit(choice.flow) < 0),
-        ("the deficit stays not negative", after.record.deficit(choice.flow) >= 0),
+        ("the deficit becomes negative", after.state.deficit(choice.flow) < 0),
+        ("the deficit stays not negative", after.state.deficit(choice.flow) >= 0),
         ("chosen with the whole quantum", deficit == 1_514),
         ("`first` goes around the end", now.first < c.first),
-        ("the flow is left empty and stays listed", after.record.flows[choice.flow].count == 0),
+        ("the flow is left empty and stays listed", after.state.flows[choice.flow].count == 0),
         ("more than half of the flows listed", c.listed > 32),
     ]
 }
 
 #[rustfmt::skip]
 pub fn choosing_edges(before: &Side, _call: &Call, after: &Side) -> Found {
-    let (r, c) = (&before.record, &before.record.common);
+    let (r, c) = (&before.state, &before.state.common);
     let choice = choose(r);
     let [new_owes, old_owes, new_empty, old_empty] = choice.moves;
     let (total, deficit) = (choice.total(), choice.schedule.deficits[choice.flow]);
@@ -74,7 +73,7 @@ pub fn choosing_edges(before: &Side, _call: &Call, after: &Side) -> Found {
         ("chosen at deficit 0", deficit == 0 && r.deficit(choice.flow) == 0),
         ("chosen at 0 after a quantum", deficit == 0 && r.deficit(choice.flow) == -1_514),
         ("deficit -1 is passed", r.deficit(choice.flow) == -1),
-        ("deficit becomes -65,535", after.record.deficit(choice.flow) == -65_535),
+        ("deficit becomes -65,535", after.state.deficit(choice.flow) == -65_535),
         ("64 listed, `first` 0", c.listed == 64 && c.first == 0),
         ("64 listed, `first` 63", c.listed == 64 && c.first == 63),
         ("64 listed, an old flow goes to its own place", c.listed == 64 && old_owes > 0 && old_empty == 0),

@@ -1,14 +1,13 @@
 //! What refusals 6 and 9 are given for.
 
-use super::Found;
-use crate::call::Call;
 use crate::flows::schedule::choose;
+use crate::kind::{Call, Side};
 use crate::model::store::{link_of, size_of};
-use crate::side::Side;
+use crate::shared::coverage::Found;
 
 #[rustfmt::skip]
 pub fn arrival(before: &Side, _call: &Call, after: &Side) -> Found {
-    let (c, f) = (&before.record.common, &before.record.flows[after.flow as usize]);
+    let (c, f) = (&before.state.common, &before.state.flows[after.flow as usize]);
     let link = link_of(before.sizes[c.freed as usize]);
     vec![
         ("link is the number of slots", link == c.slots),
@@ -24,7 +23,7 @@ pub fn arrival(before: &Side, _call: &Call, after: &Side) -> Found {
 
 #[rustfmt::skip]
 pub fn departure(before: &Side, _call: &Call, after: &Side) -> Found {
-    let (r, c) = (&before.record, &before.record.common);
+    let (r, c) = (&before.state, &before.state.common);
     let choice = choose(r);
     let q = r.queue(choice.flow);
     let nine = after.answer == 109;

@@ -1,20 +1,19 @@
 //! What an accepted call does to slots, places and links.
 
-use super::Found;
-use crate::call::Call;
+use crate::kind::{Call, Side};
 use crate::model::store::{link_of, size_of};
-use crate::side::Side;
+use crate::shared::coverage::Found;
 
 /// Whether another flow that holds a packet has its head at this place.
 fn heads(side: &Side, own: usize, place: u64) -> bool {
-    let flows = side.record.flows.iter().enumerate();
+    let flows = side.state.flows.iter().enumerate();
     flows.filter(|(flow, f)| *flow != own && f.count > 0).any(|(_, f)| f.head == place)
 }
 
 #[rustfmt::skip]
 pub fn entering(before: &Side, _call: &Call, after: &Side) -> Found {
-    let (c, now) = (&before.record.common, &after.record.common);
-    let f = &before.record.flows[after.flow as usize];
+    let (c, now) = (&before.state.common, &after.state.common);
+    let f = &before.state.flows[after.flow as usize];
     let admitted = after.answer < 2;
     vec![
         ("place never taken before", admitted && c.spare == 0),
@@ -33,10 +32,10 @@ pub fn entering(before: &Side, _call: &Call, after: &Side) -> Found {
 #[rustfmt::skip]
 pub fn entering_damaged(before: &Side, _call: &Call, after: &Side) -> Found {
     let flow = after.flow as usize;
-    let (c, f) = (&before.record.common, &before.record.flows[flow]);
+    let (c, f) = (&before.state.common, &before.state.flows[flow]);
     let admitted = after.answer < 2;
     let link = link_of(before.sizes[c.freed as usize]);
-    let place = after.record.flows[flow].tail;
+    let place = after.state.flows[flow].tail;
     let follows = admitted && c.spare >= 2;
     vec![
         ("one freed, its link leads to no slot", admitted && c.spare == 1 && link >= c.slots),
@@ -57,8 +56,8 @@ pub fn entering_damaged(before: &Side, _call: &Call, after: &Side) -> Found {
 
 #[rustfmt::skip]
 pub fn leaving(before: &Side, _call: &Call, after: &Side) -> Found {
-    let flow = after.packet[0] as usize;
-    let (c, f, now) = (&before.record.common, &before.record.flows[flow], &after.record.flows[flow]);
+    let flow = after.packet.flow as usize;
+    let (c, f, now) = (&before.state.common, &before.state.flows[flow], &after.state.flows[flow]);
     vec![
         ("the only packet leaves", f.count == 1),
         ("one of two leaves", f.count == 2),
@@ -74,8 +73,8 @@ pub fn leaving(before: &Side, _call: &Call, after: &Side) -> Found {
 
 #[rustfmt::skip]
 pub fn leaving_damaged(before: &Side, _call: &Call, after: &Side) -> Found {
-    let flow = after.packet[0] as usize;
-    let (c, f) = (&before.record.common, &before.record.flows[flow]);
+    let flow = after.packet.flow as usize;
+    let (c, f) = (&before.state.common, &before.state.flows[flow]);
     let link = link_of(before.sizes[f.head as usize]);
     vec![
         ("only packet, its link leads to no slot", f.count == 1 && link >= c.slots),

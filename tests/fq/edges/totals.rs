@@ -1,24 +1,23 @@
 //! Rules 1 and 2 by the totals, and what of an arrival's rules is the flow's own.
 
-use super::{packet, Found};
-use crate::call::Call;
 use crate::flows::rules::decide;
+use crate::kind::{arriving, Call, Side};
 use crate::model::arrival::Rule;
 use crate::model::numbers::*;
-use crate::side::Side;
+use crate::shared::coverage::Found;
 
 #[rustfmt::skip]
 pub fn arrival(before: &Side, call: &Call, after: &Side) -> Found {
-    let (c, flow) = (&before.record.common, after.flow as usize);
-    let f = &before.record.flows[flow];
-    let size = u64::from(packet(call).size);
+    let (c, flow) = (&before.state.common, after.flow as usize);
+    let f = &before.state.flows[flow];
+    let size = u64::from(call.packet().size);
     let admitted = after.answer < 2;
-    let rule = decide(&before.record, flow, packet(call)).rule;
+    let rule = decide(&before.state, flow, &arriving(call.packet())).rule;
     vec![
         ("no room, the flow's own bytes are few", after.answer == 2 && f.bytes + size <= c.buffer / 2),
         ("no slot, the flow holds no packet", after.answer == 3 && f.count == 0),
         ("no slot, the flow holds a packet", after.answer == 3 && f.count > 0),
-        ("last slot taken", admitted && after.record.common.count == c.slots),
+        ("last slot taken", admitted && after.state.common.count == c.slots),
         ("small flow among many bytes", rule == Rule::SmallQueue && c.bytes > 2 * SMALL_QUEUE),
         ("beside other flows", admitted && f.bytes < c.bytes),
         ("early of one flow among others", after.answer == 4 && f.bytes < c.bytes),
@@ -32,9 +31,9 @@ pub fn arrival(before: &Side, call: &Call, after: &Side) -> Found {
 
 #[rustfmt::skip]
 pub fn arrival_edges(before: &Side, call: &Call, after: &Side) -> Found {
-    let (c, flow) = (&before.record.common, after.flow as usize);
-    let f = &before.record.flows[flow];
-    let size = u64::from(packet(call).size);
+    let (c, flow) = (&before.state.common, after.flow as usize);
+    let f = &before.state.flows[flow];
+    let size = u64::from(call.packet().size);
     let others = c.bytes > f.bytes;
     let full = c.count == c.slots;
     vec![

@@ -1,9 +1,10 @@
 //! What happens at an accepted arrival.
 
-use super::Found;
+use crate::kind::{arriving, Side};
 use crate::model::numbers::*;
-use crate::model::{self, Arriving, State};
-use crate::side::Side;
+use crate::model::{self, State};
+use crate::shared::coverage::Found;
+use crate::shared::kind::Arriving;
 
 /// What single calls and long runs must both reach.
 #[rustfmt::skip]
@@ -41,7 +42,7 @@ pub fn events(before: &State, packet: &Arriving, after: &Side) -> Found {
 #[rustfmt::skip]
 pub fn early_edges(before: &State, packet: &Arriving, after: &Side) -> Found {
     let (s, now) = (before, &after.state);
-    let rule = model::decide(&mut s.clone(), packet).rule;
+    let rule = model::decide(&mut s.clone(), &arriving(packet)).rule;
     let room = s.settings.buffer - s.bytes;
     let size = u64::from(packet.size);
     let third = 3 * s.bytes;
@@ -91,7 +92,7 @@ pub fn early_edges(before: &State, packet: &Arriving, after: &Side) -> Found {
 #[rustfmt::skip]
 pub fn late_edges(before: &State, packet: &Arriving, after: &Side) -> Found {
     let s = before;
-    let model::Decision { rule, scaled, sum } = model::decide(&mut s.clone(), packet);
+    let model::Decision { rule, scaled, sum } = model::decide(&mut s.clone(), &arriving(packet));
     let (target, p, u) = (s.settings.target, s.probability, u64::from(packet.u));
     let product = p * u64::from(packet.size);
     let unlimited = product / 1_024;

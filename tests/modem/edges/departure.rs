@@ -1,8 +1,8 @@
 //! What happens at a departure.
 
-use super::Found;
+use crate::kind::Side;
 use crate::model::State;
-use crate::side::Side;
+use crate::shared::coverage::Found;
 
 /// What single calls and long runs must both reach, at accepted departures.
 pub fn events(before: &State, after: &State) -> Found {

@@ -1,20 +1,17 @@
 //! The ends of ranges at which a well-formed record and a call stand.
 
-use super::Found;
-use crate::call::{Call, Kind};
+use crate::kind::{Call, Side};
 use crate::model::numbers::*;
 use crate::model::{self, State};
-use crate::side::Side;
+use crate::shared::coverage::Found;
+use crate::shared::kind::What;
 
 #[rustfmt::skip]
 pub fn ends(before: &Side, call: &Call) -> Found {
     let s = &before.state;
     let set = &s.settings;
-    let size = match call.kind {
-        Kind::Arrival { packet, .. } => packet.size,
-        _ => 0,
-    };
-    let sum = model::row_sum(&model::row(&before.counts, call.flow));
+    let size = if let What::Arrival(packet) = call.what { packet.size } else { 0 };
+    let sum = model::row_sum(&model::row(&s.counts, call.to));
     vec![
         ("target 1,000", set.target == 1_000), ("target 100,000", set.target == 100_000),
         ("buffer 1", set.buffer == 1), ("buffer 16,777,216", set.buffer == 16_777_216),
@@ -46,7 +43,7 @@ pub fn whole_pages(before: &State, call: &Call, after: &State) -> Found {
     let slots = before.settings.slots;
     let whole = slots * 4 % crate::shared::area::PAGE as u64 == 0;
     let wrote = whole && after.count > before.count;
-    let read = whole && matches!(call.kind, Kind::Departure { .. });
+    let read = whole && matches!(call.what, What::Departure);
     let tail = (before.first + before.count) % slots;
     vec![
         ("first element written", wrote && tail == 0),

@@ -5,6 +5,3 @@ pub mod arrival;
 pub mod departure;
 pub mod ends;
 pub mod tick;
-
-/// Names, each with whether it happened.
-pub type Found = Vec<(&'static str, bool)>;

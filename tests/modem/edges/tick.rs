@@ -1,8 +1,8 @@
 //! What happens at an accepted tick.
 
-use super::Found;
 use crate::model::numbers::*;
 use crate::model::{self, State};
+use crate::shared::coverage::Found;
 
 /// What single calls and long runs must both reach.
 #[rustfmt::skip]

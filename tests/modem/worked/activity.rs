@@ -1,10 +1,9 @@
 //! W12 to W15: allowance, activity and reset time after a tick.
 
-use super::{with_delay, Worked, FLOW};
-use crate::call::Call;
+use super::{with_delay, Failure, Worked, FLOW};
+use crate::kind::Call;
 use crate::model::numbers::{ACTIVE, INACTIVE, QUIESCENT};
 use crate::model::State;
-use crate::shared::pair::Failure;
 
 /// Allowance before and after a tick.
 const ALLOWANCES: [(u64, u64); 4] = [(142_000, 126_000), (16_001, 1), (16_000, 0), (14_000, 0)];
@@ -63,7 +62,7 @@ fn quiet_ticks(worked: &mut Worked) -> Result<(), Failure> {
             _ => INACTIVE,
         };
         worked.expect("the activity", after.state.activity, figure)?;
-        state = after.state;
+        state = after.state.record;
     }
     Ok(())
 }

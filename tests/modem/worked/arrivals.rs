@@ -1,10 +1,10 @@
 //! W16 to W25: verdict, deciding rule, accumulated probability and activity of an arrival.
 
-use super::{with_delay, Worked, FLOW};
-use crate::call::{Call, Lent};
+use super::{with_delay, Failure, Worked, FLOW};
+use crate::kind::{arriving, packet, Call};
 use crate::model::numbers::{ACTIVE, INACTIVE, QUIESCENT, WHOLE};
-use crate::model::{self, Arriving, State};
-use crate::shared::pair::Failure;
+use crate::model::{self, State};
+use crate::shared::kind::Lent;
 
 /// An arrival: what is said of the state before it, and of the packet.
 #[derive(Clone, Copy)]
@@ -111,10 +111,9 @@ fn state(case: &Case) -> State {
     state
 }
 
-fn arrival(case: &Case) -> (Call, Arriving) {
-    let packet = Arriving { handle: 77, size: case.size, u: case.u };
+fn arrival(case: &Case) -> Call {
     let lent = Lent::both(case.slots as usize);
-    (Call::arrival(FLOW, lent, 1_000_000, packet), packet)
+    Call::arrival(FLOW, lent, 1_000_000, packet(77, case.size, case.u))
 }
 
 fn one(
@@ -123,7 +122,7 @@ fn one(
     rule: usize,
     (activity, allowance, accumulated): (u64, u64, u64),
 ) -> Result<(), Failure> {
-    let (call, packet) = arrival(case);
+    let call = arrival(case);
     let after = worked.call(state(case), call)?;
     let verdict = match rule {
         1 => 2,
@@ -135,7 +134,7 @@ fn one(
     worked.expect("the activity", after.state.activity, activity)?;
     worked.expect("the allowance", after.state.allowance, allowance)?;
     worked.expect("the accumulated probability", after.state.accumulated, accumulated)?;
-    let found = model::decide(&mut state(case), &packet).rule;
+    let found = model::decide(&mut state(case), &arriving(call.packet())).rule;
     worked.expect("the model's rule", found as u64, rule as u64)
 }
 
@@ -145,7 +144,7 @@ fn allowance_runs(worked: &mut Worked) -> Result<(), Failure> {
     for p in [0, WHOLE] {
         let case = Case { p, accumulated: 7, ..BASE };
         let before = State { allowance: 1, ..state(&case) };
-        let after = worked.call(before, arrival(&case).0)?;
+        let after = worked.call(before, arrival(&case))?;
         worked.expect("the verdict", u64::from(after.answer), 0)?;
         worked.expect("the accumulated probability", after.state.accumulated, 7)?;
     }

@@ -1,9 +1,8 @@
 //! W1 and W2: the delay.
 
-use super::{with_delay, Worked, FLOW};
-use crate::call::Call;
+use super::{with_delay, Failure, Worked, FLOW};
+use crate::kind::Call;
 use crate::model::State;
-use crate::shared::pair::Failure;
 
 /// Name, bytes, peak, sustained, credits, delay.
 const DELAYS: [(&str, u64, u64, u64, u32, u64); 9] = [

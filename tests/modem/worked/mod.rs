@@ -9,10 +9,13 @@ mod refusals;
 mod steps;
 mod whole_case;
 
-use crate::call::Call;
+use crate::kind::{self, Call, Modem, Side};
 use crate::model::{Counts, Settings, State};
-use crate::shared::pair::{Failure, Pair};
-use crate::side::{Lender, Side};
+use crate::shared::lend::Lender;
+use crate::shared::pair;
+use crate::shared::pair::Pair;
+
+type Failure = pair::Failure<Modem>;
 
 /// The slots of the records here, but where a number asks for others.
 const SLOTS: u64 = 256;
@@ -22,7 +25,7 @@ const FLOW: u32 = 9;
 
 /// Runs single calls and checks what the page says of them.
 pub struct Worked<'a> {
-    lender: &'a mut dyn Lender,
+    lender: &'a mut Lender,
     /// The number on the page.
     name: &'static str,
     checks: u64,
@@ -36,7 +39,7 @@ impl Worked<'_> {
 
     fn call_with(&mut self, state: State, counts: Counts, call: Call) -> Result<Side, Failure> {
         let length = SLOTS as usize;
-        let start = Side::new(state, counts, vec![1; length], vec![1_500; length]);
+        let start = kind::side(state, counts, vec![1; length], vec![1_500; length]);
         let mut pair = Pair::new(&start, self.lender);
         pair.call(&call)?;
         Ok(pair.library)
@@ -74,7 +77,7 @@ fn with_delay(target: u64, delay: u64, old_delay: u64) -> State {
 }
 
 /// All of them; gives the number of checks.
-pub fn run(lender: &mut dyn Lender) -> Result<u64, Failure> {
+pub fn run(lender: &mut Lender) -> Result<u64, Failure> {
     let mut worked = Worked { lender, name: "", checks: 0 };
     delays::run(&mut worked)?;
     steps::run(&mut worked)?;

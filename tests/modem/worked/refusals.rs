@@ -1,9 +1,9 @@
 //! W26 to W28: refusals.
 
-use super::{other_rows, with_delay, Worked, FLOW};
-use crate::call::{Call, Lent};
-use crate::model::{Arriving, Settings, State};
-use crate::shared::pair::Failure;
+use super::{other_rows, with_delay, Failure, Worked, FLOW};
+use crate::kind::{packet, Call};
+use crate::model::{Settings, State};
+use crate::shared::kind::Lent;
 
 const LIMIT: u64 = 1 << 48;
 
@@ -44,7 +44,7 @@ fn ticks(worked: &mut Worked) -> Result<(), Failure> {
 
 fn counts(worked: &mut Worked) -> Result<(), Failure> {
     worked.name = "W27";
-    let packet = Arriving { handle: 7, size: 100, u: 0 };
+    let packet = packet(7, 100, 0);
     for (sum, arrival, tick) in [(LIMIT - 1, 0, 0), (LIMIT, 108, 0), (LIMIT + 1, 102, 102)] {
         let state = with_delay(10_000, 0, 0);
         let lent = Lent::both(state.settings.slots as usize);
@@ -69,8 +69,8 @@ fn fresh(worked: &mut Worked) -> Result<(), Failure> {
             let answer = if figure == 0 { 0 } else { 100 + figure };
             worked.expect("the answer", u64::from(after.answer), answer)?;
             let cleared = if figure == 0 { 0 } else { 7 };
-            worked.expect("a count of row 15", after.counts[15][4], cleared)?;
-            worked.expect("a count of row 14", after.counts[14][4], 7)?;
+            worked.expect("a count of row 15", after.state.counts[15][4], cleared)?;
+            worked.expect("a count of row 14", after.state.counts[14][4], 7)?;
             worked.expect(
                 "the target",
                 after.state.settings.target,

@@ -1,9 +1,8 @@
 //! W3 to W11 and the table of bands: the probability after a tick.
 
-use super::{with_delay, Worked, FLOW};
-use crate::call::Call;
+use super::{with_delay, Failure, Worked, FLOW};
+use crate::kind::Call;
 use crate::model::{self, State};
-use crate::shared::pair::Failure;
 
 /// Name, target, probability, delay, old delay; the step before its cap, the probability after.
 #[rustfmt::skip]

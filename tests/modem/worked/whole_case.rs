@@ -1,10 +1,10 @@
 //! The page's whole case: flow 3, call by call, each with the state after it.
 
-use super::Worked;
-use crate::call::{Call, Lent};
-use crate::model::{Arriving, Settings, State};
-use crate::shared::pair::{Failure, Pair};
-use crate::side::Side;
+use super::{Failure, Worked};
+use crate::kind::{packet, side, Call};
+use crate::model::{Settings, State};
+use crate::shared::kind::Lent;
+use crate::shared::pair::Pair;
 
 /// Probability, accumulated, old delay, activity, allowance and bytes after a call.
 type After = (u64, u64, u64, u64, u64, u64);
@@ -37,7 +37,7 @@ const SETTINGS: Settings =
 
 pub fn run(worked: &mut Worked) -> Result<(), Failure> {
     worked.name = "the whole case";
-    let start = Side::new(State::default(), [[9; 5]; 16], vec![0; 64], vec![0; 64]);
+    let start = side(State::default(), [[9; 5]; 16], vec![0; 64], vec![0; 64]);
     let mut steps = Vec::new();
     let mut handle = 100;
     for (step, after) in STEPS {
@@ -45,7 +45,7 @@ pub fn run(worked: &mut Worked) -> Result<(), Failure> {
             Step::Arrive(packets, clock, answer) => {
                 for last in (0..packets).rev() {
                     handle += 1;
-                    let packet = Arriving { handle, size: 1_500, u: 0 };
+                    let packet = packet(handle, 1_500, 0);
                     let call = Call::arrival(3, Lent::both(64), clock, packet);
                     steps.push((call, answer, (0, 0), (last == 0).then_some(after)));
                 }
@@ -66,11 +66,10 @@ pub fn run(worked: &mut Worked) -> Result<(), Failure> {
         for (call, answer, packet, after) in steps {
             pair.call(&call)?;
             let found = &pair.library;
-            let same = found.answer == answer && found.packet == packet;
+            let same = found.answer == answer && (found.packet.handle, found.packet.size) == packet;
             if !same || after.map_or(false, |after| after != seen(&found.state)) {
-                let text = crate::report::call_text(&call);
                 let state = seen(&found.state);
-                return Err(Failure::Broken(format!("the whole case: {text}: {state:?}")));
+                return Err(Failure::Broken(format!("the whole case: {call:?}: {state:?}")));
             }
             worked.checks += 1;
             end.copy_from(found);
@@ -78,7 +77,7 @@ pub fn run(worked: &mut Worked) -> Result<(), Failure> {
     }
     let mut rows = [[9; 5]; 16];
     rows[3] = [15, 0, 0, 0, 1];
-    worked.expect("the counts are the page's: it", u64::from(end.counts == rows), 1)
+    worked.expect("the counts are the page's: it", u64::from(end.state.counts == rows), 1)
 }
 
 fn seen(s: &State) -> After {

@@ -1,23 +1,23 @@
 //! Ends of ranges in well-formed records, and ends of tables.
 
-use super::Found;
-use crate::call::{Call, Kind};
+use crate::kind::{Call, Side};
 use crate::model::formed::{common_slots, verdict_sum};
 use crate::shared::area::PAGE;
-use crate::side::Side;
+use crate::shared::coverage::Found;
+use crate::shared::kind::What;
 
 #[rustfmt::skip]
 pub fn ends(before: &Side, call: &Call, _after: &Side) -> Found {
-    let s = &before.records.shared;
-    let q = &before.records.queues[call.queue];
-    let other = &before.records.queues[1 - call.queue];
-    let size = if let Kind::Arrival { packet, .. } = call.kind { packet.size } else { 2 };
+    let s = &before.state.shared;
+    let q = &before.state.queues[call.to];
+    let other = &before.state.queues[1 - call.to];
+    let size = if let What::Arrival(packet) = call.what { packet.size } else { 2 };
     let sum = verdict_sum(q);
     vec![
         ("target 1,000", q.target == 1_000), ("target 100,000", q.target == 100_000),
         ("buffer 1", q.buffer == 1), ("buffer 16,777,216", q.buffer == 16_777_216),
         ("slots 1", s.slots == 1), ("slots 65,536", s.slots == 65_536),
-        ("reserve 0", s.reserve[call.queue] == 0), ("reserve of all slots", s.reserve[call.queue] == s.slots),
+        ("reserve 0", s.reserve[call.to] == 0), ("reserve of all slots", s.reserve[call.to] == s.slots),
         ("both reserves 0", s.reserve == [0, 0]), ("no common slots", common_slots(s) == Some(0)),
         ("used 0", s.used == 0), ("used = slots", s.used == s.slots),
         ("freed 0", s.freed == 0), ("freed = slots - 1", s.freed + 1 == s.slots),
@@ -48,9 +48,9 @@ pub fn ends(before: &Side, call: &Call, _after: &Side) -> Found {
 /// right beside both of their ends.
 #[rustfmt::skip]
 pub fn whole_pages(before: &Side, call: &Call, after: &Side) -> Found {
-    let slots = before.records.shared.slots;
+    let slots = before.state.shared.slots;
     let whole = after.answer < 100 && slots as usize * 4 % PAGE == 0;
-    let (q, now) = (&before.records.queues[call.queue], &after.records.queues[call.queue]);
+    let (q, now) = (&before.state.queues[call.to], &after.state.queues[call.to]);
     let wrote = whole && now.count > q.count;
     let left = whole && now.count < q.count;
     vec![

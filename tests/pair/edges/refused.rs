@@ -1,14 +1,13 @@
 //! What refusal 9 is given for.
 
-use super::Found;
-use crate::call::Call;
+use crate::kind::{Call, Side};
 use crate::model::store::{link_of, size_of};
-use crate::side::Side;
+use crate::shared::coverage::Found;
 
 #[rustfmt::skip]
 pub fn arrival(before: &Side, call: &Call, _after: &Side) -> Found {
-    let s = &before.records.shared;
-    let q = &before.records.queues[call.queue];
+    let s = &before.state.shared;
+    let q = &before.state.queues[call.to];
     let link = link_of(before.sizes[s.freed as usize]);
     vec![
         ("link is the number of slots", link == s.slots),
@@ -18,15 +17,15 @@ pub fn arrival(before: &Side, call: &Call, _after: &Side) -> Found {
         ("into an empty queue", q.count == 0),
         ("behind a packet", q.count > 0),
         ("an accumulated sum that is kept", q.accumulated > 0 && q.allowance == 0 && q.bytes > 3_000),
-        ("intercom", call.queue == 0),
-        ("passengers", call.queue == 1),
+        ("intercom", call.to == 0),
+        ("passengers", call.to == 1),
     ]
 }
 
 #[rustfmt::skip]
 pub fn departure(before: &Side, call: &Call, _after: &Side) -> Found {
-    let s = &before.records.shared;
-    let q = &before.records.queues[call.queue];
+    let s = &before.state.shared;
+    let q = &before.state.queues[call.to];
     let word = before.sizes[q.head as usize];
     let (size, link) = (u64::from(size_of(word)), link_of(word));
     let left = q.count - 1;
@@ -43,7 +42,7 @@ pub fn departure(before: &Side, call: &Call, _after: &Side) -> Found {
         ("link is the number of slots", fits && !linked && link == s.slots),
         ("link 65,535", fits && !linked && link == 65_535),
         ("size and link", !fits && !linked),
-        ("intercom", call.queue == 0),
-        ("passengers", call.queue == 1),
+        ("intercom", call.to == 0),
+        ("passengers", call.to == 1),
     ]
 }

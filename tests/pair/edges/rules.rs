@@ -1,9 +1,10 @@
 //! What happens to the called queue by the document's rules: the queue before the call and after it.
 
-use super::Found;
 use crate::model::numbers::*;
 use crate::model::tick::{queueing_delay, step};
-use crate::model::{Arriving, Queue};
+use crate::model::Queue;
+use crate::shared::coverage::Found;
+use crate::shared::kind::Arriving;
 use crate::states::LOW_SUM;
 
 #[rustfmt::skip]

@@ -1,11 +1,11 @@
 //! What an accepted call does to slots, places and links.
 
-use super::Found;
-use crate::call::{Call, Kind};
+use crate::kind::{Call, Side};
 use crate::model::formed::{common_slots, common_use};
 use crate::model::store::{link_of, size_of};
 use crate::model::Records;
-use crate::side::Side;
+use crate::shared::coverage::Found;
+use crate::shared::kind::What;
 
 /// The common slots that are free.
 fn common_left(r: &Records) -> u64 {
@@ -13,16 +13,16 @@ fn common_left(r: &Records) -> u64 {
 }
 
 fn has_room(before: &Side, call: &Call) -> bool {
-    let Kind::Arrival { packet, .. } = call.kind else { return false };
-    let q = &before.records.queues[call.queue];
+    let What::Arrival(packet) = call.what else { return false };
+    let q = &before.state.queues[call.to];
     q.bytes + u64::from(packet.size) <= q.buffer
 }
 
 /// Rule 2 at both of its limits.
 #[rustfmt::skip]
 pub fn slots(before: &Side, call: &Call, after: &Side) -> Found {
-    let r = &before.records;
-    let (queue, other) = (call.queue, 1 - call.queue);
+    let r = &before.state;
+    let (queue, other) = (call.to, 1 - call.to);
     let (count, reserve) = (r.queues[queue].count, r.shared.reserve[queue]);
     let (admitted, none) = (after.answer < 2, after.answer == 3);
     let (left, common) = (common_left(r), common_slots(&r.shared).unwrap_or(0));
@@ -51,8 +51,8 @@ pub fn slots(before: &Side, call: &Call, after: &Side) -> Found {
 /// Which place is taken, and how it is linked.
 #[rustfmt::skip]
 pub fn entering(before: &Side, call: &Call, after: &Side) -> Found {
-    let (s, now) = (&before.records.shared, &after.records.shared);
-    let q = &before.records.queues[call.queue];
+    let (s, now) = (&before.state.shared, &after.state.shared);
+    let q = &before.state.queues[call.to];
     let admitted = after.answer < 2;
     let dropped = after.answer >= 2;
     vec![
@@ -65,7 +65,7 @@ pub fn entering(before: &Side, call: &Call, after: &Side) -> Found {
         ("into an empty queue", admitted && q.count == 0),
         ("behind the only packet", admitted && q.count == 1),
         ("behind more packets", admitted && q.count > 1),
-        ("both queues hold packets", admitted && before.records.queues.iter().all(|q| q.count > 0)),
+        ("both queues hold packets", admitted && before.state.queues.iter().all(|q| q.count > 0)),
         ("dropped with spare slots", dropped && s.spare >= 2),
         ("pair of one slot", s.slots == 1),
         ("pair of 65,536 slots", s.slots == 65_536),
@@ -76,12 +76,12 @@ pub fn entering(before: &Side, call: &Call, after: &Side) -> Found {
 /// Links and places that no run from fresh gives, and that no rule refuses.
 #[rustfmt::skip]
 pub fn entering_damaged(before: &Side, call: &Call, after: &Side) -> Found {
-    let s = &before.records.shared;
-    let q = &before.records.queues[call.queue];
-    let other = &before.records.queues[1 - call.queue];
+    let s = &before.state.shared;
+    let q = &before.state.queues[call.to];
+    let other = &before.state.queues[1 - call.to];
     let admitted = after.answer < 2;
     let link = link_of(before.sizes[s.freed as usize]);
-    let place = after.records.queues[call.queue].tail;
+    let place = after.state.queues[call.to].tail;
     let follows = admitted && s.spare >= 2;
     vec![
         ("one freed, its link leads to no slot", admitted && s.spare == 1 && link >= s.slots),
@@ -103,29 +103,29 @@ pub fn entering_damaged(before: &Side, call: &Call, after: &Side) -> Found {
 
 #[rustfmt::skip]
 pub fn leaving(before: &Side, call: &Call, after: &Side) -> Found {
-    let s = &before.records.shared;
-    let q = &before.records.queues[call.queue];
-    let reserve = s.reserve[call.queue];
-    let left = after.records.queues[call.queue].count;
+    let s = &before.state.shared;
+    let q = &before.state.queues[call.to];
+    let reserve = s.reserve[call.to];
+    let left = after.state.queues[call.to].count;
     vec![
         ("the only packet leaves", q.count == 1),
         ("one of two leaves", q.count == 2),
         ("one of more leaves, link followed", q.count > 2),
         ("no slot was freed before", s.spare == 0),
         ("a slot was freed before", s.spare > 0),
-        ("head stays where the queue is left empty", left == 0 && after.records.queues[call.queue].head == q.head),
+        ("head stays where the queue is left empty", left == 0 && after.state.queues[call.to].head == q.head),
         ("leaves a common slot", q.count > reserve),
         ("leaves a reserved slot", q.count <= reserve),
         ("all slots were taken", s.used == s.slots && s.spare == 0),
-        ("the other queue holds packets", before.records.queues[1 - call.queue].count > 0),
+        ("the other queue holds packets", before.state.queues[1 - call.to].count > 0),
     ]
 }
 
 #[rustfmt::skip]
 pub fn leaving_damaged(before: &Side, call: &Call, _after: &Side) -> Found {
-    let s = &before.records.shared;
-    let q = &before.records.queues[call.queue];
-    let other = &before.records.queues[1 - call.queue];
+    let s = &before.state.shared;
+    let q = &before.state.queues[call.to];
+    let other = &before.state.queues[1 - call.to];
     let link = link_of(before.sizes[q.head as usize]);
     vec![
         ("only packet, its link leads to no slot", q.count == 1 && link >= s.slots),
