@@ -27,8 +27,9 @@ use Rattle.modem_guarantees.specs.Modem.{ask, flowAfter}
 use Rattle.modem_guarantees.proofs.Replies.{acceptance, at-one-reply, reply-formed}
 use Rattle.modem_words.specs.Words.{stateOf, stateWords}
 use Rattle.modem_burst.specs.Calls as calls
-use Rattle.modem_burst.specs.Burst.{Lent, after, flowOf, replyTo}
-use Rattle.modem_burst.specs.Fitting.{Ready}
+use Rattle.modem_words.specs.Lent.{Lent}
+use Rattle.modem_burst.specs.Burst.{after, flowOf, replyTo}
+use Rattle.modem_steps.specs.Fitting.{Ready}
 
 -- ── the flow's own reply, with its row ──
 

@@ -1,8 +1,4 @@
 -- What the functions' proofs share.
-pub mod Words
-pub mod Decisions
-pub mod Arrivals
-pub mod Replies
 pub mod Kept
 pub mod Steps
 pub mod Within

@@ -27,7 +27,8 @@ use Rattle.ring_words.specs.Codes.{codeOf}
 use Rattle.modem_words.specs.Words.{stateOf, stateWords}
 use Rattle.modem_burst.specs.Calls.{callAt}
 use Rattle.bursts.specs.Answers.{answerWord}
-use Rattle.modem_burst.specs.Burst.{Lent, flowBursts, lent}
+use Rattle.modem_words.specs.Lent.{Lent, lent}
+use Rattle.modem_burst.specs.Burst.{flowBursts}
 
 -- ── a reply with refusal 10 ahead of it ──
 

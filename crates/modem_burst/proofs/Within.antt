@@ -22,7 +22,8 @@ use Rattle.modem_guarantees.proofs.Replies.{departureOf, tickOf}
 use Rattle.ring_words.specs.Codes.{codeOf}
 use Rattle.modem_words.specs.Words.{stateOf, stateWords}
 use Rattle.bursts.specs.Answers.{answerWord}
-use Rattle.modem_burst.specs.Burst.{flowBursts, lent}
+use Rattle.modem_words.specs.Lent.{lent}
+use Rattle.modem_burst.specs.Burst.{flowBursts}
 use Rattle.modem_burst.proofs.Kept.{within}
 use Rattle.modem_burst.proofs.Steps.{arrival-step, departure-step, tick-step}
 

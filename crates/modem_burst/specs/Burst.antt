@@ -1,5 +1,4 @@
 -- What the single entries do with a call on one flow, and the flow's bursts.
-use mathlib.Core.List.{List}
 use Prim.Native.Nat.{ℕ}
 use Rattle.bursts.specs.Answers.{answerWord}
 use Rattle.bursts.specs.Kind.{BurstKind}
@@ -7,18 +6,9 @@ use Rattle.ring.specs.Answer.{Answer, refused}
 use Rattle.modem.specs.Answer.{ModemReply}
 use Rattle.modem_guarantees.specs.Handed.{Request}
 use Rattle.modem_guarantees.specs.Modem.{Flow, ask, flowAfter, modemReply}
+use Rattle.modem_words.specs.Lent.{Lent, lent}
 use Rattle.modem_words.specs.Words.{stateOf, stateWords}
 use Rattle.modem_burst.specs.Calls.{Call, asked, callAt, unknown}
-
--- the words of the state, the counts of all flows and the two tables, as a caller lends them
-pub record Lent : Type 0 where
-  pub words : List ℕ
-  pub counts : List (List ℕ)
-  pub handles : List ℕ
-  pub sizes : List ℕ
-
-abbrev pub lent : (words : List ℕ) (counts : List (List ℕ)) (handles sizes : List ℕ) → Lent
-lent words counts handles sizes = record { words = words; counts = counts; handles = handles; sizes = sizes }
 
 -- the flow that the words hold
 abbrev pub flowOf : Lent → Flow

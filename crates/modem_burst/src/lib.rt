@@ -1,15 +1,15 @@
 // One entry for a list of calls on one flow: record and row are tested once, and each call is answered as the single entries would.
-use crate::arriving::arrive;
-use crate::departing::depart;
-use crate::ticking::tick;
 use bursts::clock_of;
 use bursts::has_room;
 use bursts::wide;
 use bursts::word;
-use modem_c::obikuteru_modem_arrival;
-use modem_c::obikuteru_modem_departure;
-use modem_c::obikuteru_modem_tick;
-use modem_c::obikuteru_modem_well_formed;
+use modem_steps::arrive;
+use modem_steps::depart;
+use modem_steps::lent_arrival;
+use modem_steps::lent_departure;
+use modem_steps::lent_tick;
+use modem_steps::tick;
+use modem_words::record_fits;
 ghost use mathlib.Core.Path.{_≡_};
 ghost use mathlib.Core.Bool.{cond, true};
 ghost use Prim.Native.Nat.{_+_, _*_, _≤_, _<_};
@@ -21,22 +21,12 @@ ghost use Rattle.modem_flow.specs.State.{formed};
 ghost use Rattle.modem.specs.Calls.{tick as modemTick};
 ghost use Rattle.modem.specs.Counts.{rowOf};
 ghost use Rattle.ring_words.specs.Codes.{codeOf};
+ghost use Rattle.modem_words.specs.Lent.{lent};
 ghost use Rattle.modem_words.specs.Words.{stateOf, stateWords};
+ghost use Rattle.modem_steps.specs.Fitting.{Ready};
 ghost use Rattle.modem_burst.specs.Calls.{callAt};
 ghost use Rattle.bursts.specs.Answers.{answerWord};
-ghost use Rattle.modem_burst.specs.Burst.{after, answerTo, flowBursts, lent};
-ghost use Rattle.modem_burst.specs.Fitting.{Ready};
-
-mod arriving;
-mod departing;
-mod ticking;
-
-// What the words of a state are known to be.
-fn held(w: [u64; 16]) -> bool
-    ensures { λ r. ⌜ (r ≡ true) × (length w ≡ 16) ⌝ }
-{
-    true
-}
+ghost use Rattle.modem_burst.specs.Burst.{after, answerTo, flowBursts};
 
 // The call at `at`, of a flow that is ready for it. Departures are tested for first (docs/PERFORMANCE.md).
 fn known(
@@ -86,12 +76,11 @@ fn single_tick(
         × (now (w .exit) ≡ stateWords (a .state))
         × (now (counts .entry) ≡ a .counts)) ⌝ }
 {
-    let whole = held(*w);
-    let formed = whole & obikuteru_modem_well_formed(w, counts, flow);
+    let formed = record_fits(w, counts, flow);
     if formed {
         return tick(w, clock, wide(credits));
     }
-    wide(obikuteru_modem_tick(w, counts, flow, clock, credits))
+    wide(lent_tick(w, counts, flow, clock, credits))
 }
 
 // The call at `at`, by the single entries.
@@ -114,7 +103,7 @@ fn single(
     let kind = calls[at + 5];
     let arrives = kind == 0;
     if arrives {
-        let code = obikuteru_modem_arrival(
+        let code = lent_arrival(
             w,
             counts,
             flow,
@@ -130,7 +119,7 @@ fn single(
     let departs = kind == 2;
     if departs {
         let mut packet: [u32; 2] = [0, 0];
-        let code = obikuteru_modem_departure(w, counts, flow, handles, sizes, clock, &mut packet);
+        let code = lent_departure(w, counts, flow, handles, sizes, clock, &mut packet);
         return word(code, packet[1], packet[0]);
     }
     let ticks = kind == 3;
@@ -157,8 +146,7 @@ fn ready(
         × (sizes ≡ stateOf (now (w .entry)) .settings .slots))
         × (total (rowOf (now (counts .entry)) flow) + n ≤ mostVerdicts)) ⌝ }
 {
-    let whole = held(*w);
-    let formed = whole & obikuteru_modem_well_formed(w, counts, flow);
+    let formed = record_fits(w, counts, flow);
     if !formed {
         return false;
     }

@@ -9,8 +9,9 @@ use denote.Ref.{now}
 use Rattle.bursts.specs.Burst.{burst, done}
 use Rattle.bursts.proofs.Steps.{one-more, ready-next}
 use Rattle.modem_burst.specs.Calls.{callAt}
-use Rattle.modem_burst.specs.Burst.{Lent, flowBursts, lent}
-use Rattle.modem_burst.specs.Fitting.{Ready}
+use Rattle.modem_words.specs.Lent.{Lent, lent}
+use Rattle.modem_burst.specs.Burst.{flowBursts}
+use Rattle.modem_steps.specs.Fitting.{Ready}
 use Rattle.modem_burst.proofs.Kept.{after-long, ready-kept, ready-one}
 
 abbrev Inv-loop : tie.InvT-loop

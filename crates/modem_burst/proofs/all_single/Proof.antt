@@ -9,7 +9,8 @@ use denote.Ref.{now}
 use Rattle.bursts.specs.Burst.{burst, done}
 use Rattle.bursts.proofs.Steps.{one-more}
 use Rattle.modem_burst.specs.Calls.{callAt}
-use Rattle.modem_burst.specs.Burst.{Lent, flowBursts, lent}
+use Rattle.modem_words.specs.Lent.{Lent, lent}
+use Rattle.modem_burst.specs.Burst.{flowBursts}
 use Rattle.modem_burst.proofs.Kept.{after-long}
 
 abbrev Inv-loop : tie.InvT-loop

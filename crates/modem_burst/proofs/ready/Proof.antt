@@ -6,6 +6,7 @@ use mathlib.Core.Path.{_≡_, sym, _∙_}
 use mathlib.Core.Bool.{true, false≢true, not, _&&_}
 use Prim.Native.Nat.{_≤_}
 use native.Mathlib.Omega.{arith}
+use lib.ListN.{length}
 use denote.Ref.{now}
 use borrow.Author.Tests.{leb-true, ltb-false, not-false, not-true}
 use Rattle.laws.proofs.Tests.{and-left, and-right}
@@ -17,22 +18,21 @@ use Rattle.modem.specs.Counts.{rowOf}
 use Rattle.modem_words.specs.Words.{stateOf}
 
 both : (c : tie.Else1) →
-    let a = c .before .before .before .before .args in not (flowRefused (a .flow)) && wellFormed (stateOf (now (a .w))) (rowOf (now (a .counts)) (a .flow)) ≡ true
+    let a = c .before .before .args in not (flowRefused (a .flow)) && wellFormed (stateOf (now (a .w))) (rowOf (now (a .counts)) (a .flow)) ≡ true
 both c =
-    let o = c .before in
-    sym (o .obikuteru-modem-well-formed .ensures) ∙ and-right (o .before .held .result) _ (not-false _ (c .if1 .left))
+    sym (c .before .record-fits .ensures .0) ∙ not-false _ (c .if1 .left)
 
-low : (c : tie.Else1) → c .before .before .before .before .args .flow ≤ 15
-low c = ltb-false 15 (c .before .before .before .before .args .flow) (not-true (flowRefused (c .before .before .before .before .args .flow)) (and-left (not (flowRefused (c .before .before .before .before .args .flow))) _ (both c)))
+sixteen : (c : tie.Else1) → length (now (c .before .before .args .w)) ≡ 16
+sixteen c = c .before .record-fits .ensures .1 (not-false _ (c .if1 .left))
 
-formed : (c : tie.Else1) → let a = c .before .before .before .before .args in wellFormed (stateOf (now (a .w))) (rowOf (now (a .counts)) (a .flow)) ≡ true
-formed c = and-right (not (flowRefused (c .before .before .before .before .args .flow))) _ (both c)
+low : (c : tie.Else1) → c .before .before .args .flow ≤ 15
+low c = ltb-false 15 (c .before .before .args .flow) (not-true (flowRefused (c .before .before .args .flow)) (and-left (not (flowRefused (c .before .before .args .flow))) _ (both c)))
 
-held-requires : tie.Need-held-requires
-held-requires c κs = search needs
+formed : (c : tie.Else1) → let a = c .before .before .args in wellFormed (stateOf (now (a .w))) (rowOf (now (a .counts)) (a .flow)) ≡ true
+formed c = and-right (not (flowRefused (c .before .before .args .flow))) _ (both c)
 
-obikuteru-modem-well-formed-requires : tie.Need-obikuteru-modem-well-formed-requires
-obikuteru-modem-well-formed-requires c κs = search needs
+record-fits-requires : tie.Need-record-fits-requires
+record-fits-requires c κs = search needs
 
 returns : tie.Need-returns
 returns c = λ e. absurd (false≢true e)
@@ -61,10 +61,9 @@ has-room-requires c κs = row-fits _ _ (formed (c .before .before .before .befor
 returns-4 : tie.Need-returns-4
 unfolding stateOf
 returns-4 c =
-    λ e.
-    let a = c .before .before .before .before .before .before .before .before .before .before in (
+    λ e. (
       low (c .before .before .before .before .before .before),
-      (c .before .before .before .before .before .before .before .before .held .ensures .1, record-formed _ _ (formed (c .before .before .before .before .before .before)), c .before .before .before .before .if2 .left, c .before .before .if3 .left),
+      (sixteen (c .before .before .before .before .before .before), record-formed _ _ (formed (c .before .before .before .before .before .before)), c .before .before .before .before .if2 .left, c .before .before .if3 .left),
       leb-true _ mostVerdicts (sym (c .has-room .ensures) ∙ e),
     )
 
@@ -72,8 +71,7 @@ pub ready-spec : {M : Type 1} → statement M
 ready-spec =
     tie.close
     (tie.spec
-    held-requires
-    obikuteru-modem-well-formed-requires
+    record-fits-requires
     returns
     element-copy-out-if2
     returns-2

@@ -34,35 +34,35 @@ mul-kind c = search needs
 shared-slice-read-kind : tie.Need-shared-slice-read-kind
 shared-slice-read-kind c = search needs
 
-add-obikuteru-modem-arrival : tie.Need-add-obikuteru-modem-arrival
-add-obikuteru-modem-arrival c = search needs
+add-lent-arrival : tie.Need-add-lent-arrival
+add-lent-arrival c = search needs
 
-mul-obikuteru-modem-arrival : tie.Need-mul-obikuteru-modem-arrival
-mul-obikuteru-modem-arrival c = search needs
+mul-lent-arrival : tie.Need-mul-lent-arrival
+mul-lent-arrival c = search needs
 
-shared-slice-read-obikuteru-modem-arrival : tie.Need-shared-slice-read-obikuteru-modem-arrival
-shared-slice-read-obikuteru-modem-arrival c = search needs
+shared-slice-read-lent-arrival : tie.Need-shared-slice-read-lent-arrival
+shared-slice-read-lent-arrival c = search needs
 
-add-obikuteru-modem-arrival-2 : tie.Need-add-obikuteru-modem-arrival-2
-add-obikuteru-modem-arrival-2 c = search needs
+add-lent-arrival-2 : tie.Need-add-lent-arrival-2
+add-lent-arrival-2 c = search needs
 
-mul-obikuteru-modem-arrival-2 : tie.Need-mul-obikuteru-modem-arrival-2
-mul-obikuteru-modem-arrival-2 c = search needs
+mul-lent-arrival-2 : tie.Need-mul-lent-arrival-2
+mul-lent-arrival-2 c = search needs
 
-shared-slice-read-obikuteru-modem-arrival-2 : tie.Need-shared-slice-read-obikuteru-modem-arrival-2
-shared-slice-read-obikuteru-modem-arrival-2 c = search needs
+shared-slice-read-lent-arrival-2 : tie.Need-shared-slice-read-lent-arrival-2
+shared-slice-read-lent-arrival-2 c = search needs
 
-add-obikuteru-modem-arrival-3 : tie.Need-add-obikuteru-modem-arrival-3
-add-obikuteru-modem-arrival-3 c = search needs
+add-lent-arrival-3 : tie.Need-add-lent-arrival-3
+add-lent-arrival-3 c = search needs
 
-mul-obikuteru-modem-arrival-3 : tie.Need-mul-obikuteru-modem-arrival-3
-mul-obikuteru-modem-arrival-3 c = search needs
+mul-lent-arrival-3 : tie.Need-mul-lent-arrival-3
+mul-lent-arrival-3 c = search needs
 
-shared-slice-read-obikuteru-modem-arrival-3 : tie.Need-shared-slice-read-obikuteru-modem-arrival-3
-shared-slice-read-obikuteru-modem-arrival-3 c = search needs
+shared-slice-read-lent-arrival-3 : tie.Need-shared-slice-read-lent-arrival-3
+shared-slice-read-lent-arrival-3 c = search needs
 
-obikuteru-modem-arrival-requires : tie.Need-obikuteru-modem-arrival-requires
-obikuteru-modem-arrival-requires c κs = search needs
+lent-arrival-requires : tie.Need-lent-arrival-requires
+lent-arrival-requires c κs = search needs
 
 wide-requires : tie.Need-wide-requires
 wide-requires c κs = search needs
@@ -82,11 +82,11 @@ returns c =
     let z = now (a .args .sizes) in
     let k = now (a .args .calls) in
     let t = c .before .before .before .before .before .before .before .before .before .before .before .before .before .before .before .clock-of in
-    let e = c .before .before .before .before .before .obikuteru-modem-arrival .ensures in
+    let e = c .before .before .before .before .before .lent-arrival .ensures in
     arrival-step (a .args .flow) w n h z k (a .args .at) (t .result) (t .ensures) (c .before .before .before .before .before .before .before .before .before .before .before .before .before .if1 .taken) _ _ _ _ _ (c .wide .ensures ∙ e .0) (e .1) (e .2) (e .3) (e .4)
 
-obikuteru-modem-departure-requires : tie.Need-obikuteru-modem-departure-requires
-obikuteru-modem-departure-requires c κs = search needs
+lent-departure-requires : tie.Need-lent-departure-requires
+lent-departure-requires c κs = search needs
 
 array-read-word : tie.Need-array-read-word
 array-read-word c = search needs
@@ -98,7 +98,7 @@ word-requires : tie.Need-word-requires
 word-requires c κs =
     let a = c .before .before .before .before .before .before .before .before .before .before .before .before .before .before .before in
     let small = departure-small (stateOf (now (a .args .w))) (now (a .args .counts)) (a .args .flow) (now (a .args .handles)) (now (a .args .sizes)) (c .before .before .before .before .before .before .before .before .before .clock-of .result) in
-    let e = c .obikuteru-modem-departure .ensures in
+    let e = c .lent-departure .ensures in
     (rw (e .0) (small .0), rw (e .3) (small .1))
 
 same-length-3 : tie.Need-same-length-3
@@ -116,7 +116,7 @@ returns-2 c =
     let z = now (a .args .sizes) in
     let k = now (a .args .calls) in
     let t = c .before .before .before .before .before .before .before .before .before .before .clock-of in
-    let e = c .before .obikuteru-modem-departure .ensures in
+    let e = c .before .lent-departure .ensures in
     departure-step (a .args .flow) w n h z k (a .args .at) (t .result) (t .ensures) (c .before .before .before .before .before .before .before .before .if1 .left) (c .before .before .before .before .before .before .before .if2 .taken) _ _ (rw (e .0, e .3) at (c .word .ensures)) (e .1) (e .2)
 
 add-single-tick : tie.Need-add-single-tick
@@ -161,21 +161,21 @@ single-spec =
     add-kind
     mul-kind
     shared-slice-read-kind
-    add-obikuteru-modem-arrival
-    mul-obikuteru-modem-arrival
-    shared-slice-read-obikuteru-modem-arrival
-    add-obikuteru-modem-arrival-2
-    mul-obikuteru-modem-arrival-2
-    shared-slice-read-obikuteru-modem-arrival-2
-    add-obikuteru-modem-arrival-3
-    mul-obikuteru-modem-arrival-3
-    shared-slice-read-obikuteru-modem-arrival-3
-    obikuteru-modem-arrival-requires
+    add-lent-arrival
+    mul-lent-arrival
+    shared-slice-read-lent-arrival
+    add-lent-arrival-2
+    mul-lent-arrival-2
+    shared-slice-read-lent-arrival-2
+    add-lent-arrival-3
+    mul-lent-arrival-3
+    shared-slice-read-lent-arrival-3
+    lent-arrival-requires
     wide-requires
     same-length
     same-length-2
     returns
-    obikuteru-modem-departure-requires
+    lent-departure-requires
     array-read-word
     array-read-word-2
     word-requires

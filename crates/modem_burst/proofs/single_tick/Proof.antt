@@ -16,38 +16,35 @@ use Rattle.modem_words.specs.Words.{stateOf}
 use Rattle.modem_burst.proofs.Kept.{within}
 use Rattle.modem_burst.proofs.Within.{tick-uncounted}
 
-both : (c : tie.Then1) → let a = c .before .before .before .before .before .args in not (flowRefused (a .flow)) && wellFormed (stateOf (now (a .w))) (rowOf (now (a .counts)) (a .flow)) ≡ true
-both c = sym (c .before .obikuteru-modem-well-formed .ensures) ∙ and-right (c .before .before .before .held .result) _ (c .if1 .taken)
+both : (c : tie.Then1) → let a = c .before .before .before .args in not (flowRefused (a .flow)) && wellFormed (stateOf (now (a .w))) (rowOf (now (a .counts)) (a .flow)) ≡ true
+both c = sym (c .before .record-fits .ensures .0) ∙ c .if1 .taken
 
-low : (c : tie.Then1) → c .before .before .before .before .before .args .flow ≤ 15
-low c = let flow = c .before .before .before .before .before .args .flow in ltb-false 15 flow (not-true (flowRefused flow) (and-left (not (flowRefused flow)) _ (both c)))
+low : (c : tie.Then1) → c .before .before .before .args .flow ≤ 15
+low c = let flow = c .before .before .before .args .flow in ltb-false 15 flow (not-true (flowRefused flow) (and-left (not (flowRefused flow)) _ (both c)))
 
-formed : (c : tie.Then1) → let a = c .before .before .before .before .before .args in wellFormed (stateOf (now (a .w))) (rowOf (now (a .counts)) (a .flow)) ≡ true
-formed c = and-right (not (flowRefused (c .before .before .before .before .before .args .flow))) _ (both c)
+formed : (c : tie.Then1) → let a = c .before .before .before .args in wellFormed (stateOf (now (a .w))) (rowOf (now (a .counts)) (a .flow)) ≡ true
+formed c = and-right (not (flowRefused (c .before .before .before .args .flow))) _ (both c)
 
-held-requires : tie.Need-held-requires
-held-requires c κs = search needs
-
-obikuteru-modem-well-formed-requires : tie.Need-obikuteru-modem-well-formed-requires
-obikuteru-modem-well-formed-requires c κs = search needs
+record-fits-requires : tie.Need-record-fits-requires
+record-fits-requires c κs = search needs
 
 wide-requires : tie.Need-wide-requires
 wide-requires c κs = search needs
 
 tick-requires : tie.Need-tick-requires
-tick-requires c κs = (c .before .before .before .before .before .held .ensures .1, record-formed _ _ (formed (c .before .before)))
+tick-requires c κs = (c .before .before .before .record-fits .ensures .1 (c .before .before .if1 .taken), record-formed _ _ (formed (c .before .before)))
 
 returns : tie.Need-returns
 unfolding tick
 returns c =
-    let a = c .before .before .before .before .before .before .before .before .args in
+    let a = c .before .before .before .before .before .before .args in
     let s = stateOf (now (a .w)) in
     let row = rowOf (now (a .counts)) (a .flow) in
     let e = rw (c .before .wide .ensures) at (c .tick .ensures row (row-fits _ _ (formed (c .before .before .before)))) in
     rw (within (a .flow) s (now (a .counts)) _ (low (c .before .before .before))) (e .0, e .1, tick-uncounted (now (a .counts)) (a .flow) s row (a .clock) (a .credits))
 
-obikuteru-modem-tick-requires : tie.Need-obikuteru-modem-tick-requires
-obikuteru-modem-tick-requires c κs = search needs
+lent-tick-requires : tie.Need-lent-tick-requires
+lent-tick-requires c κs = search needs
 
 wide-requires-2 : tie.Need-wide-requires-2
 wide-requires-2 c κs = search needs
@@ -59,11 +56,10 @@ pub single-tick-spec : {M : Type 1} → statement M
 single-tick-spec =
     tie.close
     (tie.spec
-    held-requires
-    obikuteru-modem-well-formed-requires
+    record-fits-requires
     wide-requires
     tick-requires
     returns
-    obikuteru-modem-tick-requires
+    lent-tick-requires
     wide-requires-2
     returns-2)

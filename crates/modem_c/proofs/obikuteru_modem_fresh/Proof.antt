@@ -4,7 +4,7 @@ use borrow.Author.Tests.{ltb-false}
 use mathlib.Core.Path.{ap, _∙_}
 use Rattle.modem.specs.Calls.{fresh}
 use Rattle.modem_words.specs.Words.{stateWords}
-use Rattle.modem_c.proofs.Entries.{gives-10, gives-made, gives-not-made}
+use Rattle.modem_steps.proofs.Entries.{gives-10, gives-made, gives-not-made}
 use Rattle.modem_c.proofs.obikuteru_modem_fresh.Statement.{statement}
 use Rattle.modem_c.proofs.obikuteru_modem_fresh.Tie as tie
 

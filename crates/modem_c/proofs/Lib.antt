@@ -1,3 +1,0 @@
--- What the entries' proofs share.
-pub mod Entries
-pub mod Calls
