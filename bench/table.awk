@@ -172,7 +172,8 @@ function print_kind(k,    i) {
             rows(stream[k, i])
     print ""
     for (i = 1; i <= streams[k]; i++) {
-        print_other_sides(stream[k, i])
+        if (k == "ring")
+            print_other_sides(stream[k, i])
         if (k == "log")
             ask_log(stream[k, i])
         else
