@@ -1,7 +1,7 @@
 /*
- * Bursts of calls on 64 flows against the single entries, on random lists of calls: accepted and
- * refused ones, unknown kinds, tables of wrong lengths and damaged records. Then the layout of both
- * structs, and lengths that do not fit. It prints each mistake and ends with 1 if there is any.
+ * The structs of bursts on 64 flows, and the header's own function over them: one burst, and bursts
+ * whose lengths do not fit. tests/fq compares bursts with single calls. It prints each mistake and
+ * ends with 1 if there is any.
  */
 #include <obikuteru.h>
 
@@ -10,102 +10,42 @@
 
 #include "layout.h"
 
-#define SEED 80337
-#include "draw.h"
-
-enum { SLOTS = 48, MOST = 96, ROUNDS = 4000 };
+enum { SLOTS = 48 };
 
 struct set {
     struct obikuteru_fq fq;
     uint32_t handles[SLOTS], sizes[SLOTS];
 };
 
-static struct obikuteru_fq_call some_call(uint64_t *clock)
+/* Two packets and a departure by the header's function, and by the single entries on a copy. */
+static void one_burst(void)
 {
-    uint32_t handle = draw(UINT32_MAX), size = 1 + draw(1514), u = draw(UINT32_MAX);
-    struct obikuteru_fq_call c = {0, handle, size, u, 0, {0}, {0}};
-    uint32_t what = draw(100);
-
-    *clock += draw(400);
-    c.clock = draw(50) == 0 ? draw(1000) : *clock;
-    c.kind = what < 30 ? 0 : what < 55 ? 1 : what < 90 ? 2 : what < 97 ? 3 : 4 + draw(1000);
-    if (draw(40) == 0)
-        c.size = draw(2) ? 0 : 65536 + draw(1000);
-    c.key[draw(13)] = (uint8_t)draw(256);
-    memset(c.unused, (int)draw(256), sizeof c.unused);
-    return c;
-}
-
-static uint64_t single(struct set *s, size_t handles_len, size_t sizes_len,
-                       const struct obikuteru_fq_call *c)
-{
+    struct obikuteru_fq_call calls[3] = {{5, 7, 100, 9, 0, {1}, {0}},
+                                         {6, 8, 200, 9, 1, {2}, {0}},
+                                         {7, 0, 0, 0, 2, {0}, {0}}};
+    struct obikuteru_fq_answer answers[3];
     struct obikuteru_flow_packet p = {0, 0, 0};
-    uint64_t code = OBIKUTERU_REFUSED_CALL;
+    static struct set s, copy;
+    uint64_t words[3];
 
-    if (c->kind < 2)
-        code = obikuteru_fq_arrival(&s->fq, s->handles, handles_len, s->sizes, sizes_len, c->clock,
-                                    c->key, c->handle, c->size, c->kind == 1, c->u);
-    else if (c->kind == 2)
-        code = obikuteru_fq_departure(&s->fq, s->handles, handles_len, s->sizes, sizes_len,
-                                      c->clock, &p);
-    else if (c->kind == 3)
-        code = obikuteru_fq_tick(&s->fq, c->clock);
-    return code + 256 * (uint64_t)p.flow + 65536 * (uint64_t)p.size
-           + 4294967296u * (uint64_t)p.handle;
-}
-
-/* One burst of n calls on a set, and the same calls one by one on a copy of it. */
-static void compare(struct set *s, uint64_t *clock, size_t n)
-{
-    static struct obikuteru_fq_call calls[MOST];
-    static uint64_t answers[MOST];
-    struct set copy = *s;
-    size_t handles_len = draw(60) == 0 ? SLOTS - 1 : SLOTS;
-    size_t sizes_len = draw(60) == 0 ? SLOTS - 1 : SLOTS;
-
-    for (size_t i = 0; i < n; i++)
-        calls[i] = some_call(clock);
+    expect("fresh", obikuteru_fq_fresh(&s.fq, 15000, 40000, SLOTS, 0, 0), OBIKUTERU_ACCEPTED);
+    copy = s;
     expect("a burst's answer",
-           obikuteru_fq_calls(&s->fq, s->handles, handles_len, s->sizes, sizes_len, calls,
-                              (struct obikuteru_fq_answer *)answers, n),
+           obikuteru_fq_calls(&s.fq, s.handles, SLOTS, s.sizes, SLOTS, calls,
+                              (struct obikuteru_fq_answer *)words, 3),
            OBIKUTERU_ACCEPTED);
-    for (size_t i = 0; i < n; i++)
-        expect("a call's answer", answers[i], single(&copy, handles_len, sizes_len, &calls[i]));
-    expect("a difference of what is left", memcmp(s, &copy, sizeof copy) != 0, 0);
-}
-
-static void damage(struct set *s)
-{
-    uint32_t what = draw(3);
-
-    if (what == 0)
-        ((uint64_t *)&s->fq)[draw(19 + 64 + 768)] ^= (uint64_t)1 << draw(64);
-    else if (what == 1)
-        s->fq.deficits[draw(64)] = draw(UINT32_MAX);
-    else
-        s->sizes[draw(SLOTS)] = draw(UINT32_MAX);
-}
-
-static void random_bursts(void)
-{
-    static struct set s;
-    uint64_t clock = 0;
-
-    for (int round = 0; round < ROUNDS; round++) {
-        if (round % 40 == 0) {
-            clock = draw(100000);
-            memset(&s, 0, sizeof s);
-            expect("fresh",
-                   obikuteru_fq_fresh(&s.fq, 15000, 40000, SLOTS, draw(UINT32_MAX), clock),
-                   OBIKUTERU_ACCEPTED);
-        }
-        if (round % 40 > 30 && draw(4) == 0)
-            damage(&s);
-        if (round % 80 == 79)
-            s.fq.verdicts[0] = ((uint64_t)1 << 48) - 2 - s.fq.verdicts[1] - s.fq.verdicts[2]
-                               - s.fq.verdicts[3] - s.fq.verdicts[4];
-        compare(&s, &clock, draw(MOST + 1));
-    }
+    memcpy(answers, words, sizeof answers);
+    for (size_t i = 0; i < 2; i++)
+        expect("an arrival's answer", answers[i].code,
+               obikuteru_fq_arrival(&copy.fq, copy.handles, SLOTS, copy.sizes, SLOTS,
+                                    calls[i].clock, calls[i].key, calls[i].handle, calls[i].size,
+                                    calls[i].kind == 1, calls[i].u));
+    expect("a departure's answer", answers[2].code,
+           obikuteru_fq_departure(&copy.fq, copy.handles, SLOTS, copy.sizes, SLOTS, 7, &p));
+    expect("the flow that left", answers[2].flow, p.flow);
+    expect("the handle that left", answers[2].handle, p.handle);
+    expect("the size that left", answers[2].size, p.size);
+    expect("a difference of what is left", memcmp(&s, &copy, sizeof s) != 0, 0);
 }
 
 static void structs(void)
@@ -140,7 +80,7 @@ static void structs(void)
 
 int main(void)
 {
-    random_bursts();
+    one_burst();
     structs();
     return result();
 }

@@ -28,6 +28,7 @@ impl Running for Flows {
     type Plan = Plan;
     type Watch = Watch;
     const PLANS: u64 = plans::KINDS;
+    const SENDERS: bool = true;
 
     fn traffic(plan: &Plan) -> Traffic {
         plan.traffic

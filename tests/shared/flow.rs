@@ -114,9 +114,11 @@ impl<K: Running> Flow<K> {
     /// A call with one argument wrong, or at a time when it is refused or seldom comes.
     fn odd_call(&mut self, r: &mut Random, side: &SideOf<K>) -> CallOf<K> {
         let q = K::view(&side.state, &self.to);
-        let (lent, wrong) = (self.lent(), Lent::wrong(r, self.slots));
+        let (lent, slots) = (self.lent(), self.slots);
+        let wrong = (!K::SENDERS).then(|| Lent::wrong(r, slots));
         let mut packet = K::run_packet(r, &self.plan);
         let to = K::sender(r, &self.plan, &self.to);
+        let wrong = wrong.unwrap_or_else(|| Lent::wrong(r, slots));
         let credits = K::run_credits(r, &side.state);
         let clock = q.clock;
         let bad_clock = r.pick(&[clock.wrapping_sub(1), CLOCK_MAX + 1, u64::MAX]);

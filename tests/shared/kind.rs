@@ -130,7 +130,7 @@ pub trait Kind: Sized + 'static {
 
     type State: Copy + PartialEq + Debug;
     /// Whom a call is for.
-    type To: Copy + Debug;
+    type To: Copy + PartialEq + Debug;
     type Settings: Copy + Debug;
     type Words: AsRef<[u64]> + AsMut<[u64]>;
 

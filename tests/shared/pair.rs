@@ -1,5 +1,6 @@
 //! Model and library side by side: each call runs on both, and everything is compared.
 
+use super::bursts::{Bursting, Record};
 use super::kind::{CallOf, Kind, SideOf};
 use super::lend::Lender;
 use super::report;
@@ -51,6 +52,14 @@ impl<'a, K: Kind> Pair<'a, K> {
             model: self.model.clone(),
             library: self.library.clone(),
         })))
+    }
+
+    /// Runs calls that led to the library's side once more, as one burst; gives how many they were.
+    pub fn burst(&mut self, record: &mut Record<K>) -> Result<u64, Failure<K>>
+    where
+        K: Bursting,
+    {
+        record.run(&self.library, self.lender)
     }
 
     /// Changes both sides by hand.

@@ -86,7 +86,7 @@ fn part(seed: u64, part: u64) -> Random {
     Random::new(mixed.number())
 }
 
-impl<K: Running + Bursting> Round<K> {
+impl<K: Running> Round<K> {
     /// All parts of one round with the memory of the given lender.
     fn run(
         &self,
@@ -97,6 +97,7 @@ impl<K: Running + Bursting> Round<K> {
     ) {
         let place = format!("fresh calls (seed {seed})");
         require(&place, || single::fresh_calls(lender, &mut reached.single));
+        require(&place, || bursts::lengths::<K>(lender));
         for batch in 0..batches {
             let place = format!("single calls, batch {batch} of seed {seed}");
             let mut r = part(seed, 2 * batch);

@@ -1,5 +1,6 @@
 //! Long runs from fresh: record and tables go back to each call as the last one left them.
 
+use super::bursts::{Bursting, Record};
 use super::coverage::Coverage;
 use super::flow::Flow;
 use super::kind::{Arriving, Call, CallOf, Lent, SideOf};
@@ -7,11 +8,10 @@ use super::lend::Lender;
 use super::numbers::CLOCK_MAX;
 use super::pair::{Failure, Pair};
 use super::random::Random;
-use super::single::Drawn;
 use super::traffic::{Phase, Traffic, PHASES};
 
 /// What the long runs of a kind are made of.
-pub trait Running: Drawn {
+pub trait Running: Bursting {
     /// What a queue of a run is made of.
     type Plan;
     /// What follows the answers of a run.
@@ -20,6 +20,8 @@ pub trait Running: Drawn {
     const PLANS: u64;
     /// Whether a run ends with a phase.
     const WHOLE_PHASES: bool = false;
+    /// Whether packets have senders, which are then drawn with a packet, before its tables.
+    const SENDERS: bool = false;
     /// The last number that an odd call may have, and the number below which it is a tick too soon.
     const ODD_CALLS: u64 = 9;
     const EARLY_TICKS: u64 = 6;
@@ -123,16 +125,23 @@ pub fn run<K: Running>(
     let mut run = K::begin(r, turn, lender, coverage)?;
     let weights: Vec<u64> = run.flows.iter().map(|flow| K::weight(&flow.plan)).collect();
     let (mut place, mut done) = (0, 0);
+    let mut record = Record::new(&run.pair.library);
+    K::swap(&mut run, place, true);
     while done < run.calls || (K::WHOLE_PHASES && run.flows[0].calls_left > 0) {
-        if weights.len() > 1 && run.r.one_in(4) {
-            place = pick(run.r, &weights);
+        let next = match weights.len() > 1 && run.r.one_in(4) {
+            true => pick(run.r, &weights),
+            false => place,
+        };
+        if next != place {
+            run.burst(&mut record)?;
+            K::swap(&mut run, place, false);
+            K::swap(&mut run, next, true);
+            place = next;
         }
-        K::swap(&mut run, place, true);
-        run.call(place)?;
-        K::swap(&mut run, place, false);
+        run.call(place, &mut record)?;
         done += 1;
     }
-    Ok(())
+    run.burst(&mut record)
 }
 
 /// A place, as often as its weight.
@@ -149,13 +158,27 @@ fn pick(r: &mut Random, weights: &[u64]) -> usize {
 
 impl<K: Running> Run<'_, K> {
     /// Runs a queue's next call on both sides, checks the rules of a run, and plans what comes next.
-    fn call(&mut self, place: usize) -> Result<(), Failure<K>> {
+    fn call(&mut self, place: usize, record: &mut Record<K>) -> Result<(), Failure<K>> {
         let call = self.flows[place].next_call(self.r, &self.pair.model);
+        if call.is_fresh() || record.is_full() {
+            self.burst(record)?;
+        }
         self.pair.call(&call)?;
+        let to = self.flows[place].to;
+        let Pair { before, library, .. } = &self.pair;
+        if Record::<K>::fits(&call, &to, K::view(&before.state, &to).slots) {
+            record.add(&call, before, library);
+        }
         K::follow(self, place, &call)
             .map_err(|broken| Failure::Broken(format!("{broken}; {call:?}")))?;
         self.coverage.note(&self.pair.before, &call, &self.pair.library);
         self.flows[place].called(self.r, &call, &self.pair.model);
+        Ok(())
+    }
+
+    /// The calls since the last burst, as one.
+    fn burst(&mut self, record: &mut Record<K>) -> Result<(), Failure<K>> {
+        self.coverage.calls += self.pair.burst(record)?;
         Ok(())
     }
 }
