@@ -30,7 +30,7 @@ use Rattle.store.specs.Put.{endsAfterPut}
 use Rattle.store.specs.Take.{endsAfterTake}
 use Rattle.store.specs.Words.{linkAt}
 use Rattle.store.specs.declared.Ends.{Ends}
-use Rattle.ring_words.proofs.Flags.{flag-says}
+use Rattle.pie_words.proofs.Flags.{flag-says}
 use Rattle.fq_state.specs.Flow.{backlogOf, endsOf, flowWith, pieOf}
 use Rattle.fq_state.specs.declared.Common.{Common}
 use Rattle.fq_state.specs.declared.Flow.{Flow}

@@ -3,7 +3,7 @@ use mathlib.Core.Path.{_≡_, ap}
 use mathlib.Core.Bool.{false}
 use Prim.Native.Nat.{ℕ, _<_}
 use Rattle.pie_guarantees.proofs.NeverGivenUp as proved
-use Rattle.ring_words.specs.Flags.{isSet}
+use Rattle.pie_words.specs.Flags.{isSet}
 use Rattle.fq_state.specs.Fresh.{fresh, freshRefusal}
 use Rattle.fq_state.specs.declared.Flow.{Flow}
 use Rattle.fq_state.specs.declared.Settings.{Settings}

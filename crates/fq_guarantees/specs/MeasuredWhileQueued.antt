@@ -5,7 +5,7 @@ use mathlib.Core.Bool.{true}
 use mathlib.Core.List.{List, List·Memᴰ}
 use Prim.Native.Nat.{ℕ, _<_}
 use Rattle.calls.specs.Traces.{Entry, trace}
-use Rattle.ring_words.specs.Flags.{isSet}
+use Rattle.pie_words.specs.Flags.{isSet}
 use Rattle.fq_state.specs.WellFormed.{wellFormed}
 use Rattle.fq_state.specs.declared.Flow.{Flow}
 use Rattle.fq_guarantees.specs.Calls.{Call}

@@ -8,7 +8,7 @@ use borrow.Author.Tests.{lt-ltb}
 use Rattle.pie.specs.Constants.{fullAllowance}
 use Rattle.pie.specs.Update.{AtMost, capped, decayed, delayOf, divisorOf, errorOf, limited, nextAllowance, nextProb, stepOf, updated}
 use Rattle.pie.proofs.IdleStep.{decayed-at-most, idle-step-not-positive}
-use Rattle.ring_words.proofs.Flags.{flag-kept}
+use Rattle.pie_words.proofs.Flags.{flag-kept}
 use Rattle.fq_state.specs.Flow.{flowWith}
 use Rattle.fq_state.specs.declared.Flow.{Flow}
 use Rattle.fq_rules.specs.Tick.{tickedFlow}

@@ -5,7 +5,7 @@ use Rattle.pie.specs.declared.Backlog.{Backlog}
 use Rattle.pie.specs.declared.Pie.{Pie}
 use Rattle.pie.specs.declared.Rate.{Rate}
 use Rattle.store.specs.declared.Ends.{Ends}
-use Rattle.ring_words.specs.Flags.{flagWord, isSet}
+use Rattle.pie_words.specs.Flags.{flagWord, isSet}
 use Rattle.fq_state.specs.declared.Flow.{Flow}
 
 abbrev pub rateOf : Flow → Rate

@@ -8,7 +8,7 @@ use Rattle.units.specs.Kinds.{whole}
 use Rattle.pie.specs.Constants.{fullAllowance, largest, latest, longest, mostAccumulated, mostVerdicts, threshold}
 use Rattle.pie.specs.Verdicts.{total}
 use Rattle.schedule.specs.WellFormed.{wellListed}
-use Rattle.ring_words.specs.Flags.{isSet}
+use Rattle.pie_words.specs.Flags.{isSet}
 use Rattle.fq_state.specs.State.{State, countsOf, eachBytes}
 use Rattle.fq_state.specs.declared.Common.{Common}
 use Rattle.fq_state.specs.declared.Flow.{Flow}

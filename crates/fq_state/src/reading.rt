@@ -3,7 +3,7 @@ use crate::Flow;
 use pie::Backlog;
 use pie::Pie;
 use pie::Rate;
-use ring_words::flag;
+use pie_words::flag;
 use store::Ends;
 use units::Bytes;
 use units::Micros;

@@ -25,7 +25,7 @@ use Rattle.pair_rules.specs.Departure.{departedState, departure, departureRefus
 use Rattle.pair_rules.specs.Tick.{tick, tickRefusal, tickedState}
 use Rattle.pair_guarantees.specs.Handed.{Queues, replyTo, returned}
 use Rattle.pair_words.specs.After.{ownAfter, sharedAfter}
-use Rattle.ring_words.proofs.Flags.{flag-says}
+use Rattle.pie_words.proofs.Flags.{flag-says}
 use Rattle.ring_words.proofs.Written.{written-out}
 use Rattle.pair_words.specs.Words.{sharedOf, sharedWords, stateOf, stateWords}
 use Rattle.pair_burst.specs.Calls.{Call, asked, unknown}

@@ -24,11 +24,12 @@ use Rattle.pair_rules.specs.Queues.{storing}
 use Rattle.pair_rules.specs.Arrival.{arrivedPie, arrivedState}
 use Rattle.pair_rules.specs.Departure.{departedState}
 use Rattle.pair_rules.specs.Tick.{tickedState}
-use Rattle.ring_words.specs.Flags.{isSet}
+use Rattle.pie_words.specs.Flags.{isSet}
 use Rattle.pair_words.specs.Words.{pieOf, rateOf, sharedOf, sharedWords, stateOf, stateWords, storeOf}
-use Rattle.ring_words.proofs.Flags.{flag-kept}
+use Rattle.pie_words.proofs.Flags.{flag-kept}
 use Rattle.ring_words.proofs.Written.{listed, written-out}
-use Rattle.pair_steps.specs.Written.{enteredWords, rateWords, settledWords}
+use Rattle.pie_words.specs.Words.{rateAt, rateWords}
+use Rattle.pair_steps.specs.Written.{enteredWords, settledWords}
 
 -- what holds of any twenty-one words written out holds of twenty-one words
 pub for-words : (P : List ℕ → Type 0) → ((f : ℕ → ℕ) → P (listed 21 f)) → (w : List ℕ) → length w ≡ 21 → P w
@@ -36,56 +37,6 @@ for-words P h w e = subst⁻¹ P (written-out 21 w e) (h (λ i. getD w i 0))
 
 pub for-shared : (P : List ℕ → Type 0) → ((f : ℕ → ℕ) → P (listed 6 f)) → (w : List ℕ) → length w ≡ 6 → P w
 for-shared P h w e = subst⁻¹ P (written-out 6 w e) (h (λ i. getD w i 0))
-
--- ── the departure rate ──
-
-pub counting-words : (counted : ℕ) (w : List ℕ) → length w ≡ 21 → isSet (getD w 9 0) ≡ true →
-    set w 11 counted ≡ rateWords w (running (getD w 8 0) (getD w 10 0) counted)
-unfolding stateOf stateWords rateWords
-counting-words counted =
-    for-words (λ w. isSet (getD w 9 0) ≡ true → set w 11 counted ≡ rateWords w (running (getD w 8 0) (getD w 10 0) counted))
-    (λ f e. rw e)
-
-pub same-words : (w : List ℕ) → length w ≡ 21 → w ≡ rateWords w (rateOf w)
-unfolding stateOf stateWords rateWords
-same-words = for-words (λ w. w ≡ rateWords w (rateOf w)) (λ f. rw (flag-kept (f 9)))
-
-abbrev pub rated : List ℕ → Rate → List ℕ
-rated w r = set (set (set w 8 (r .average .0)) 10 (r .start .0)) 11 (r .counted .0)
-
-pub going-on : (r : Rate) → r .measuring ≡ true → (w : List ℕ) → length w ≡ 21 → isSet (getD w 9 0) ≡ true → rated w r ≡ rateWords w r
-unfolding stateOf stateWords rateWords
-going-on r m = for-words (λ w. isSet (getD w 9 0) ≡ true → rated w r ≡ rateWords w r) (λ f e. rw (m, e))
-
-pub starting-words : (r : Rate) → r .measuring ≡ true → (w : List ℕ) → length w ≡ 21 → isSet (getD w 9 0) ≡ false →
-    set (rated w r) 9 1 ≡ rateWords w r
-unfolding stateOf stateWords rateWords
-starting-words r m = for-words (λ w. isSet (getD w 9 0) ≡ false → set (rated w r) 9 1 ≡ rateWords w r) (λ f e. rw (m, e))
-
-none : (b : Bool) → _≡_ {A = ℕ} (cond b 0 0) 0
-none true = refl
-none false = refl
-
-pub resting-words : (r : Rate) → r .measuring ≡ false → (w : List ℕ) → length w ≡ 21 → set (rated w r) 9 0 ≡ rateWords w r
-unfolding stateOf stateWords rateWords
-resting-words r m = for-words (λ w. set (rated w r) 9 0 ≡ rateWords w r) (λ f. rw (m, none (isSet (f 9))))
-
--- a measurement goes on
-pub counting-rate : (w : List ℕ) (clock size count bytesLeft : ℕ) → isSet (getD w 9 0) ≡ true →
-    ltb (getD w 11 0 + size) threshold && not (eqb count 0) ≡ true →
-    rateAfter (rateOf w) clock size count bytesLeft ≡ running (getD w 8 0) (getD w 10 0) (getD w 11 0 + size)
-unfolding rateAfter
-counting-rate w clock size count bytesLeft e f =
-    let low = ltb (getD w 11 0 + size) threshold in
-    let below : getD w 11 0 + size < threshold = ltb-true _ _ (and-left low (not (eqb count 0)) f) in
-    let some : eqb count 0 ≡ false = not-true (eqb count 0) (and-right low (not (eqb count 0)) f) in
-    rw (e, lt-leb threshold (getD w 11 0 + size) below, some)
-
--- none runs, and none starts
-pub resting-rate : (w : List ℕ) (clock size count bytesLeft : ℕ) → isSet (getD w 9 0) ≡ false → not (leb threshold bytesLeft) ≡ true →
-    rateAfter (rateOf w) clock size count bytesLeft ≡ rateOf w
-unfolding rateAfter
-resting-rate w clock size count bytesLeft e f = rw (e, not-true (leb threshold bytesLeft) f)
 
 -- ── a departure ──
 
@@ -96,7 +47,7 @@ leftWords w clock size head = set (set (set (set w 2 clock) 12 (getD w 12 0 - 1)
 abbrev departureWritten : List ℕ → (sizes : List ℕ) (clock size : ℕ) → List ℕ
 departureWritten w sizes clock size =
     let left = leftWords w clock size (followed sizes (getD w 14 0) (getD w 12 0)) in
-    rateWords left (rateAfter (rateOf left) clock size (getD w 12 0 - 1) (getD w 13 0 - size))
+    rateWords left 4 (rateAfter (rateAt left 4) clock size (getD w 12 0 - 1) (getD w 13 0 - size))
 
 pub departed-words : (sizes : List ℕ) (clock size : ℕ) (w : List ℕ) → length w ≡ 21 →
     departureWritten w sizes clock size ≡ stateWords w (departedState (stateOf w) sizes clock size)

@@ -3,11 +3,9 @@ use mathlib.Core.List.{List}
 use Prim.Native.Nat.{ℕ, _+_}
 use lib.ListN.{getD, set}
 use Rattle.pie.specs.Verdicts.{placeOf}
-use Rattle.pie.specs.declared.Rate.{Rate}
 use Rattle.pie.specs.declared.Verdict.{Verdict}
 use Rattle.store.specs.Put.{endsAfterPut}
-use Rattle.pair_rules.specs.declared.State.{State}
-use Rattle.pair_words.specs.Words.{endsOf, stateOf, stateWords}
+use Rattle.pair_words.specs.Words.{endsOf}
 
 -- an arrival with this verdict: clock, accumulated probability and the verdict's count
 abbrev pub settledWords : (words : List ℕ) (clock accumulated : ℕ) → Verdict → List ℕ
@@ -20,21 +18,3 @@ enteredWords w size place =
     let ends = endsAfterPut (endsOf w) (getD w 12 0) place in
     let counted = set w 12 (getD w 12 0 + 1) in
     set (set (set counted 13 (getD counted 13 0 + size)) 14 (ends .head)) 15 (ends .tail)
-
--- a state with another departure rate
-abbrev pub withRate : State → Rate → State
-withRate s r =
-    let pie = s .pie in
-    record {
-      settings = s .settings;
-      clock = s .clock;
-      last = s .last;
-      pie = record { prob = pie .prob; old = pie .old; allowance = pie .allowance; accumulated = pie .accumulated; rate = r };
-      backlog = s .backlog;
-      ends = s .ends;
-      verdicts = s .verdicts;
-    }
-
--- the words with another departure rate
-unfoldable pub rateWords : (words : List ℕ) → Rate → List ℕ
-rateWords w r = stateWords w (withRate (stateOf w) r)

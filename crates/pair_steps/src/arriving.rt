@@ -2,22 +2,22 @@
 use pie::Decided;
 use pie::LARGEST;
 use pie::LATEST;
-use pie::MOST_ACCUMULATED;
-use pie::SMALL_QUEUE;
 use pie::Verdict;
+use pie_words::pie_at;
+use pie_words::spares;
 use store::Ends;
 use store::follow;
 use store::write_packet;
+use units::Micros;
 use units::Prob;
 ghost use mathlib.Core.Path.{_≡_};
 ghost use mathlib.Core.Bool.{cond, true, false, _&&_};
 ghost use Prim.Native.Nat.{_+_, _-_, _≤_, _<_};
 ghost use lib.Dec.{eqb, leb};
 ghost use lib.ListN.{getD, length, set};
-ghost use Rattle.units.specs.Kinds.{none, prob, whole};
-ghost use Rattle.pie.specs.Constants.{largest, mostAccumulated, mostVerdicts};
-ghost use Rattle.pie.specs.DropDecision.{drawn, sumOf};
-ghost use Rattle.pie.specs.Verdicts.{isEarly, placeOf, total};
+ghost use Rattle.units.specs.Kinds.{prob};
+ghost use Rattle.pie.specs.Constants.{largest, mostVerdicts};
+ghost use Rattle.pie.specs.Verdicts.{placeOf, total};
 ghost use Rattle.store.specs.Following.{linkRefused};
 ghost use Rattle.store.specs.Put.{freePlace, handlesAfterPut, sizesAfterPut, storeAfterPut};
 ghost use Rattle.pair_rules.specs.Facing.{facing};
@@ -26,7 +26,7 @@ ghost use Rattle.pair_rules.specs.WellFormed.{wellFormed};
 ghost use Rattle.pair_rules.specs.Arrival.{arrival, arrivedHandles, arrivedPie, arrivedSizes, verdictOf};
 ghost use Rattle.ring_words.specs.Codes.{codeOf};
 ghost use Rattle.pair_words.specs.After.{ownAfter, sharedAfter};
-ghost use Rattle.pair_words.specs.Words.{endsOf, pairOf, pieOf, sharedOf, sharedWords, stateOf, storeOf, whichOf};
+ghost use Rattle.pair_words.specs.Words.{endsOf, pairOf, sharedOf, sharedWords, stateOf, storeOf, whichOf};
 ghost use Rattle.pair_steps.specs.Written.{enteredWords, settledWords};
 
 // Rule 2, by the counts of the called queue (0, the intercom; 1, the passengers) and of the other one.
@@ -62,41 +62,6 @@ fn undrawn(w: &[u64; 21], verdict: Verdict) -> Decided
     }
 }
 
-// Past rule 5: the probability accumulates, and its sum or u decides.
-fn draw(w: &[u64; 21], ecn: bool, u: u32) -> Decided
-    requires { ⌜ (getD (now w) 4 0 ≤ whole) × (getD (now w) 7 0 < mostAccumulated) ⌝ }
-    ensures { λ r. ⌜ r .verdict ≡ drawn (pieOf (now (w .entry))) ecn u ⌝ }
-    ensures { λ r. ⌜ r .accumulated ≡ prob (cond (isEarly (r .verdict)) none (sumOf (pieOf (now (w .entry))))) ⌝ }
-{
-    let p = w[4];
-    let sum = w[7] + p;
-    let low = 20 * sum < 17 * Prob::WHOLE.0;
-    if low {
-        return Decided {
-            verdict: Verdict::Enqueued,
-            accumulated: Prob(sum),
-        };
-    }
-    let early = (MOST_ACCUMULATED <= sum) | ((u as u64) < p);
-    if early {
-        let marks = ecn & (p < Prob::TENTH.0);
-        if marks {
-            return Decided {
-                verdict: Verdict::Marked,
-                accumulated: Prob::NONE,
-            };
-        }
-        return Decided {
-            verdict: Verdict::DroppedEarly,
-            accumulated: Prob::NONE,
-        };
-    }
-    Decided {
-        verdict: Verdict::Enqueued,
-        accumulated: Prob(sum),
-    }
-}
-
 // Rules 1 to 7.
 fn decided(
     shared: &[u64; 6],
@@ -107,7 +72,7 @@ fn decided(
     ecn: bool,
     u: u32,
 ) -> Decided
-    requires { ⌜ queue < 2 ⌝ }
+    requires { ⌜ (queue < 2) × (length (now own) ≡ 21) ⌝ }
     requires { ⌜ wellFormed (pairOf (eqb queue 1) (now shared) (now own) (now other)) ≡ true ⌝ }
     requires { ⌜ size ≤ largest ⌝ }
     ensures { λ r. ⌜ r .verdict ≡ verdictOf (pairOf (eqb queue 1) (now (shared .entry)) (now (own .entry)) (now (other .entry)))
@@ -123,22 +88,11 @@ fn decided(
     if full {
         return undrawn(own, Verdict::DroppedSlots);
     }
-    let in_allowance = 0 < own[6];
-    if in_allowance {
+    let spared = spares(own, 4, Micros(own[0]));
+    if spared {
         return undrawn(own, Verdict::Enqueued);
     }
-    let short = 2 * own[5] < own[0];
-    if short {
-        let light = 5 * own[4] < Prob::WHOLE.0;
-        if light {
-            return undrawn(own, Verdict::Enqueued);
-        }
-    }
-    let small = bytes <= SMALL_QUEUE;
-    if small {
-        return undrawn(own, Verdict::Enqueued);
-    }
-    draw(own, ecn, u)
+    pie_at(own, 4).draw(ecn, u)
 }
 
 // Writes clock, accumulated probability and the verdict's count. Gives the place of the verdict.

@@ -1,8 +1,7 @@
 // A departure from records that are well formed, with tables that fit.
 use pie::Backlog;
 use pie::LATEST;
-use pie::Rate;
-use pie::THRESHOLD;
+use pie_words::measure;
 use refusals::wrong_head;
 use store::follow;
 use store::leads_nowhere;
@@ -13,60 +12,12 @@ use units::Micros;
 ghost use mathlib.Core.Path.{_≡_};
 ghost use mathlib.Core.Bool.{true};
 ghost use mathlib.Core.List.{[], _∷_};
-ghost use Prim.Native.Nat.{_≤_, _<_};
-ghost use lib.ListN.{getD, length};
-ghost use Rattle.pie.specs.Constants.{largest, longest, threshold};
-ghost use Rattle.pie.specs.DepartureRate.{rateAfter};
+ghost use lib.ListN.{length};
 ghost use Rattle.pair_rules.specs.WellFormed.{wellFormed};
 ghost use Rattle.pair_rules.specs.Departure.{departedSizes, departure};
 ghost use Rattle.ring_words.specs.Codes.{codeOf, packetOf};
 ghost use Rattle.pair_words.specs.After.{ownAfter, sharedAfter};
-ghost use Rattle.pair_words.specs.Words.{pairOf, rateOf, sharedOf, whichOf};
-ghost use Rattle.pair_steps.specs.Written.{rateWords};
-
-// The departure rate moves on. Only the counted bytes are written where a measurement goes on, and nothing where none runs or starts.
-fn measure(w: &mut [u64; 21], clock: u64, size: u64, count: u64, left: u64)
-    requires { ⌜ length (now w) ≡ 21 ⌝ }
-    requires { ⌜ (getD (now w) 10 0 ≤ clock) × (getD (now w) 8 0 ≤ longest) × (getD (now w) 11 0 < threshold) × (size ≤ largest) ⌝ }
-    ensures { λ _. ⌜ now (w .exit) ≡ rateWords (now (w .entry)) (rateAfter (rateOf (now (w .entry))) clock size count left) ⌝ }
-{
-    let runs = w[9] != 0;
-    if runs {
-        let counted = w[11] + size;
-        let goes_on = (counted < THRESHOLD) & (count != 0);
-        if goes_on {
-            w[11] = counted;
-            return;
-        }
-    } else {
-        let starts = THRESHOLD <= left;
-        if !starts {
-            return;
-        }
-    }
-    let rate = Rate {
-        average: Micros(w[8]),
-        measuring: runs,
-        start: Micros(w[10]),
-        counted: Bytes(w[11]),
-    };
-    let backlog = Backlog {
-        count,
-        bytes: Bytes(left),
-    };
-    let next = rate.depart(Micros(clock), Bytes(size), backlog);
-    w[8] = next.average.0;
-    w[10] = next.start.0;
-    w[11] = next.counted.0;
-    let going = next.measuring;
-    if going {
-        if !runs {
-            w[9] = 1;
-        }
-        return;
-    }
-    w[9] = 0;
-}
+ghost use Rattle.pair_words.specs.Words.{pairOf, sharedOf, whichOf};
 
 // The head leaves. Nothing is written to the packet of a refused departure.
 pub fn depart(
@@ -126,6 +77,10 @@ pub fn depart(
     own[12] = others;
     own[13] = left;
     own[14] = next;
-    measure(own, clock, size as u64, others, left);
+    let rest = Backlog {
+        count: others,
+        bytes: Bytes(left),
+    };
+    measure(own, 4, Micros(clock), Bytes(size as u64), rest);
     0
 }

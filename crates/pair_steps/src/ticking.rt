@@ -1,11 +1,9 @@
 // A tick of records that are well formed.
 use pie::LATEST;
 use pie::PERIOD;
-use pie::Pie;
-use pie::Rate;
+use pie_words::pie_at;
 use units::Bytes;
 use units::Micros;
-use units::Prob;
 ghost use mathlib.Core.Path.{_≡_};
 ghost use mathlib.Core.Bool.{true};
 ghost use lib.ListN.{length};
@@ -36,19 +34,7 @@ pub fn tick(
     if too_soon {
         return 105;
     }
-    let rate = Rate {
-        average: Micros(own[8]),
-        measuring: own[9] != 0,
-        start: Micros(own[10]),
-        counted: Bytes(own[11]),
-    };
-    let pie = Pie {
-        prob: Prob(own[4]),
-        old: Micros(own[5]),
-        allowance: Micros(own[6]),
-        accumulated: Prob(own[7]),
-        rate,
-    };
+    let pie = pie_at(own, 4);
     let next = pie.update(false, Micros(own[0]), Bytes(own[13]));
     own[2] = clock;
     own[3] = clock;

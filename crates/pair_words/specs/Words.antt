@@ -7,7 +7,7 @@ use Rattle.units.specs.Kinds.{bytes, micros, prob}
 use Rattle.pie.specs.declared.Backlog.{Backlog}
 use Rattle.pie.specs.declared.Pie.{Pie}
 use Rattle.pie.specs.declared.Rate.{Rate}
-use Rattle.ring_words.specs.Flags.{flagWord, isSet}
+use Rattle.pie_words.specs.Flags.{flagWord, isSet}
 use Rattle.store.specs.declared.Ends.{Ends}
 use Rattle.store.specs.declared.Store.{Store}
 use Rattle.pair_rules.specs.Fresh.{settingsOf}

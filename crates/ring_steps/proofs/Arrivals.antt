@@ -16,7 +16,7 @@ use Rattle.pie.proofs.Counts.{count-le-total}
 use Rattle.ring.specs.Activity.{begun, turnsActive}
 use Rattle.ring.specs.Arrival.{arrivedState}
 use Rattle.ring.proofs.Activation.{begun-same}
-use Rattle.ring_words.specs.Flags.{isSet}
+use Rattle.pie_words.specs.Flags.{isSet}
 use Rattle.ring_words.specs.Words.{restartedWords, stateOf, stateWords}
 use Rattle.ring_words.proofs.Words.{count-word}
 use Rattle.ring_steps.specs.Words.{decidedWords}

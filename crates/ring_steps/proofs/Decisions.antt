@@ -16,7 +16,7 @@ use Rattle.pie.specs.declared.Verdict.the-variants.{DroppedEarly, Enqueued, Mar
 use Rattle.ring.specs.Arrival.{verdictOf}
 use Rattle.ring.proofs.Activation.{decided-alike, inactive-zero}
 use Rattle.ring.proofs.Facts.{Facts}
-use Rattle.ring_words.specs.Flags.{isSet}
+use Rattle.pie_words.specs.Flags.{isSet}
 use Rattle.ring_words.specs.Words.{pieOf, stateOf}
 use Rattle.ring_steps.specs.Words.{decidedWords, drawnWords}
 use Rattle.ring_steps.proofs.Words.{undecided}
@@ -85,3 +85,11 @@ module _ (w : List ℕ) (long : length w ≡ 23) (size : ℕ) (ecn : Bool) (u : 
       drawn-decides e place after f g =
           let r = ruled (drawn (pieOf w) ecn u) (rw e) in
           (f ∙ r .0, g ∙ ap (λ (x : ℕ). set w 8 x) (drawn-sum (pieOf w) (getD w 0 0) (getD w 14 0) ecn u e) ∙ r .1)
+
+-- past rule 5, from what was read and drawn
+pub drawn-written : (w : List ℕ) (ecn : Bool) (u : ℕ) (pie : Pie) (v : Verdict) (a : Prob) → pie ≡ pieOf w → v ≡ drawn pie ecn u →
+    a ≡ prob (cond (isEarly v) none (sumOf pie)) → (x : Verdict) → v ≡ x →
+    (placeOf x ≡ placeOf (drawn (pieOf w) ecn u)) × (set w 8 (a .0) ≡ drawnWords w (drawn (pieOf w) ecn u))
+drawn-written w ecn u pie v a read ev ea x e =
+    let found = rw read at ev in
+    let sum = rw (read, found) at ea in (ap placeOf (sym e ∙ found), ap (λ (p : Prob). set w 8 (p .0)) sum)

@@ -21,11 +21,12 @@ use Rattle.ring.specs.Activity.{begun}
 use Rattle.ring.specs.Arrival.{arrivedState}
 use Rattle.ring.specs.Departure.{departedState}
 use Rattle.ring.specs.Tick.{tickedState}
-use Rattle.ring_words.specs.Flags.{isSet}
+use Rattle.pie_words.specs.Flags.{isSet}
 use Rattle.ring_words.specs.Words.{pieOf, rateOf, restartedWords, stateOf, stateWords}
-use Rattle.ring_words.proofs.Flags.{flag-kept, flag-off}
+use Rattle.pie_words.proofs.Flags.{flag-kept, flag-off}
 use Rattle.ring_words.proofs.Written.{listed, written-out}
-use Rattle.ring_steps.specs.Words.{decidedWords, rateWords}
+use Rattle.pie_words.specs.Words.{rateAt, rateWords}
+use Rattle.ring_steps.specs.Words.{decidedWords}
 
 -- what holds of any twenty-three words written out holds of twenty-three words
 pub for-words : (P : List ℕ → Type 0) → ((f : ℕ → ℕ) → P (listed 23 f)) → (w : List ℕ) → length w ≡ 23 → P w
@@ -161,37 +162,6 @@ module _ (clock : ℕ) where
         Ticked w (set (updatedWords (clockedWords w clock) next) 22 0)
     turns-inactive t = rw ruled (turned-words w long active calm (rw (found, ruled) at t))
 
--- ── the departure rate ──
-
-pub counting-words : (counted : ℕ) (w : List ℕ) → length w ≡ 23 → isSet (getD w 10 0) ≡ true →
-    set w 12 counted ≡ rateWords w (running (getD w 9 0) (getD w 11 0) counted)
-unfolding stateOf stateWords rateWords
-counting-words counted =
-    for-words (λ w. isSet (getD w 10 0) ≡ true → set w 12 counted ≡ rateWords w (running (getD w 9 0) (getD w 11 0) counted))
-    (λ f e. rw (flag-kept (f 22), e))
-
-pub same-words : (w : List ℕ) → length w ≡ 23 → w ≡ rateWords w (rateOf w)
-unfolding stateOf stateWords rateWords
-same-words = for-words (λ w. w ≡ rateWords w (rateOf w)) (λ f. rw (flag-kept (f 10), flag-kept (f 22)))
-
-abbrev pub rated : List ℕ → Rate → List ℕ
-rated w r = set (set (set w 9 (r .average .0)) 11 (r .start .0)) 12 (r .counted .0)
-
-pub going-on : (r : Rate) → r .measuring ≡ true → (w : List ℕ) → length w ≡ 23 → isSet (getD w 10 0) ≡ true → rated w r ≡ rateWords w r
-unfolding stateOf stateWords rateWords
-going-on r m = for-words (λ w. isSet (getD w 10 0) ≡ true → rated w r ≡ rateWords w r) (λ f e. rw (flag-kept (f 22), m, e))
-
-pub starting-words : (r : Rate) → r .measuring ≡ true → (w : List ℕ) → length w ≡ 23 → isSet (getD w 10 0) ≡ false →
-    set (rated w r) 10 1 ≡ rateWords w r
-unfolding stateOf stateWords rateWords
-starting-words r m =
-    for-words (λ w. isSet (getD w 10 0) ≡ false → set (rated w r) 10 1 ≡ rateWords w r) (λ f e. rw (flag-kept (f 22), m, e))
-
-pub resting-words : (r : Rate) → r .measuring ≡ false → (w : List ℕ) → length w ≡ 23 → set (rated w r) 10 0 ≡ rateWords w r
-unfolding stateOf stateWords rateWords
-resting-words r m =
-    for-words (λ w. set (rated w r) 10 0 ≡ rateWords w r) (λ f. rw (flag-kept (f 22), m, flag-off (f 10)))
-
 -- ── a departure ──
 
 -- clock, count, bytes and first place
@@ -201,35 +171,16 @@ leftWords w clock size first = set (set (set (set w 3 clock) 13 (getD w 13 0 - 1
 abbrev departureWritten : List ℕ → (clock size : ℕ) → List ℕ
 departureWritten w clock size =
     let left = leftWords w clock size ((getD w 15 0 + 1) % getD w 2 0) in
-    rateWords left (rateAfter (rateOf left) clock size (getD w 13 0 - 1) (getD w 14 0 - size))
+    rateWords left 5 (rateAfter (rateAt left 5) clock size (getD w 13 0 - 1) (getD w 14 0 - size))
 
 pub departed-words : (clock size : ℕ) (w : List ℕ) → length w ≡ 23 →
     departureWritten w clock size ≡ stateWords w (departedState (stateOf w) clock size)
 unfolding stateOf stateWords rateWords departedState
 departed-words clock size =
-    for-words (λ w. departureWritten w clock size ≡ stateWords w (departedState (stateOf w) clock size)) (λ f. refl)
+    for-words (λ w. departureWritten w clock size ≡ stateWords w (departedState (stateOf w) clock size)) (λ f. rw (flag-kept (f 22)))
 
 pub left-rate : (clock size first : ℕ) (w : List ℕ) → length w ≡ 23 → rateOf (leftWords w clock size first) ≡ rateOf w
 left-rate clock size first = for-words (λ w. rateOf (leftWords w clock size first) ≡ rateOf w) (λ f. refl)
 
 pub left-long : (clock size first : ℕ) (w : List ℕ) → length w ≡ 23 → length (leftWords w clock size first) ≡ 23
 left-long clock size first = for-words (λ w. length (leftWords w clock size first) ≡ 23) (λ f. refl)
-
--- ── the rate's own cases ──
-
--- a measurement goes on
-pub counting-rate : (w : List ℕ) (clock size count bytesLeft : ℕ) → isSet (getD w 10 0) ≡ true →
-    ltb (getD w 12 0 + size) threshold && not (eqb count 0) ≡ true →
-    rateAfter (rateOf w) clock size count bytesLeft ≡ running (getD w 9 0) (getD w 11 0) (getD w 12 0 + size)
-unfolding rateAfter
-counting-rate w clock size count bytesLeft e f =
-    let low = ltb (getD w 12 0 + size) threshold in
-    let below : getD w 12 0 + size < threshold = ltb-true _ _ (and-left low (not (eqb count 0)) f) in
-    let some : eqb count 0 ≡ false = not-true (eqb count 0) (and-right low (not (eqb count 0)) f) in
-    rw (e, lt-leb threshold (getD w 12 0 + size) below, some)
-
--- none runs, and none starts
-pub resting-rate : (w : List ℕ) (clock size count bytesLeft : ℕ) → isSet (getD w 10 0) ≡ false → not (leb threshold bytesLeft) ≡ true →
-    rateAfter (rateOf w) clock size count bytesLeft ≡ rateOf w
-unfolding rateAfter
-resting-rate w clock size count bytesLeft e f = rw (e, not-true (leb threshold bytesLeft) f)

@@ -5,11 +5,9 @@ use Prim.Native.Nat.{ℕ}
 use lib.ListN.{set}
 use Rattle.pie.specs.DropDecision.{sumOf}
 use Rattle.pie.specs.Verdicts.{isEarly}
-use Rattle.pie.specs.declared.Rate.{Rate}
 use Rattle.pie.specs.declared.Verdict.{Verdict}
 use Rattle.ring.specs.Arrival.{arrivedPie}
-use Rattle.ring.specs.declared.State.{State}
-use Rattle.ring_words.specs.Words.{pieOf, stateOf, stateWords}
+use Rattle.ring_words.specs.Words.{pieOf, stateOf}
 
 -- the accumulated probability past rule 5 (Q-3): an early verdict sets it to 0
 abbrev pub drawnWords : (words : List ℕ) → Verdict → List ℕ
@@ -18,22 +16,3 @@ drawnWords w v = set w 8 (cond (isEarly v) 0 (sumOf (pieOf w)))
 -- the accumulated probability after rules 1 to 7 (Q-3); an inactive queue's stays (Q-12)
 abbrev pub decidedWords : (words : List ℕ) → Verdict → List ℕ
 decidedWords w v = set w 8 ((arrivedPie (stateOf w) v) .accumulated .0)
-
--- a state with another departure rate
-abbrev pub withRate : State → Rate → State
-withRate s r =
-    let pie = s .pie in
-    record {
-      settings = s .settings;
-      clock = s .clock;
-      last = s .last;
-      pie = record { prob = pie .prob; old = pie .old; allowance = pie .allowance; accumulated = pie .accumulated; rate = r };
-      backlog = s .backlog;
-      first = s .first;
-      verdicts = s .verdicts;
-      active = s .active;
-    }
-
--- the words with another departure rate
-unfoldable pub rateWords : (words : List ℕ) → Rate → List ℕ
-rateWords w r = stateWords w (withRate (stateOf w) r)

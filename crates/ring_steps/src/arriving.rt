@@ -2,11 +2,12 @@
 use bursts::wide;
 use pie::LARGEST;
 use pie::LATEST;
-use pie::MOST_ACCUMULATED;
-use pie::SMALL_QUEUE;
+use pie::Verdict;
+use pie_words::pie_at;
+use pie_words::spares;
 use places::tail_place;
 use ring_words::write_restart;
-use units::Prob;
+use units::Micros;
 ghost use mathlib.Core.Path.{_≡_};
 ghost use mathlib.Core.Bool.{true};
 ghost use Prim.Native.Nat.{_≤_, _<_};
@@ -24,35 +25,42 @@ ghost use Rattle.ring_steps.specs.Lent.{lent};
 ghost use Rattle.ring_steps.specs.Fitting.{Ready};
 ghost use Rattle.ring_steps.specs.Words.{decidedWords, drawnWords};
 
-// Past rule 5: the probability accumulates, and its sum or u decides. Gives the place of the verdict.
-fn draw(w: &mut [u64; 23], ecn: bool, u: u64) -> usize
-    requires { ⌜ (getD (now w) 5 0 ≤ whole) × (getD (now w) 8 0 < mostAccumulated) ⌝ }
+// Past rule 5: gives the place of the verdict, and writes the accumulated probability. An arm for each verdict: with one write before them
+// the compiler tests the place again (docs/PERFORMANCE.md).
+fn draw(w: &mut [u64; 23], ecn: bool, u: u32) -> usize
+    requires { ⌜ (length (now w) ≡ 23) × (getD (now w) 5 0 ≤ whole) × (getD (now w) 8 0 < mostAccumulated) ⌝ }
     ensures { λ r. ⌜ r ≡ placeOf (drawn (pieOf (now (w .entry))) ecn u) ⌝ }
     ensures { λ _. ⌜ now (w .exit) ≡ drawnWords (now (w .entry)) (drawn (pieOf (now (w .entry))) ecn u) ⌝ }
 {
-    let p = w[5];
-    let sum = w[8] + p;
-    let low = 20 * sum < 17 * Prob::WHOLE.0;
-    if low {
-        w[8] = sum;
-        return 0;
-    }
-    let early = (MOST_ACCUMULATED <= sum) | (u < p);
-    if early {
-        w[8] = 0;
-        let marks = ecn & (p < Prob::TENTH.0);
-        if marks {
-            return 1;
+    let found = pie_at(w, 5).draw(ecn, u);
+    let v = found.verdict;
+    match v {
+        Verdict::Enqueued => {
+            w[8] = found.accumulated.0;
+            0
         }
-        return 4;
+        Verdict::Marked => {
+            w[8] = found.accumulated.0;
+            1
+        }
+        Verdict::DroppedBytes => {
+            w[8] = found.accumulated.0;
+            2
+        }
+        Verdict::DroppedSlots => {
+            w[8] = found.accumulated.0;
+            3
+        }
+        Verdict::DroppedEarly => {
+            w[8] = found.accumulated.0;
+            4
+        }
     }
-    w[8] = sum;
-    0
 }
 
 // Rules 1 to 7: gives the place of the verdict. The accumulated probability is written where it moves. An inactive queue's probability is
 // 0, and rules 3 to 7 enqueue in it.
-fn decide(w: &mut [u64; 23], size: u64, ecn: bool, u: u64) -> usize
+fn decide(w: &mut [u64; 23], size: u64, ecn: bool, u: u32) -> usize
     requires { ⌜ (length (now w) ≡ 23) × (wellFormed (stateOf (now w)) ≡ true) ⌝ }
     requires { ⌜ size ≤ largest ⌝ }
     ensures { λ r. ⌜ r ≡ placeOf (verdictOf (stateOf (now (w .entry))) size ecn u) ⌝ }
@@ -67,19 +75,9 @@ fn decide(w: &mut [u64; 23], size: u64, ecn: bool, u: u64) -> usize
     if slots_full {
         return 3;
     }
-    let in_allowance = 0 < w[7];
-    if in_allowance {
-        return 0;
-    }
-    let short = 2 * w[6] < w[0];
-    if short {
-        let light = 5 * w[5] < Prob::WHOLE.0;
-        if light {
-            return 0;
-        }
-    }
-    let small = bytes <= SMALL_QUEUE;
-    if small {
+    let target = Micros(w[0]);
+    let spared = spares(w, 5, target);
+    if spared {
         return 0;
     }
     draw(w, ecn, u)
@@ -106,7 +104,7 @@ fn take(
         × (now (sizes .exit) ≡ stored s (verdict v) (now (sizes .entry)) size)) ⌝ }
 {
     let bytes = wide(size);
-    let v = decide(w, bytes, ecn, wide(u));
+    let v = decide(w, bytes, ecn, u);
     let row = 16 + v;
     w[3] = clock;
     w[row] = w[row] + 1;

@@ -1,12 +1,10 @@
 // A tick of a queue that is ready for it.
 use pie::LATEST;
 use pie::PERIOD;
-use pie::Pie;
-use pie::Rate;
 use pie::refills;
+use pie_words::pie_at;
 use units::Bytes;
 use units::Micros;
-use units::Prob;
 ghost use mathlib.Core.Path.{_≡_};
 ghost use mathlib.Core.Bool.{true};
 ghost use lib.ListN.{length};
@@ -15,25 +13,6 @@ ghost use Rattle.ring.specs.State.{wellFormed};
 ghost use Rattle.ring.specs.Tick.{tick, tickedState};
 ghost use Rattle.ring_words.specs.Codes.{codeOf, wordsAfter};
 ghost use Rattle.ring_words.specs.Words.{pieOf, stateOf, stateWords};
-
-// The algorithm's record in the words.
-fn pie_of(w: &[u64; 23]) -> Pie
-    ensures { λ r. ⌜ r ≡ pieOf (now (w .entry)) ⌝ }
-{
-    let rate = Rate {
-        average: Micros(w[9]),
-        measuring: w[10] != 0,
-        start: Micros(w[11]),
-        counted: Bytes(w[12]),
-    };
-    Pie {
-        prob: Prob(w[5]),
-        old: Micros(w[6]),
-        allowance: Micros(w[7]),
-        accumulated: Prob(w[8]),
-        rate,
-    }
-}
 
 // The tick of a calm queue: an inactive one's clocks alone; an active one may turn inactive (Q-12).
 fn tick_calm(w: &mut [u64; 23], clock: u64)
@@ -49,7 +28,7 @@ fn tick_calm(w: &mut [u64; 23], clock: u64)
     let target = Micros(w[0]);
     let old = Micros(w[6]);
     let queued = w[14];
-    let pie = pie_of(w);
+    let pie = pie_at(w, 5);
     let next = pie.update(true, target, Bytes(queued));
     let quiet = refills(next.prob, next.old, old, target);
     let loaded = w[1] < 3 * queued;
@@ -83,7 +62,7 @@ pub fn tick(w: &mut [u64; 23], clock: u64) -> u64
         tick_calm(w, clock);
         return 0;
     }
-    let pie = pie_of(w);
+    let pie = pie_at(w, 5);
     let next = pie.update(false, Micros(w[0]), Bytes(w[14]));
     w[3] = clock;
     w[4] = clock;

@@ -14,9 +14,9 @@ use Rattle.pie.specs.declared.Verdict.the-variants.{Enqueued, Marked, DroppedBy
 use Rattle.ring.specs.Activity.{aboveThird, begun}
 use Rattle.ring.specs.Arrival.{arrivedState}
 use Rattle.ring.specs.declared.State.{State}
-use Rattle.ring_words.specs.Flags.{isSet}
+use Rattle.pie_words.specs.Flags.{isSet}
 use Rattle.ring_words.specs.Words.{arrivalWords, restartedWords, stateOf, stateWords}
-use Rattle.ring_words.proofs.Flags.{flag-kept, flag-off}
+use Rattle.pie_words.proofs.Flags.{flag-kept, flag-off}
 use Rattle.ring_words.proofs.Written.{listed, written-out}
 
 or-no : (b : Bool) → (b || false) ≡ b

@@ -12,9 +12,9 @@ use Rattle.pie.specs.DepartureRate.{averageOf, rateAfter, resting, running, sam
 use Rattle.pie.specs.declared.Rate.{Rate}
 use Rattle.ring.specs.Departure.{departedState}
 use Rattle.ring.specs.declared.State.{State}
-use Rattle.ring_words.specs.Flags.{flagWord, isSet}
+use Rattle.pie_words.specs.Flags.{flagWord, isSet}
 use Rattle.ring_words.specs.Words.{stateOf, stateWords}
-use Rattle.ring_words.proofs.Flags.{flag-kept}
+use Rattle.pie_words.proofs.Flags.{flag-kept}
 use Rattle.ring_words.proofs.Written.{listed, written-out}
 
 -- a rate that has counted bytes after a departure was counting before it: the others of its numbers stay

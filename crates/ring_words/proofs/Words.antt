@@ -8,7 +8,7 @@ use Rattle.pie.specs.declared.Verdict.{Verdict}
 use Rattle.pie.specs.declared.Verdict.the-variants.{Enqueued, Marked, DroppedBytes, DroppedSlots, DroppedEarly}
 use Rattle.ring.specs.declared.State.{State}
 use Rattle.ring_words.specs.Words.{stateOf, stateWords}
-use Rattle.ring_words.proofs.Flags.{flag-says}
+use Rattle.pie_words.proofs.Flags.{flag-says}
 use Rattle.ring_words.proofs.Written.{written-out}
 
 -- the counts are five words in a row

@@ -11,7 +11,7 @@ use Rattle.pie.specs.declared.Verdict.{Verdict}
 use Rattle.pie.specs.Verdicts.{placeOf}
 use Rattle.ring.specs.declared.State.{State}
 use Rattle.ring.specs.Fresh.{settingsOf}
-use Rattle.ring_words.specs.Flags.{flagWord, isSet}
+use Rattle.pie_words.specs.Flags.{flagWord, isSet}
 
 abbrev pub rateOf : (words : List ℕ) → Rate
 rateOf w =

@@ -8,9 +8,9 @@ ghost use Rattle.refusals.specs.Numbers.{numberOf};
 mod reading;
 mod writing;
 
+pub use pie_words::flag;
 pub use reading::decode;
 pub use writing::encode;
-pub use writing::flag;
 pub use writing::write_arrival;
 pub use writing::write_departure;
 pub use writing::write_restart;

@@ -1,6 +1,7 @@
 // A state written over words: whole, or where a call changes it.
 use pie::FULL_ALLOWANCE;
 use pie::Verdict;
+use pie_words::flag;
 use ring::State;
 ghost use mathlib.Core.Path.{_≡_};
 ghost use mathlib.Core.Bool.{cond};
@@ -10,22 +11,7 @@ ghost use lib.ListN.{getD, length};
 ghost use Rattle.pie.specs.Constants.{mostVerdicts};
 ghost use Rattle.pie.specs.Verdicts.{placeOf};
 ghost use Rattle.ring.specs.Departure.{departedState};
-ghost use Rattle.ring_words.specs.Flags.{flagWord};
 ghost use Rattle.ring_words.specs.Words.{arrivalWords, restartedWords, stateOf, stateWords};
-
-// The word of a flag, left as it is where it says so already.
-pub fn flag(word: u64, said: bool) -> u64
-    ensures { λ r. ⌜ r ≡ flagWord word said ⌝ }
-{
-    let set = word != 0;
-    if set {
-        if said {
-            return word;
-        }
-        return 0;
-    }
-    said as u64
-}
 
 // The words of a state.
 pub fn encode(w: &mut [u64; 23], s: State)

@@ -127,7 +127,7 @@ returns-2 c =
 decided-requires : tie.Need-decided-requires
 decided-requires c κs =
     let e2 = c .before .before in
-    let a = at-start (e2 .before) in (a .pre .0 .0, (a .pre .1 .0, size-in-range _ (e2 .if2 .left) .1))
+    let a = at-start (e2 .before) in ((a .pre .0 .0, a .pre .0 .2), (a .pre .1 .0, size-in-range _ (e2 .if2 .left) .1))
 
 admits-requires : tie.Need-admits-requires
 admits-requires c κs = search needs

@@ -161,13 +161,13 @@ follow-requires : tie.Need-follow-requires
 unfolding sharedOf stateOf
 follow-requires c κs = head-in (start-4 (c .before))
 
-mul-t42 : tie.Need-mul-t42
+mul-t43 : tie.Need-mul-t43
 unfolding sharedOf stateOf
-mul-t42 c = let k = known-of (start-4 (c .before .before)) in omega (arith, k .own .head-high, k .slots-high)
+mul-t43 c = let k = known-of (start-4 (c .before .before)) in omega (arith, k .own .head-high, k .slots-high)
 
-shared-slice-read-t44 : tie.Need-shared-slice-read-t44
+shared-slice-read-t45 : tie.Need-shared-slice-read-t45
 unfolding sharedOf stateOf
-shared-slice-read-t44 c =
+shared-slice-read-t45 c =
     let a = start-4 (c .before .before .before) in
     let k = known-of a in omega (arith, k .own .head-high, a .pre .1 .1 .0 .0)
 
@@ -220,8 +220,8 @@ element-write-own-3 c = search needs
 element-write-own-4 : tie.Need-element-write-own-4
 element-write-own-4 c = search needs
 
-cast-measure : tie.Need-cast-measure
-cast-measure c = search needs
+cast-t24 : tie.Need-cast-t24
+cast-t24 c = search needs
 
 measure-requires : tie.Need-measure-requires
 unfolding sharedOf stateOf
@@ -236,7 +236,7 @@ measure-requires c κs =
     let same = left-rate (a .args .clock) (d .result) next w (a .pre .0 .1) in
     let low = or-neither (ltb (a .args .clock) (getD w 2 0)) _ (at-two e3 .before .before .if1 .left) .0 in
     let later : getD w 2 0 ≤ a .args .clock = ltb-false _ _ low in (
-      left-long (a .args .clock) (d .result) next w (a .pre .0 .1),
+      omega (arith, left-long (a .args .clock) (d .result) next w (a .pre .0 .1)),
       (
         rw (ap (λ (r : Rate). r .start .0) same) (omega (arith, k .own .start-high, later)),
         rw (ap (λ (r : Rate). r .average .0) same) (k .own .average-high),
@@ -295,8 +295,8 @@ depart-spec =
     same-length-2
     returns-4
     follow-requires
-    mul-t42
-    shared-slice-read-t44
+    mul-t43
+    shared-slice-read-t45
     element-copy-out-write-freed
     write-freed-requires
     element-write-shared
@@ -310,7 +310,7 @@ depart-spec =
     element-write-own-2
     element-write-own-3
     element-write-own-4
-    cast-measure
+    cast-t24
     measure-requires
     same-length-3
     returns-5)

@@ -52,46 +52,26 @@ returns-2 c =
     let a = e1 .before .before in
     rw (tick-early (shared a) (own a) (other a) (a .args .clock) (which a) (a .pre .1) (e1 .if1 .left) (c .if2 .taken)) (refl, refl)
 
-element-copy-out-t18 : tie.Need-element-copy-out-t18
-element-copy-out-t18 c = search needs
+pie-at-requires : tie.Need-pie-at-requires
+pie-at-requires c κs = search needs
 
-element-copy-out-t13 : tie.Need-element-copy-out-t13
-element-copy-out-t13 c = search needs
+element-copy-out-t17 : tie.Need-element-copy-out-t17
+element-copy-out-t17 c = search needs
 
-element-copy-out-t26 : tie.Need-element-copy-out-t26
-element-copy-out-t26 c = search needs
+element-copy-out-t12 : tie.Need-element-copy-out-t12
+element-copy-out-t12 c = search needs
 
-element-copy-out-t30 : tie.Need-element-copy-out-t30
-element-copy-out-t30 c = search needs
+abbrev at-two : tie.After-t12 → tie.Else2
+at-two c = c .before .before .before .before .before
 
-element-copy-out-t18-2 : tie.Need-element-copy-out-t18-2
-element-copy-out-t18-2 c = search needs
-
-element-copy-out-t13-2 : tie.Need-element-copy-out-t13-2
-element-copy-out-t13-2 c = search needs
-
-element-copy-out-t30-2 : tie.Need-element-copy-out-t30-2
-element-copy-out-t30-2 c = search needs
-
-element-copy-out-t26-2 : tie.Need-element-copy-out-t26-2
-element-copy-out-t26-2 c = search needs
-
-element-copy-out-t18-3 : tie.Need-element-copy-out-t18-3
-element-copy-out-t18-3 c = search needs
-
-element-copy-out-t13-3 : tie.Need-element-copy-out-t13-3
-element-copy-out-t13-3 c = search needs
-
-abbrev at-two : tie.After-t133 → tie.Else2
-at-two c = c .before .before .before .before .before .before .before .before .before .before
-
-abbrev at-start : tie.After-t133 → tie.Start
+abbrev at-start : tie.After-t12 → tie.Start
 at-start c = at-two c .before .before .before .before
 
 update-requires : tie.Need-update-requires
 unfolding stateOf
 update-requires c κs =
-    let k = known-of (at-start c) in (
+    let k = known-of (at-start c) in
+    rw (c .before .before .pie-at .ensures) (
       (k .own .prob-high, k .own .old-high, k .own .average-high),
       (k .own .target-high, omega (arith, k .own .bytes-fit, k .own .buffer-high)),
     )
@@ -119,8 +99,9 @@ returns-3 c =
     let a = at-start (c .before) in
     let ow = now (a .args .own) in
     let made = tick-made (shared a) (own a) (other a) (a .args .clock) (which a) (a .pre .1) (e1 .if1 .left) (e2 .if2 .left) in
+    let next = rw (c .before .before .before .pie-at .ensures) at (c .update .ensures) in
     ticked-gives (which a) (shared a) (own a) (other a) (a .args .clock) ow _ made
-    (rw (c .update .ensures) (ticked-words (a .args .clock) ow (a .pre .0)))
+    (rw next (ticked-words (a .args .clock) ow (a .pre .0)))
 
 pub tick-spec : {M : Type 1} → statement M
 tick-spec =
@@ -131,16 +112,9 @@ tick-spec =
     element-copy-out-too-soon
     add-too-soon
     returns-2
-    element-copy-out-t18
-    element-copy-out-t13
-    element-copy-out-t26
-    element-copy-out-t30
-    element-copy-out-t18-2
-    element-copy-out-t13-2
-    element-copy-out-t30-2
-    element-copy-out-t26-2
-    element-copy-out-t18-3
-    element-copy-out-t13-3
+    pie-at-requires
+    element-copy-out-t17
+    element-copy-out-t12
     update-requires
     element-write-own
     element-write-own-2

@@ -31,17 +31,17 @@ known a = facts _ (a .pre .0 .0 .1)
 
 -- where the call began
 abbrev begun : tie.After-decide → tie.Start
-begun c = c .before .before .before .before .before .before
+begun c = c .before .before .before .before .before
 
 -- verdict and words are those of the rules
 ruled-place : (c : tie.After-decide) → c .decide .result ≡ placeOf (ruled (begun c))
-ruled-place c = rw (c .before .wide2 .ensures, c .before .before .before .wide .ensures) at (c .decide .ensures .0)
+ruled-place c = rw (c .before .before .wide .ensures) at (c .decide .ensures .0)
 
 place-low : (c : tie.After-decide) → c .decide .result < 5
 place-low c = rw (ruled-place c) (place-lt (ruled (begun c)))
 
 ruled-words : (c : tie.After-decide) → c .decide .last .0 ≡ decidedWords (wordsAt (begun c)) (ruled (begun c))
-ruled-words c = rw (c .before .wide2 .ensures, c .before .before .before .wide .ensures) at (c .decide .ensures .1)
+ruled-words c = rw (c .before .before .wide .ensures) at (c .decide .ensures .1)
 
 -- the words that are read after clock and count are written
 kept : (c : tie.After-decide) (count i : ℕ) → i < 16 → i ≢ 3 → i ≢ 8 →
@@ -64,9 +64,6 @@ tail-low c = rw (tail-place c) (mod-lt _ (known (begun (c .before .before .befor
 
 wide-requires : tie.Need-wide-requires
 wide-requires c κs = search needs
-
-wide-requires-2 : tie.Need-wide-requires-2
-wide-requires-2 c κs = search needs
 
 decide-requires : tie.Need-decide-requires
 decide-requires c κs = search needs
@@ -137,7 +134,7 @@ add-w-3 c =
     let a = begun v in
     let f = known a in
     rw (past-bytes (wordsAt a) (v .decide .last .0) _ (ruled-words v) (a .args .clock) (v .decide .result) _ _)
-    (omega (arith, f .bytes-fit, f .buffer-high, a .pre .1, v .before .before .before .wide .ensures))
+    (omega (arith, f .bytes-fit, f .buffer-high, a .pre .1, v .before .before .wide .ensures))
 
 element-write-w-4 : tie.Need-element-write-w-4
 element-write-w-4 c = search needs
@@ -170,7 +167,7 @@ returns c =
     let admits = admits-as (ruled a) (v .decide .result) e true t in
     let words = entered-ok (ruled a) (v .decide .result) e (wordsAt a) (v .decide .last .0) (ruled-words v) (a .args .clock) (a .args .size) (a .pre .0 .0 .0) t in
     let place = tail-place (c .before .before) in
-    (e, rw (v .before .before .before .wide .ensures) words, rw (admits, place), rw (admits, place))
+    (e, rw (v .before .before .wide .ensures) words, rw (admits, place), rw (admits, place))
 
 returns-2 : tie.Need-returns-2
 unfolding stateOf
@@ -188,7 +185,6 @@ take-spec =
     tie.close
     (tie.spec
     wide-requires
-    wide-requires-2
     decide-requires
     add-row
     element-write-w

@@ -132,7 +132,7 @@ measure-requires c κs =
     let same = left-rate (a .args .clock) size first w (a .pre .0) in
     let low = or-neither (ltb (a .args .clock) (getD w 3 0)) _ (c .before .before .before .before .before .before .before .before .before .before .before .before .if1 .left) .0 in
     let later : getD w 3 0 ≤ a .args .clock = ltb-false _ _ low in (
-      left-long (a .args .clock) size first w (a .pre .0),
+      omega (arith, left-long (a .args .clock) size first w (a .pre .0)),
       (
         rw (ap (λ (r : Rate). r .start .0) same) (omega (arith, f .start-high, later)),
         rw (ap (λ (r : Rate). r .average .0) same) (f .average-high),

@@ -41,8 +41,8 @@ returns-3 : tie.Need-returns-3
 unfolding stateOf
 returns-3 c = rw (tick-made _ _ (c .before .before .before .before .before .before .before .before .pre .1) (c .before .before .before .before .before .before .if1 .left) (c .before .before .before .before .if2 .left)) (refl, c .tick-calm .ensures)
 
-pie-of-requires : tie.Need-pie-of-requires
-pie-of-requires c κs = search needs
+pie-at-requires : tie.Need-pie-at-requires
+pie-at-requires c κs = search needs
 
 element-copy-out-t15 : tie.Need-element-copy-out-t15
 element-copy-out-t15 c = search needs
@@ -53,8 +53,8 @@ element-copy-out-t10 c = search needs
 update-requires : tie.Need-update-requires
 unfolding stateOf
 update-requires c κs =
-    let f = facts _ (c .before .before .before .before .before .before .before .before .before .before .pre .1) in
-    rw (c .before .before .pie-of .ensures) ((f .prob-high, f .old-high, f .average-high), (f .target-high, omega (arith, f .bytes-fit, f .buffer-high)))
+    let f = facts _ (c .before .before .before .before .before .before .before .before .before .before .before .pre .1) in
+    rw (c .before .before .pie-at .ensures) ((f .prob-high, f .old-high, f .average-high), (f .target-high, omega (arith, f .bytes-fit, f .buffer-high)))
 
 element-write-w : tie.Need-element-write-w
 element-write-w c = search needs
@@ -74,12 +74,12 @@ element-write-w-5 c = search needs
 returns-4 : tie.Need-returns-4
 unfolding stateOf
 returns-4 c =
-    let a = c .before .before .before .before .before .before .before .before .before .before .before in
+    let a = c .before .before .before .before .before .before .before .before .before .before .before .before in
     let w = now (a .args .w) in
-    let plain = c .before .before .before .before .before .if3 .left in
+    let plain = c .before .before .before .before .before .before .if3 .left in
     let active = plain-active (stateOf w) (facts _ (a .pre .1)) plain in
-    let next : c .update .result ≡ nextPie false w = rw (c .before .before .before .pie-of .ensures) at (c .update .ensures) in
-    rw (tick-made _ _ (a .pre .1) (c .before .before .before .before .before .before .before .before .before .if1 .left) (c .before .before .before .before .before .before .before .if2 .left))
+    let next : c .update .result ≡ nextPie false w = rw (c .before .before .before .pie-at .ensures) at (c .update .ensures) in
+    rw (tick-made _ _ (a .pre .1) (c .before .before .before .before .before .before .before .before .before .before .if1 .left) (c .before .before .before .before .before .before .before .before .if2 .left))
     (refl, rw next (ticked-words (a .args .clock) w (a .pre .0) active plain))
 
 pub tick-spec : {M : Type 1} → statement M
@@ -94,7 +94,7 @@ tick-spec =
     element-copy-out-calm
     tick-calm-requires
     returns-3
-    pie-of-requires
+    pie-at-requires
     element-copy-out-t15
     element-copy-out-t10
     update-requires

@@ -12,8 +12,8 @@ use Rattle.ring_words.specs.Words.{stateOf}
 use Rattle.ring_steps.proofs.Words.{idle-words, nextPie, stays-active, turns-inactive}
 
 -- the update's record, from the words
-ruled : (c : tie.After-update) → c .update .result ≡ nextPie true (now (c .before .before .before .before .before .before .before .before .args .w))
-ruled c = rw (c .before .pie-of .ensures) at (c .update .ensures)
+ruled : (c : tie.After-update) → c .update .result ≡ nextPie true (now (c .before .before .before .before .before .before .before .before .before .args .w))
+ruled c = rw (c .before .pie-at .ensures) at (c .update .ensures)
 
 element-copy-out-inactive : tie.Need-element-copy-out-inactive
 element-copy-out-inactive c = search needs
@@ -36,25 +36,25 @@ element-copy-out-queued-2 c = search needs
 element-copy-out-queued-3 : tie.Need-element-copy-out-queued-3
 element-copy-out-queued-3 c = search needs
 
-pie-of-requires : tie.Need-pie-of-requires
-pie-of-requires c κs = search needs
+pie-at-requires : tie.Need-pie-at-requires
+pie-at-requires c κs = search needs
 
 update-requires : tie.Need-update-requires
 unfolding stateOf
 update-requires c κs =
-    let f = facts _ (c .before .before .before .before .before .before .before .pre .1) in
-    rw (c .pie-of .ensures) ((f .prob-high, f .old-high, f .average-high), (f .target-high, omega (arith, f .bytes-fit, f .buffer-high)))
+    let f = facts _ (c .before .before .before .before .before .before .before .before .pre .1) in
+    rw (c .pie-at .ensures) ((f .prob-high, f .old-high, f .average-high), (f .target-high, omega (arith, f .bytes-fit, f .buffer-high)))
 
 refills-requires : tie.Need-refills-requires
 unfolding stateOf
-refills-requires c κs = let f = facts _ (c .before .before .before .before .before .before .before .before .pre .1) in (rw (c .update .ensures) (updated-old-le _ true _ _), f .old-high)
+refills-requires c κs = let f = facts _ (c .before .before .before .before .before .before .before .before .before .pre .1) in (rw (c .update .ensures) (updated-old-le _ true _ _), f .old-high)
 
 element-copy-out-loaded : tie.Need-element-copy-out-loaded
 element-copy-out-loaded c = search needs
 
 mul-loaded : tie.Need-mul-loaded
 unfolding stateOf
-mul-loaded c = let f = facts _ (c .before .before .before .before .before .before .before .before .before .before .pre .1) in omega (arith, f .bytes-fit, f .buffer-high)
+mul-loaded c = let f = facts _ (c .before .before .before .before .before .before .before .before .before .before .before .pre .1) in omega (arith, f .bytes-fit, f .buffer-high)
 
 element-write-w-3 : tie.Need-element-write-w-3
 element-write-w-3 c = search needs
@@ -77,16 +77,16 @@ element-write-w-8 c = search needs
 returns-2 : tie.Need-returns-2
 unfolding stateOf
 returns-2 c =
-    let a = c .before .before .before .before .before .before .before .before .before .before .before in
+    let a = c .before .before .before .before .before .before .before .before .before .before .before .before in
     let r = c .before .before in
-    turns-inactive (a .args .clock) (now (a .args .w)) (a .pre .0) (ap not (c .before .before .before .before .before .before .before .before .before .if1 .left)) (a .pre .2) (r .before .update .result) (ruled (r .before)) (r .refills .result) (r .refills .ensures) (c .if2 .taken)
+    turns-inactive (a .args .clock) (now (a .args .w)) (a .pre .0) (ap not (c .before .before .before .before .before .before .before .before .before .before .if1 .left)) (a .pre .2) (r .before .update .result) (ruled (r .before)) (r .refills .result) (r .refills .ensures) (c .if2 .taken)
 
 returns-3 : tie.Need-returns-3
 unfolding stateOf
 returns-3 c =
-    let a = c .before .before .before .before .before .before .before .before .before .before .before in
+    let a = c .before .before .before .before .before .before .before .before .before .before .before .before in
     let r = c .before .before in
-    stays-active (a .args .clock) (now (a .args .w)) (a .pre .0) (ap not (c .before .before .before .before .before .before .before .before .before .if1 .left)) (a .pre .2) (r .before .update .result) (ruled (r .before)) (r .refills .result) (r .refills .ensures) (c .if2 .left)
+    stays-active (a .args .clock) (now (a .args .w)) (a .pre .0) (ap not (c .before .before .before .before .before .before .before .before .before .before .if1 .left)) (a .pre .2) (r .before .update .result) (ruled (r .before)) (r .refills .result) (r .refills .ensures) (c .if2 .left)
 
 pub tick-calm-spec : {M : Type 1} → statement M
 tick-calm-spec =
@@ -99,7 +99,7 @@ tick-calm-spec =
     element-copy-out-queued
     element-copy-out-queued-2
     element-copy-out-queued-3
-    pie-of-requires
+    pie-at-requires
     update-requires
     refills-requires
     element-copy-out-loaded

@@ -3,8 +3,8 @@ use mathlib.Core.Path.{_≡_, refl}
 use mathlib.Core.Bool.{Bool, true, false, cond}
 use mir.Val.{boolByte}
 use borrow.Author.Needs.{needs}
-use Rattle.ring_words.proofs.writing.flag.Statement.{statement}
-use Rattle.ring_words.proofs.writing.flag.Tie as tie
+use Rattle.pie_words.proofs.flag.Statement.{statement}
+use Rattle.pie_words.proofs.flag.Tie as tie
 
 as-number : (t : Bool) → boolByte t ≡ cond t 1 0
 as-number true = refl
