@@ -1,13 +1,11 @@
 -- Laws of the words and of the codes.
 --
 --   Written     words, written out
---   Flags       what a flag's word says
 --   Words       the state that the ring's words hold
 --   Arrivals    the words that an arrival changes
 --   Departures  the words that a departure changes
 --   Codes       the number and the words that an entry gives
 pub mod Written
-pub mod Flags
 pub mod Words
 pub mod Arrivals
 pub mod Departures

@@ -8,7 +8,6 @@ ghost use Rattle.refusals.specs.Numbers.{numberOf};
 mod reading;
 mod writing;
 
-pub use pie_words::flag;
 pub use reading::decode;
 pub use writing::encode;
 pub use writing::write_arrival;
