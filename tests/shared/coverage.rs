@@ -238,10 +238,9 @@ impl<K: Covered> Coverage<K> {
         }
         for (place, list) in self.lists.iter().enumerate() {
             if list.about.holds::<K>(call, after) {
-                let found = (list.find)(before, call, after).into_iter().enumerate();
-                for (label, _) in found.filter(|(_, (_, happened))| *happened) {
-                    self.groups.hit(LISTS + place, label);
-                }
+                let found = (list.find)(before, call, after).into_iter();
+                let happened: Vec<bool> = found.map(|(_, happened)| happened).collect();
+                self.groups.hits(LISTS + place, &happened);
             }
         }
         for (group, label) in K::more(call, after) {
