@@ -15,7 +15,6 @@ mod compare;
 mod coverage;
 mod failure;
 mod log;
-mod memory;
 #[allow(dead_code)]
 #[path = "../ring/model.rs"]
 mod model;

@@ -9,6 +9,7 @@
 //! It ends with 1 at the first difference, with 2 if calls but a soak's did not reach everything, and
 //! with 3 if it was not understood.
 
+mod broken;
 mod calm;
 mod coverage;
 mod events;

@@ -1,5 +1,6 @@
 //! Random states with tables, and calls on them.
 
+use crate::broken;
 use crate::kind::{Call, Ring, Side};
 use crate::model::{self, Asked, State, CLOCK_MAX};
 use crate::shared::bursts::{Bursting, Standing};
@@ -24,11 +25,11 @@ impl Drawn for Ring {
             sizes[s.first as usize] = numbers::wrong_size(r, s.count, s.bytes);
         }
         if wanted[2] && r.one_in(6) {
-            states::scramble(r, &mut s);
+            broken::scramble(r, &mut s);
         } else if wanted[2] {
             let last = if wanted[8] { 22 } else { 23 };
             let condition = r.range(0, last) as usize;
-            states::break_one(r, &mut s, condition);
+            broken::break_one(r, &mut s, condition);
         }
         let side = Side::new(s, handles, sizes);
         let call = single::call::<Ring>(r, what, (), &side, &wanted);

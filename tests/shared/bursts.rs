@@ -1,7 +1,7 @@
 //! Bursts: a list of calls in one entry, against the same calls one by one.
 
-use super::coverage::{Coverage, Covered};
-use super::groups::owned;
+use super::burst_labels::{note, LENGTHS};
+use super::coverage::Coverage;
 use super::kind::{Call, CallOf, Kind, Lent, Refusals, SideOf, What};
 use super::lend::Lender;
 use super::numbers::{split, CLOCK_MAX};
@@ -67,45 +67,6 @@ pub const UNANSWERED: u64 = 0xA5A5_5A5A_A5A5_5A5A;
 
 /// The answer to an unknown kind, and to lengths that do not fit.
 const REFUSED: u32 = 120;
-
-const COUNTS_MAX: u128 = 1 << 48;
-
-/// What bursts reach. Those that may be tested once and then run are called ready here.
-pub const LABELS: [&str; 26] = [
-    "ready",
-    "ready: calm",
-    "not well formed",
-    "tables that do not fit",
-    "one count short of room",
-    "just enough room",
-    "no calls",
-    "64 calls",
-    "a flow above 15",
-    "lengths that do not fit",
-    "unknown kind",
-    "refused by 108",
-    "ready: enqueued",
-    "ready: marked",
-    "ready: dropped, bytes",
-    "ready: dropped, slots",
-    "ready: dropped, early",
-    "ready: departed",
-    "ready: ticked",
-    "ready: refused by 104",
-    "ready: refused by 105",
-    "ready: refused by 106",
-    "ready: refused by 107",
-    "ready: refused by 109",
-    "ready: turned active",
-    "ready: turned inactive",
-];
-
-const LENGTHS: usize = 9; // and the following: unknown kind, refused by 108, verdicts, departed, ...
-
-/// The labels that the kind must reach; an empty one stands for what cannot be.
-pub fn labels<K: Covered>() -> Vec<String> {
-    owned(&LABELS.map(|name| if K::NO_BURST.contains(&name) { "" } else { name }))
-}
 
 /// Bursts of random lengths on random records.
 pub fn run<K: Bursting>(
@@ -177,7 +138,7 @@ fn next<K: Bursting>(
 }
 
 /// The numbers of a call, in the order of the C header; what its kind does not use is not 0.
-fn numbers<K: Bursting>(call: &CallOf<K>) -> Vec<u32> {
+pub fn numbers<K: Bursting>(call: &CallOf<K>) -> Vec<u32> {
     let ([handle, size, u], kind) = match call.what {
         What::Arrival(p) => ([p.handle, p.size, p.u], u32::from(p.ecn)),
         What::Departure => ([7, 65_537, u32::MAX], 2),
@@ -219,7 +180,7 @@ fn one_by_one<K: Bursting>(
 }
 
 /// An answer as a word: code, then flow, size and handle of the packet that left.
-fn word<K: Kind>(side: &SideOf<K>) -> u64 {
+pub fn word<K: Kind>(side: &SideOf<K>) -> u64 {
     let p = side.packet;
     let low = u64::from(side.answer) | u64::from(p.flow) << 8;
     low | u64::from(p.size) << 16 | u64::from(p.handle) << 32
@@ -248,55 +209,6 @@ pub fn lengths<K: Bursting>(lender: &mut Lender) -> Result<(), Failure<K>> {
     Ok(())
 }
 
-/// The calls of a long run, as a burst from where the first of them began.
-pub struct Record<K: Bursting> {
-    start: SideOf<K>,
-    burst: Option<Burst<K::To>>,
-    answers: Vec<u64>,
-}
-
-/// The most calls of such a burst.
-const MOST: usize = 96;
-
-impl<K: Bursting> Record<K> {
-    pub fn new(start: &SideOf<K>) -> Self {
-        Record { start: start.clone(), burst: None, answers: Vec::new() }
-    }
-
-    /// Whether a burst of calls for this queue can have the call: others are refused and change nothing,
-    /// but for fresh.
-    pub fn fits(call: &CallOf<K>, to: &K::To, slots: u64) -> bool {
-        let lent = call.lent.handles as u64 == slots && call.lent.sizes as u64 == slots;
-        let known = K::EACH_TO || call.to == *to;
-        known && !call.is_fresh() && (lent || !call.has_tables())
-    }
-
-    pub fn is_full(&self) -> bool {
-        self.answers.len() == MOST
-    }
-
-    /// Adds a call that was made from one side to the other.
-    pub fn add(&mut self, call: &CallOf<K>, before: &SideOf<K>, after: &SideOf<K>) {
-        let slots = K::view(&before.state, &call.to).slots as usize;
-        if self.burst.is_none() {
-            self.start.copy_from(before);
-        }
-        let new = || Burst { to: call.to, lent: Lent::both(slots), calls: Vec::new(), answers: 0 };
-        let burst = self.burst.get_or_insert_with(new);
-        burst.calls.extend(numbers::<K>(call));
-        burst.answers += 1;
-        self.answers.push(word::<K>(after));
-    }
-
-    /// Runs what was recorded as one burst, which must leave this side; gives how many calls it had.
-    pub fn run(&mut self, after: &SideOf<K>, lender: &mut Lender) -> Result<u64, Failure<K>> {
-        let Some(burst) = self.burst.take() else { return Ok(0) };
-        compare(&self.start, &burst, (0, &self.answers, after), lender)?;
-        self.answers.clear();
-        Ok(burst.answers as u64)
-    }
-}
-
 /// Prints a burst at which the library stops the program.
 fn print_before<K: Bursting>(side: &SideOf<K>, burst: &Burst<K::To>) {
     println!("burst: {burst:?}");
@@ -304,7 +216,7 @@ fn print_before<K: Bursting>(side: &SideOf<K>, burst: &Burst<K::To>) {
 }
 
 /// Runs the burst from this side: its answer, its answers and what it leaves are the expected ones.
-fn compare<K: Bursting>(
+pub fn compare<K: Bursting>(
     side: &SideOf<K>,
     burst: &Burst<K::To>,
     (answer, answers, after): (u32, &[u64], &SideOf<K>),
@@ -340,54 +252,4 @@ fn broken<K: Bursting>(side: &SideOf<K>, burst: &Burst<K::To>, sentence: String)
         "a burst differs from its calls one by one: {sentence}; {:?}, {burst:?}",
         fields::<K>(&side.state)
     ))
-}
-
-/// Counts what a burst reached, from one side to the other.
-fn note<K: Bursting>(
-    coverage: &mut Coverage<K>,
-    (side, after): (&SideOf<K>, &SideOf<K>),
-    burst: &Burst<K::To>,
-    answers: &[u64],
-) {
-    let Standing { formed, calm, active, counted, no_flow } = K::standing(side, &burst.to);
-    let slots = K::view(&side.state, &burst.to).slots;
-    let fit = burst.lent.handles as u64 == slots && burst.lent.sizes as u64 == slots;
-    let needed = counted + burst.answers as u128;
-    let ready = formed && fit && needed <= COUNTS_MAX;
-    let sound = formed && fit;
-    let reached = [
-        ready,
-        ready && calm,
-        !formed,
-        formed && !fit,
-        sound && needed == COUNTS_MAX + 1,
-        sound && needed == COUNTS_MAX,
-        burst.answers == 0,
-        burst.answers == 64,
-        no_flow,
-    ];
-    for label in (0..reached.len()).filter(|&label| reached[label]) {
-        coverage.note_burst(label);
-    }
-    let turned = K::standing(after, &burst.to).active;
-    if ready && turned != active {
-        coverage.note_burst(if turned { 24 } else { 25 });
-    }
-    for (call, answer) in burst.calls.chunks(K::NUMBERS).zip(answers) {
-        note_call(coverage, ready, K::kind_of(call[5]), (answer & 0xff) as usize);
-    }
-}
-
-fn note_call<K: Bursting>(coverage: &mut Coverage<K>, ready: bool, kind: Option<u32>, code: usize) {
-    let label = match (ready, kind, code) {
-        (_, None, _) => 10,
-        (_, _, 108) => 11,
-        (true, Some(0 | 1), 0..=4) => 12 + code,
-        (true, Some(2), 0) => 17,
-        (true, Some(3), 0) => 18,
-        (true, _, 104..=107) => 19 + code - 104,
-        (true, _, 109) => 23,
-        _ => return,
-    };
-    coverage.note_burst(label);
 }

@@ -1,83 +1,9 @@
 //! Counts what the compared calls of a kind reached, and names what they did not.
 
-use super::bursts;
+use super::burst_labels;
 use super::groups::{only_broken, owned, pair_labels, Groups, PAIR_NAMES, REFUSAL_NAMES};
 use super::kind::{CallOf, Kind, SideOf, What};
-
-/// Names, each with whether it happened.
-pub type Found = Vec<(&'static str, bool)>;
-
-/// The calls that a list is about.
-#[derive(Clone, Copy, PartialEq)]
-pub enum About {
-    /// Accepted calls.
-    Fresh,
-    Arrivals,
-    Departures,
-    Ticks,
-    /// Accepted calls of all kinds but fresh.
-    Accepted,
-    /// Refused by 9.
-    WrongArrivals,
-    WrongDepartures,
-    /// Refused by 6 or 9.
-    RefusedDepartures,
-    /// All calls but fresh on well-formed records.
-    Sound,
-    /// All calls whatever.
-    All,
-}
-
-/// A list of names, and the calls that it is about.
-pub struct List<K: Kind> {
-    pub name: &'static str,
-    pub about: About,
-    /// Whether the long runs must reach every label, and whether the single calls must.
-    pub needed: (bool, bool),
-    pub find: fn(&SideOf<K>, &CallOf<K>, &SideOf<K>) -> Found,
-}
-
-/// A list, by its four parts.
-pub fn list<K: Kind>(
-    name: &'static str,
-    about: About,
-    needed: (bool, bool),
-    find: fn(&SideOf<K>, &CallOf<K>, &SideOf<K>) -> Found,
-) -> List<K> {
-    List { name, about, needed, find }
-}
-
-/// The arrival's rules of a queue in shared tables, by name.
-pub const QUEUE_RULES: &[&str] = &[
-    "1 bytes",
-    "2 slots",
-    "3 allowance",
-    "4 short delay",
-    "5 small queue",
-    "6 sum below 0.85",
-    "6 sum of 8.5",
-    "6 u below the probability",
-    "7 otherwise",
-];
-
-pub const BOTH: (bool, bool) = (true, true);
-pub const SINGLE: (bool, bool) = (false, true);
-
-impl About {
-    fn holds<K: Kind>(self, call: &CallOf<K>, after: &SideOf<K>) -> bool {
-        let accepted = after.answer < 100;
-        match (self, call.place()) {
-            (About::All, _) => true,
-            (About::Sound, place) => place > 0 && after.well_formed,
-            (About::Accepted, place) => place > 0 && accepted,
-            (About::Fresh, 0) | (About::Arrivals, 1) => accepted,
-            (About::Departures, 2) | (About::Ticks, 3) => accepted,
-            (About::WrongArrivals, 1) | (About::WrongDepartures, 2) => after.answer == 109,
-            (About::RefusedDepartures, 2) => after.answer == 106 || after.answer == 109,
-            _ => false,
-        }
-    }
-}
+pub use super::lists::*;
 
 /// What the coverage of a kind counts.
 pub trait Covered: Kind {
@@ -97,7 +23,7 @@ pub trait Covered: Kind {
     const BAND_ENDS: bool = false;
     /// What a long run can tell beyond its single calls.
     const RUN_EVENTS: (&'static str, &'static [&'static str]);
-    /// The labels of `bursts::LABELS` that cannot be reached.
+    /// The labels of `burst_labels::LABELS` that cannot be reached.
     const NO_BURST: &'static [&'static str];
 
     /// The conditions by name; an empty one cannot be the only one that is broken.
@@ -207,7 +133,7 @@ impl<K: Covered> Coverage<K> {
         groups.add("band with a step above zero", BOTH, bands.clone());
         groups.add("band with a step below zero", BOTH, bands);
         groups.add(K::RUN_EVENTS.0, (true, false), owned(K::RUN_EVENTS.1));
-        groups.add("burst", SINGLE, bursts::labels::<K>());
+        groups.add("burst", SINGLE, burst_labels::labels::<K>());
         let ends = 0..if K::BAND_ENDS { K::BANDS.len() } else { 0 };
         let first = ends.clone().map(|band| first_of_band::<K>(band).to_string()).collect();
         groups.add("probability at the first of a band", SINGLE, first);
@@ -238,10 +164,9 @@ impl<K: Covered> Coverage<K> {
         }
         for (place, list) in self.lists.iter().enumerate() {
             if list.about.holds::<K>(call, after) {
-                let found = (list.find)(before, call, after).into_iter().enumerate();
-                for (label, _) in found.filter(|(_, (_, happened))| *happened) {
-                    self.groups.hit(LISTS + place, label);
-                }
+                let found = (list.find)(before, call, after).into_iter();
+                let happened: Vec<bool> = found.map(|(_, happened)| happened).collect();
+                self.groups.hits(LISTS + place, &happened);
             }
         }
         for (group, label) in K::more(call, after) {
@@ -254,7 +179,7 @@ impl<K: Covered> Coverage<K> {
         self.groups.hit(RUN_EVENT, label);
     }
 
-    /// Counts one of `bursts::LABELS`.
+    /// Counts one of `burst_labels::LABELS`.
     pub fn note_burst(&mut self, label: usize) {
         self.groups.hit(BURST, label);
     }

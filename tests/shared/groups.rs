@@ -57,6 +57,15 @@ impl Groups {
         self.0[group].counts[label] += 1;
     }
 
+    /// Counts each label whose condition holds.
+    pub fn hits(&mut self, group: usize, holding: &[bool]) {
+        let Group { name, labels, counts, .. } = &mut self.0[group];
+        assert!(labels.len() == holding.len(), "group '{name}' has other labels");
+        for (count, &holds) in counts.iter_mut().zip(holding) {
+            *count += u64::from(holds);
+        }
+    }
+
     /// Counts each two refusals that apply to one call.
     pub fn hit_pairs(&mut self, group: usize, applying: &[bool]) {
         let numbers: Vec<usize> = (0..applying.len()).filter(|&n| applying[n]).collect();
@@ -105,10 +114,10 @@ impl Group {
         if let Some((label, count)) = rarest {
             let name = self.name;
             let total = named.len();
-            println!("  {name:<35} {reached:>3} of {total:>3}   rarest: {label} ({count})");
+            println!("  {name:<38} {reached:>3} of {total:>3}   rarest: {label} ({count})");
         }
         for (label, count) in named.into_iter().filter(|_| all) {
-            println!("      {label:<50} {count:>9}");
+            println!("      {label:<60} {count:>9}");
         }
     }
 }

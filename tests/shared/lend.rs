@@ -5,7 +5,7 @@
 use super::area::{Area, READ, READ_WRITE};
 use super::bursts::{Burst, UNANSWERED};
 use super::kind::{CallOf, Kind, Packet, SideOf, Tables, What};
-use std::ptr::{copy_nonoverlapping, null, null_mut};
+use std::ptr::{null, null_mut};
 use std::slice::{from_raw_parts, from_raw_parts_mut};
 
 /// What stands in a packet before a call: it shows that nothing was written.
@@ -132,16 +132,20 @@ struct Guarded {
     answers: Area,
 }
 
+/// The most bytes of a small thing, and of a table.
+const SMALL: usize = 1 << 16;
+const TABLE: usize = 5 << 16;
+
 impl Guarded {
     fn new(at_end: bool) -> Guarded {
-        let small = || Area::new(1, at_end);
+        let small = || Area::new(SMALL, at_end);
         Guarded {
             at_end,
             parts: [small(), small(), small(), small()],
             argument: small(),
             packet: small(),
-            handles: Area::new(5, at_end),
-            sizes: Area::new(5, at_end),
+            handles: Area::new(TABLE, at_end),
+            sizes: Area::new(TABLE, at_end),
             calls: small(),
             answers: small(),
         }
@@ -149,65 +153,56 @@ impl Guarded {
 
     /// Puts the words that the call may touch into place; the rest of a part lies on guarded pages.
     fn record<K: Kind>(&mut self, words: &[u64], to: &K::To) -> Memory {
-        let mut memory = Memory::nothing();
-        let mut begin = 0;
+        let (mut memory, mut begin) = (Memory::nothing(), 0);
         for (part, &length) in K::PARTS.iter().enumerate() {
             let open = K::open(part, to, self.at_end);
-            let place = self.parts[part].place(8 * open.len()) as *mut u64;
-            let from = &words[begin + open.start..begin + open.end];
-            unsafe { copy_nonoverlapping(from.as_ptr(), place, from.len()) };
-            memory.parts[part] = place.wrapping_sub(open.start);
+            self.parts[part].lend(&words[begin + open.start..begin + open.end]);
+            memory.parts[part] = self.parts[part].write::<u64>().wrapping_sub(open.start);
             begin += length;
         }
         memory
     }
 
     /// Fetches the words back.
-    fn fetch<K: Kind>(&self, memory: &Memory, words: &mut [u64], to: &K::To) {
+    fn fetch<K: Kind>(&self, words: &mut [u64], to: &K::To) {
         let mut begin = 0;
         for (part, &length) in K::PARTS.iter().enumerate() {
             let open = K::open(part, to, self.at_end);
-            let back = &mut words[begin + open.start..begin + open.end];
-            let place = memory.parts[part].wrapping_add(open.start);
-            unsafe { copy_nonoverlapping(place, back.as_mut_ptr(), back.len()) };
+            words[begin + open.start..begin + open.end].copy_from_slice(self.parts[part].content());
             begin += length;
         }
     }
 
     fn lend(&mut self, memory: &mut Memory, (handles, sizes): &Tables) {
-        (memory.handles, memory.handles_len) = (self.handles.table(handles), handles.len());
-        (memory.sizes, memory.sizes_len) = (self.sizes.table(sizes), sizes.len());
+        self.handles.lend(handles);
+        self.sizes.lend(sizes);
+        (memory.handles, memory.handles_len) = (self.handles.write(), handles.len());
+        (memory.sizes, memory.sizes_len) = (self.sizes.write(), sizes.len());
     }
 
-    fn fetch_tables(memory: &Memory, (handles, sizes): Tables) {
-        unsafe {
-            handles.copy_from_slice(from_raw_parts(memory.handles, handles.len()));
-            sizes.copy_from_slice(from_raw_parts(memory.sizes, sizes.len()));
-        }
+    fn fetch_tables(&self, (handles, sizes): Tables) {
+        handles.copy_from_slice(self.handles.content());
+        sizes.copy_from_slice(self.sizes.content());
     }
 
-    fn formed<K: Kind>(&self, memory: &Memory, to: &K::To) -> bool {
-        let parts = &self.parts[..K::PARTS.len()];
-        parts.iter().for_each(|part| part.access(READ));
-        let formed = K::formed(memory, to);
-        parts.iter().for_each(|part| part.access(READ_WRITE));
-        formed
-    }
-
-    /// Everything that the call only reads.
-    fn only_read<K: Kind>(&self, call: &CallOf<K>) -> Vec<&Area> {
-        let mut areas: Vec<&Area> =
-            K::only_read(call).iter().map(|&part| &self.parts[part]).collect();
+    /// The access to everything that the call only reads.
+    fn access<K: Kind>(&mut self, call: &CallOf<K>, access: i32) {
+        K::only_read(call).iter().for_each(|&part| self.parts[part].set_access(access));
+        self.argument.set_access(access);
         if let What::Departure = call.what {
-            areas.push(&self.handles);
+            self.handles.set_access(access);
             if K::SIZES_ARE_READ {
-                areas.push(&self.sizes);
+                self.sizes.set_access(access);
             }
         }
-        if !K::argument(&call.to).is_empty() {
-            areas.push(&self.argument);
-        }
-        areas
+    }
+
+    fn formed<K: Kind>(&mut self, memory: &Memory, to: &K::To) -> bool {
+        let parts = &mut self.parts[..K::PARTS.len()];
+        parts.iter_mut().for_each(|part| part.set_access(READ));
+        let formed = K::formed(memory, to);
+        parts.iter_mut().for_each(|part| part.set_access(READ_WRITE));
+        formed
     }
 
     fn call<K: Kind>(
@@ -220,25 +215,23 @@ impl Guarded {
     ) -> (bool, u32, u32) {
         let mut memory = self.record::<K>(words, &call.to);
         let formed = self.formed::<K>(&memory, &call.to);
-        let argument = K::argument(&call.to);
-        let place = self.argument.place(argument.len());
-        unsafe { copy_nonoverlapping(argument.as_ptr(), place, argument.len()) };
-        memory.argument = place;
+        self.argument.lend(K::argument(&call.to));
+        memory.argument = self.argument.write();
+        let numbers = if K::FLOW_LEAVES { 3 } else { 2 };
+        self.packet.lend(&packet[..numbers]);
+        memory.packet = self.packet.write();
         if call.has_tables() {
             self.lend(&mut memory, &tables);
         }
-        let numbers = if K::FLOW_LEAVES { 3 } else { 2 };
-        memory.packet = self.packet.table(&packet[..numbers]);
-        let only_read = self.only_read::<K>(call);
-        only_read.iter().for_each(|area| area.access(READ));
+        self.access::<K>(call, READ);
         let flow = flow::<K>(&memory, call, state);
         let answer = K::library(&memory, call);
-        only_read.iter().for_each(|area| area.access(READ_WRITE));
-        unsafe { copy_nonoverlapping(memory.packet, packet.as_mut_ptr(), numbers) };
+        self.access::<K>(call, READ_WRITE);
+        packet[..numbers].copy_from_slice(self.packet.content());
         if call.has_tables() {
-            Guarded::fetch_tables(&memory, tables);
+            self.fetch_tables(tables);
         }
-        self.fetch::<K>(&memory, words, &call.to);
+        self.fetch::<K>(words, &call.to);
         (formed, flow, answer)
     }
 
@@ -251,16 +244,14 @@ impl Guarded {
     ) -> (u32, Vec<u64>) {
         let mut memory = self.record::<K>(words, &burst.to);
         self.lend(&mut memory, &tables);
-        let calls = self.calls.table(&burst.calls);
-        self.calls.access(READ);
-        let answers = self.answers.place(8 * burst.answers) as *mut u64;
-        let calls = unsafe { from_raw_parts(calls, burst.calls.len()) };
-        let answers = unsafe { from_raw_parts_mut(answers, burst.answers) };
-        answers.fill(UNANSWERED);
+        self.calls.lend(&burst.calls);
+        self.answers.lend(&vec![UNANSWERED; burst.answers]);
+        // Safety: both stand as long as the call, and have these lengths.
+        let calls = unsafe { from_raw_parts(self.calls.read(), burst.calls.len()) };
+        let answers = unsafe { from_raw_parts_mut(self.answers.write(), burst.answers) };
         let answer = K::burst(&memory, &burst.to, calls, answers);
-        self.calls.access(READ_WRITE);
-        Guarded::fetch_tables(&memory, tables);
-        self.fetch::<K>(&memory, words, &burst.to);
+        self.fetch_tables(tables);
+        self.fetch::<K>(words, &burst.to);
         (answer, answers.to_vec())
     }
 }

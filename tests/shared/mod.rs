@@ -4,6 +4,7 @@
 #![allow(dead_code)]
 
 pub mod area;
+pub mod burst_labels;
 pub mod bursts;
 pub mod chains;
 pub mod coverage;
@@ -11,10 +12,12 @@ pub mod flow;
 pub mod groups;
 pub mod kind;
 pub mod lend;
+pub mod lists;
 pub mod numbers;
 pub mod pair;
 pub mod program;
 pub mod random;
+pub mod recorded;
 pub mod report;
 pub mod rounds;
 pub mod runs;

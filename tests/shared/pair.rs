@@ -1,8 +1,9 @@
 //! Model and library side by side: each call runs on both, and everything is compared.
 
-use super::bursts::{Bursting, Record};
+use super::bursts::Bursting;
 use super::kind::{CallOf, Kind, SideOf};
 use super::lend::Lender;
+use super::recorded::Record;
 use super::report;
 use super::stop;
 use crate::NAME;

@@ -1,6 +1,6 @@
 //! Long runs from fresh: record and tables go back to each call as the last one left them.
 
-use super::bursts::{Bursting, Record};
+use super::bursts::Bursting;
 use super::coverage::Coverage;
 use super::flow::Flow;
 use super::kind::{Arriving, Call, CallOf, Lent, SideOf};
@@ -8,6 +8,7 @@ use super::lend::Lender;
 use super::numbers::CLOCK_MAX;
 use super::pair::{Failure, Pair};
 use super::random::Random;
+use super::recorded::Record;
 use super::traffic::{Phase, Traffic, PHASES};
 
 /// What the long runs of a kind are made of.

@@ -1,7 +1,7 @@
 //! Lends guarded memory to the library's comparison.
 
 use super::model::Compared;
-use crate::memory::Area;
+use crate::shared::area::Area;
 use crate::watch::watched;
 
 extern "C" {

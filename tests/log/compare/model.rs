@@ -3,7 +3,7 @@
 use crate::log::model::{RECORD, TRAILER};
 use crate::log::types::Part;
 use crate::log::whole::{self, Whole};
-use crate::memory::Plain;
+use crate::shared::area::Plain;
 
 /// What a comparison found, in the order of the C header.
 #[repr(C)]

@@ -2,7 +2,7 @@
 //! lent from call to call.
 
 use super::types::{Part, Record, Settings, State};
-use crate::memory::Area;
+use crate::shared::area::Area;
 use crate::watch::watched;
 
 extern "C" {

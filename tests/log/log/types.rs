@@ -1,6 +1,6 @@
 //! The records of the log's C interface, in the order of the C header.
 
-use crate::memory::Plain;
+use crate::shared::area::Plain;
 
 #[repr(C)]
 #[derive(Clone, Copy, PartialEq, Eq, Default, Debug)]

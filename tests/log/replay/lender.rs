@@ -1,7 +1,7 @@
 //! Lends guarded memory to the library's replay. Log and tables stay lent from call to call.
 
 use super::model::Replayed;
-use crate::memory::Area;
+use crate::shared::area::Area;
 use crate::watch::watched;
 
 extern "C" {

@@ -4,8 +4,8 @@
 use crate::log::model::{lowest, Refusals};
 use crate::log::types::{Record, Settings, ARRIVAL, DEPARTURE};
 use crate::log::whole;
-use crate::memory::Plain;
 use crate::model::{self as queue, Arriving, Asked, State};
+use crate::shared::area::Plain;
 
 /// What a replay found, in the order of the C header.
 #[repr(C)]
