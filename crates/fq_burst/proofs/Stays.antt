@@ -9,8 +9,8 @@ use Rattle.laws.proofs.Choice.{either}
 use Rattle.pie.specs.Verdicts.{admitted, placeOf, raised, total}
 use Rattle.pie.specs.declared.Verdict.{Verdict}
 use Rattle.pie.specs.declared.Verdict.the-variants.{Enqueued, Marked, DroppedBytes, DroppedSlots, DroppedEarly}
-use Rattle.schedule.specs.Entering.{entered, isListed}
-use Rattle.schedule.specs.Ring.{Schedule}
+use Rattle.schedule.specs.Entering.{isListed}
+use Rattle.schedule.specs.Ring.{Schedule, enteredIn, twoLists}
 use Rattle.schedule.specs.declared.Lists.{Lists}
 use Rattle.fq_state.specs.State.{State}
 use Rattle.fq_state.specs.declared.Common.{Common}
@@ -36,8 +36,8 @@ abbrev Begins : (s t : Schedule) → Type 0
 Begins s t = (t .lists .first ≡ s .lists .first) × (t .lists .old ≡ s .lists .old)
 
 list-begins : (s : Schedule) (flow : ℕ) (v : Verdict) → Begins s (arrivedSchedule s flow v)
-unfolding arrivedSchedule entered
-list-begins s flow v = either (Begins s) (admitted v && not (isListed s flow)) (entered s flow) s (refl, refl) (refl, refl)
+unfolding arrivedSchedule enteredIn
+list-begins s flow v = either (Begins s) (admitted v && not (isListed (twoLists s) flow)) (enteredIn s flow) s (refl, refl) (refl, refl)
 
 counts-raised : (c : Common) (sizes : List ℕ) (clock size : ℕ) (said v : Verdict) → verdict v ≡ verdict said →
     let t = arrivedCommon c sizes clock size said in

@@ -15,7 +15,7 @@ use Rattle.pie.specs.declared.Backlog.{Backlog}
 use Rattle.pie.specs.declared.Verdict.{Verdict}
 use Rattle.pie.proofs.Counts.{total-raised}
 use Rattle.refusals.specs.Rows.{firstRefusal}
-use Rattle.schedule_guarantees.specs.Kept as lists
+use Rattle.schedule_guarantees.specs.KeptInRing as lists
 use Rattle.store.specs.Following.{linkRefused}
 use Rattle.store.specs.Put.{freePlace, storeAfterPut}
 use Rattle.store.specs.declared.Store.{Store}
@@ -192,6 +192,6 @@ arrived-sound s h handles sizes clock key handle size ecn u e =
         (cond (admitted v) (storeAfterPut (s .common .store) sizes) (s .common .store))
     held = arrived-held s sizes size v f k (room s g size ecn u k (h .flows-long) (flow-low s key)) (a .link)
 
-    listed : lists.Sound (countsOf (set (s .flows) g x)) (arrivedSchedule (s .schedule) g v)
+    listed : lists.SoundRing (countsOf (set (s .flows) g x)) (arrivedSchedule (s .schedule) g v)
     listed =
         arrived-lists (s .flows) (s .schedule) g v x (lists-sound s h) (flow-low s key) (arrived-count target f size place v)

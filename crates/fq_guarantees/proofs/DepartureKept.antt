@@ -7,9 +7,9 @@ use lib.ListN.{length, length-set, set}
 use Rattle.laws.specs.Tests.{all}
 use Rattle.pie.specs.Verdicts.{total}
 use Rattle.refusals.specs.Rows.{firstRefusal}
-use Rattle.schedule.specs.Choosing.{charged}
-use Rattle.schedule_guarantees.specs.Kept as lists
-use Rattle.schedule_guarantees.proofs.Kept.{choosing-keeps}
+use Rattle.schedule.specs.Ring.{chargedIn, chosenIn}
+use Rattle.schedule_guarantees.specs.KeptInRing as lists
+use Rattle.schedule_guarantees.proofs.KeptInRing.{choosing-keeps-ring}
 use Rattle.fq_state.specs.Flow.{emptyFlow, flowWith}
 use Rattle.fq_state.specs.State.{State, bytesOf, countOf, countsOf, eachBytes}
 use Rattle.fq_state.specs.declared.Flow.{Flow}
@@ -110,7 +110,7 @@ departed-sound s h handles sizes clock e =
     long : length (set (s .flows) g x) ≡ 64
     long = length-set (s .flows) g x ∙ h .flows-long
 
-    listed : lists.Sound (countsOf (set (s .flows) g x)) (charged (choiceOf s .schedule) g size)
+    listed : lists.SoundRing (countsOf (set (s .flows) g x)) (chargedIn (chosenIn (s .schedule) (choiceOf s)) g size)
     listed =
-        departed-lists (s .flows) (choiceOf s .schedule) g size x (choosing-keeps (countsOf (s .flows)) (s .schedule) (lists-sound s h) .0)
-        low (departed-count f sizes clock size)
+        departed-lists (s .flows) (chosenIn (s .schedule) (choiceOf s)) g size x
+        (choosing-keeps-ring (countsOf (s .flows)) (s .schedule) (lists-sound s h) .0) low (departed-count f sizes clock size)

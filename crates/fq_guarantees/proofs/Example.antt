@@ -7,8 +7,9 @@ use Rattle.pie.specs.Verdicts.{raised}
 use Rattle.refusals.specs.Tests.{headRefused}
 use Rattle.schedule.specs.Choosing.{choose, chooseIn, look}
 use Rattle.schedule.specs.Entering.{entered}
-use Rattle.schedule.specs.Ring.{occurs, ringOf}
-use Rattle.schedule.specs.WellFormed.{areFlows, every, wellListed}
+use Rattle.schedule.specs.Ring.{chosenIn, enteredIn, ringOf}
+use Rattle.schedule.specs.TwoLists.{occurs}
+use Rattle.schedule.specs.WellFormed.{areFlows, every, listsWell, wellListed}
 use Rattle.store.specs.Put.{endsAfterPut, sizesAfterPut, storeAfterPut}
 use Rattle.fq_state.specs.Flow.{flowWith}
 use Rattle.fq_state.specs.Fresh.{fresh}
@@ -19,6 +20,7 @@ use Rattle.fq_guarantees.specs.Example.{Example}
 
 pub example : Example
 unfolding absorb absorbAll accumulatedAfter areFlows arrival arrivalRefusal arrivedCommon arrivedFlow arrivedSchedule choose chooseIn
+    chosenIn enteredIn listsWell
     departedCommon departedFlow departure departureRefusal dropDecision endsAfterPut entered every finish flowOf flowWith flowsFit fresh
     headRefused look occurs oneAtATime raised rateAfter ringOf sizesAfterPut storeAfterPut verdictOf wellFormed wellListed
 example = (refl, refl)

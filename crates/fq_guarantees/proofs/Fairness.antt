@@ -20,7 +20,7 @@ use Rattle.fq_guarantees.specs.Lists.{fqCalls}
 use Rattle.fq_guarantees.specs.Refusals.{rowsOf}
 use Rattle.fq_guarantees.specs.SixtyFour.{Record64, fresh64}
 use Rattle.fq_guarantees.proofs.Owed.{from-fresh, owed-by}
-use Rattle.fq_guarantees.proofs.PartsKept.{lists-sound}
+use Rattle.fq_guarantees.proofs.PartsKept.{two-lists-sound}
 use Rattle.fq_guarantees.proofs.Replies.{by-number}
 use Rattle.fq_guarantees.proofs.Stretches.{all-fit, served-as, stretchOf, waits-as}
 use Rattle.fq_guarantees.proofs.WhenAccepted.{departure-accepted}
@@ -48,10 +48,10 @@ smaller-size most start calls fit a m = omega (arith, fit a m, any-size start ca
 pub fairness-by-size : FairnessBySize
 fairness-by-size start calls f g most h ne fit owed-f owed-g wait-f wait-g =
     let low = min most 65535 in
-    let r = stretch.fairness (lineOf (start .state)) (stretchOf start calls) f g low (lists-sound (start .state) h) ne (omega arith)
-    (all-fit low start calls (smaller-size most start calls fit)) (waits-as f low start calls wait-f (omega arith))
-    (waits-as g low start calls wait-g (omega arith)) in
-    omega (arith, r, served-as f start calls, served-as g start calls)
+    let r = stretch.fairness (lineOf (start .state)) (stretchOf start calls) f g low (two-lists-sound (start .state) h) ne (omega arith)
+    (all-fit low start calls (smaller-size most start calls fit)) (waits-as f low start calls h wait-f (omega arith))
+    (waits-as g low start calls h wait-g (omega arith)) in
+    omega (arith, r, served-as f start calls h, served-as g start calls h)
 
 pub fairness : Fairness
 fairness start calls f g h ne wait-f wait-g =

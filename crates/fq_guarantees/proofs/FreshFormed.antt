@@ -10,8 +10,9 @@ use borrow.Author.Tests.{leb-true, ltb-true, not-false}
 use Rattle.laws.specs.Tests.{all}
 use Rattle.laws.proofs.TestLists.{all-at}
 use Rattle.pie.specs.Constants.{fullAllowance, latest}
-use Rattle.schedule.specs.Ring.{occurs, ringOf}
-use Rattle.schedule.specs.WellFormed.{areFlows, every, wellListed}
+use Rattle.schedule.specs.Ring.{ringOf}
+use Rattle.schedule.specs.TwoLists.{occurs}
+use Rattle.schedule.specs.WellFormed.{areFlows, every, listsWell, wellListed}
 use Rattle.fq_state.specs.Flow.{emptyFlow}
 use Rattle.fq_state.specs.Fresh.{emptyCommon, fresh, freshRefusal, freshState, setupRefused}
 use Rattle.fq_state.specs.State.{countsOf}
@@ -78,7 +79,7 @@ empty-passes s clock k =
 
 no-flow-listed : (s : Settings) (clock : ℕ) →
     wellListed (countsOf ((freshState s clock) .flows)) ((freshState s clock) .schedule) ≡ true
-unfolding wellListed every areFlows ringOf occurs
+unfolding wellListed listsWell every areFlows ringOf occurs
 no-flow-listed s clock = refl
 
 fresh-formed : (s : Settings) (clock : ℕ) → SettingsFit s → clock ≤ latest → wellFormed (freshState s clock) ≡ true

@@ -10,7 +10,8 @@ use lib.ListN.{length}
 use borrow.Author.Tests.{ltb-false, ltb-true, ne-eqb}
 use Rattle.calls.specs.Traces.{trace}
 use Rattle.refusals.specs.Rows.{firstRefusal}
-use Rattle.schedule.specs.Ring.{deficitOf, quantum, zeroDeficit}
+use Rattle.schedule.specs.Ring.{deficitOf}
+use Rattle.schedule.specs.TwoLists.{quantum, zeroDeficit}
 use Rattle.schedule_guarantees.proofs.NeverStarved as stretch
 use Rattle.fq_state.specs.State.{State}
 use Rattle.fq_rules.specs.Departure.{choiceOf}
@@ -28,7 +29,7 @@ use Rattle.fq_guarantees.specs.SixtyFour.{Record64, fresh64}
 use Rattle.fq_guarantees.proofs.Fairness.{any-size, smaller-size}
 use Rattle.fq_guarantees.proofs.Kept.{kept}
 use Rattle.fq_guarantees.proofs.Owed.{Later, from-fresh, owed-by}
-use Rattle.fq_guarantees.proofs.PartsKept.{lists-sound}
+use Rattle.fq_guarantees.proofs.PartsKept.{two-lists-sound}
 use Rattle.fq_guarantees.proofs.Replies.{by-number}
 use Rattle.fq_guarantees.proofs.ServesQueued.{serves-queued}
 use Rattle.fq_guarantees.proofs.Stretches.{all-fit, served-as, stretchOf, waits-as}
@@ -42,9 +43,10 @@ by-size : (start : Record64) (calls : List Call) (f g most : ℕ) → Sound (sta
     bytesServed g (trace fqCalls start calls) ≤ 2 * bytesServed f (trace fqCalls start calls) + (3 * most + 5 * quantum)
 by-size start calls f g most h ne fit owed-f owed-g wait =
     let low = min most 65535 in
-    let r = stretch.never-starved (lineOf (start .state)) (stretchOf start calls) f g low (lists-sound (start .state) h) ne (omega arith)
-    (all-fit low start calls (smaller-size most start calls fit)) (waits-as f low start calls wait (omega arith)) (omega arith) in
-    omega (arith, r, served-as f start calls, served-as g start calls)
+    let r = stretch.never-starved (lineOf (start .state)) (stretchOf start calls) f g low (two-lists-sound (start .state) h) ne
+    (omega arith)
+    (all-fit low start calls (smaller-size most start calls fit)) (waits-as f low start calls h wait (omega arith)) (omega arith) in
+    omega (arith, r, served-as f start calls h, served-as g start calls h)
 
 pub never-starved : NeverStarved
 never-starved start calls f g h ne wait =

@@ -8,7 +8,8 @@ use lib.ListN.{getD, getD-replicate, length}
 use Rattle.pie.specs.Verdicts.{admitted}
 use Rattle.calls.specs.Traces.{trace}
 use Rattle.refusals.specs.Rows.{firstRefusal}
-use Rattle.schedule.specs.Ring.{deficitOf, zeroDeficit}
+use Rattle.schedule.specs.Ring.{deficitOf, twoLists}
+use Rattle.schedule.specs.TwoLists.{zeroDeficit}
 use Rattle.schedule_guarantees.specs.Kept as lists
 use Rattle.schedule_guarantees.specs.Owing.{OweAtMost}
 use Rattle.schedule_guarantees.specs.Stretch.{Line, after, arrives}
@@ -33,7 +34,7 @@ use Rattle.fq_guarantees.proofs.AsStretch.{as-stretch}
 use Rattle.fq_guarantees.proofs.FreshFormed.{fresh-accepted}
 use Rattle.fq_guarantees.proofs.Kept.{kept}
 use Rattle.fq_guarantees.proofs.NeverMalformed.{fresh-sound}
-use Rattle.fq_guarantees.proofs.PartsKept.{count-at, lists-sound}
+use Rattle.fq_guarantees.proofs.PartsKept.{count-at, two-lists-sound}
 use Rattle.fq_guarantees.proofs.Replies.{by-number}
 use Rattle.fq_guarantees.proofs.ServesQueued.{serves-queued}
 use Rattle.fq_guarantees.proofs.Stretches.{key-flow-low}
@@ -58,28 +59,29 @@ departs-some s c h =
 
 module _ (most : ℕ) where
   -- with this answer, from l to m
-  moved : (key : ℕ) (a : Answer) (l m : Line) → m ≡ foldl after l (eventsOf key a) → lists.Sound (l .counts) (l .schedule) → key < 64 →
-      sizeIn a ≤ most → (departs a ≡ true → Some l) → OweAtMost most (l .schedule) → OweAtMost most (m .schedule)
+  moved : (key : ℕ) (a : Answer) (l m : Line) → m ≡ foldl after l (eventsOf key a) → lists.Sound (l .counts) (l .lists) → key < 64 →
+      sizeIn a ≤ most → (departs a ≡ true → Some l) → OweAtMost most (l .lists) → OweAtMost most (m .lists)
   moved key (refused number) l m e h low fit some owed = rw e owed
   moved key (verdict v) l m e h low fit some owed = go (admitted v) e
     where
-      go : (t : Bool) → m ≡ foldl after l (cond t (arrives key ∷ []) []) → OweAtMost most (m .schedule)
+      go : (t : Bool) → m ≡ foldl after l (cond t (arrives key ∷ []) []) → OweAtMost most (m .lists)
       go true e = rw e (owing l (arrives key) most h low tt owed)
       go false e = rw e owed
   moved key (departed from handle size) l m e h low fit some owed = rw e (owing l (stretch.departs size) most h fit (some refl) owed)
   moved key ticked l m e h low fit some owed = rw e owed
 
-  owed-kept : (s : State) (c : Call) → Sound s → sizeIn ((reply s c) .answer) ≤ most → OweAtMost most (s .schedule) →
-      OweAtMost most ((reply s c) .state .schedule)
+  owed-kept : (s : State) (c : Call) → Sound s → sizeIn ((reply s c) .answer) ≤ most → OweAtMost most (twoLists (s .schedule)) →
+      OweAtMost most (twoLists ((reply s c) .state .schedule))
   owed-kept s c h fit owed =
-      moved (keyFlow s c) ((reply s c) .answer) (lineOf s) (lineOf ((reply s c) .state)) (as-stretch s c .line) (lists-sound s h)
+      moved (keyFlow s c) ((reply s c) .answer) (lineOf s) (lineOf ((reply s c) .state)) (as-stretch s c (h .order-long) .line)
+      (two-lists-sound s h)
       (key-flow-low s c) fit (departs-some s c h) owed
 
   -- ── a list of calls, and those after it ──
 
   pub record Later (start : Record64) (calls : List Call) : Type 0 where
     pub sound : Sound (start .state)
-    pub owed : OweAtMost most (start .state .schedule)
+    pub owed : OweAtMost most (twoLists (start .state .schedule))
     pub fit : HandOutAtMost most (trace fqCalls start calls)
 
   pub later : (s : Record64) (earlier calls : List Call) → Later s (earlier ++ calls) → Later (foldl (fqCalls .next) s earlier) calls
@@ -95,7 +97,8 @@ module _ (most : ℕ) where
 -- ── from fresh ──
 
 -- each deficit is 0
-fresh-owes : (settings : Settings) (clock most : ℕ) → freshRefusal settings clock ≡ 0 → OweAtMost most ((fresh settings clock) .schedule)
+fresh-owes : (settings : Settings) (clock most : ℕ) → freshRefusal settings clock ≡ 0 → OweAtMost most
+    (twoLists ((fresh settings clock) .schedule))
 unfolding fresh
 fresh-owes settings clock most e j low = rw (fresh-accepted settings clock e) (omega (arith, getD-replicate 64 j zeroDeficit 0 low))
 
@@ -112,4 +115,5 @@ pub owed-by : (most f : ℕ) (start : Record64) (calls : List Call) → Later mo
 owed-by most f start calls k b =
     let s = start .state in
     k .owed f
-    (holder-low (countsOf (s .flows)) (s .schedule) f (lists-sound s (k .sound)) (omega (arith, b .at-start, count-at (s .flows) f)))
+    (holder-low (countsOf (s .flows)) (twoLists (s .schedule)) f (two-lists-sound s (k .sound))
+    (omega (arith, b .at-start, count-at (s .flows) f)))

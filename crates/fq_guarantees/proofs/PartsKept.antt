@@ -9,12 +9,12 @@ use lib.Seq.{set-getD}
 use Rattle.pie.specs.Verdicts.{admitted}
 use Rattle.pie.specs.declared.Verdict.{Verdict}
 use Rattle.refusals.specs.Rows.{firstRefusal}
-use Rattle.schedule.specs.Choosing.{charged}
 use Rattle.schedule.specs.Entering.{isListed}
-use Rattle.schedule.specs.Entering as new
-use Rattle.schedule.specs.Ring.{Schedule}
-use Rattle.schedule_guarantees.specs.Kept as lists
-use Rattle.schedule_guarantees.proofs.Kept.{arrival-keeps, departure-keeps, entered-or-same}
+use Rattle.schedule.specs.Ring.{Schedule, chargedIn, enteredIn, twoLists}
+use Rattle.schedule_guarantees.specs.Kept as two
+use Rattle.schedule_guarantees.specs.KeptInRing as lists
+use Rattle.schedule_guarantees.proofs.KeptInRing.{arrival-keeps-ring, departure-keeps-ring, entered-or-same}
+use Rattle.schedule_guarantees.proofs.KeptInRing as ring
 use Rattle.fq_state.specs.Flow.{emptyFlow}
 use Rattle.fq_state.specs.State.{State, countOf, countsOf, flowAt}
 use Rattle.fq_state.specs.WellFormed.{flowsFit}
@@ -42,7 +42,7 @@ flows-kept s h c e n =
 
 -- ── the lists ──
 
-pub lists-sound : (s : State) → Sound s → lists.Sound (countsOf (s .flows)) (s .schedule)
+pub lists-sound : (s : State) → Sound s → lists.SoundRing (countsOf (s .flows)) (s .schedule)
 lists-sound s h =
     record {
       counts-long = length-map (s .flows) countOf ∙ h .flows-long;
@@ -50,6 +50,9 @@ lists-sound s h =
       deficits-long = h .deficits-long;
       well = facts s (h .formed) .listed;
     }
+
+pub two-lists-sound : (s : State) → Sound s → two.Sound (countsOf (s .flows)) (twoLists (s .schedule))
+two-lists-sound s h = ring.lists-sound (countsOf (s .flows)) (s .schedule) (lists-sound s h)
 
 -- the counts, as one flow is replaced
 pub counts-set : (flows : List Flow) (i : ℕ) (f : Flow) → countsOf (set flows i f) ≡ set (countsOf flows) i (f .count)
@@ -61,19 +64,19 @@ pub count-at : (flows : List Flow) (i : ℕ) → getD (countsOf flows) i 0 ≡ f
 count-at flows i = List·getD-map countOf flows i (emptyFlow 0)
 
 -- an arrival lists its flow where it is admitted
-pub arrived-lists : (flows : List Flow) (s : Schedule) (i : ℕ) (v : Verdict) (f : Flow) → lists.Sound (countsOf flows) s → i < 64 →
+pub arrived-lists : (flows : List Flow) (s : Schedule) (i : ℕ) (v : Verdict) (f : Flow) → lists.SoundRing (countsOf flows) s → i < 64 →
     f .count ≡ cond (admitted v) (flowAt flows i .count + 1) (flowAt flows i .count) →
-    lists.Sound (countsOf (set flows i f)) (arrivedSchedule s i v)
+    lists.SoundRing (countsOf (set flows i f)) (arrivedSchedule s i v)
 unfolding arrivedSchedule
 arrived-lists flows s i v f h low is =
-    subst (λ counts. lists.Sound counts (arrivedSchedule s i v)) (sym (counts-set flows i f)) (go (admitted v) is)
+    subst (λ counts. lists.SoundRing counts (arrivedSchedule s i v)) (sym (counts-set flows i f)) (go (admitted v) is)
   where
     go : (t : Bool) → f .count ≡ cond t (flowAt flows i .count + 1) (flowAt flows i .count) →
-        lists.Sound (set (countsOf flows) i (f .count)) (cond (t && not (isListed s i)) (new.entered s i) s)
-    go true e = rw (e, sym (count-at flows i), entered-or-same s i) (arrival-keeps (countsOf flows) s i h low)
+        lists.SoundRing (set (countsOf flows) i (f .count)) (cond (t && not (isListed (twoLists s) i)) (enteredIn s i) s)
+    go true e = rw (e, sym (count-at flows i), entered-or-same s i) (arrival-keeps-ring (countsOf flows) s i h low)
     go false e = rw (e, sym (count-at flows i), set-getD (countsOf flows) i 0) h
 
-pub departed-lists : (flows : List Flow) (s : Schedule) (i size : ℕ) (f : Flow) → lists.Sound (countsOf flows) s → i < 64 →
-    f .count ≡ flowAt flows i .count - 1 → lists.Sound (countsOf (set flows i f)) (charged s i size)
+pub departed-lists : (flows : List Flow) (s : Schedule) (i size : ℕ) (f : Flow) → lists.SoundRing (countsOf flows) s → i < 64 →
+    f .count ≡ flowAt flows i .count - 1 → lists.SoundRing (countsOf (set flows i f)) (chargedIn s i size)
 departed-lists flows s i size f h low e =
-    rw (counts-set flows i f, e, sym (count-at flows i)) (departure-keeps (countsOf flows) s i size h low)
+    rw (counts-set flows i f, e, sym (count-at flows i)) (departure-keeps-ring (countsOf flows) s i size h low)

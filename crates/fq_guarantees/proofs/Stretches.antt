@@ -7,7 +7,8 @@ use native.Mathlib.Omega.{arith}
 use lib.ListN.{getD}
 use Rattle.pie.specs.Verdicts.{admitted}
 use Rattle.calls.specs.Traces.{Entry, trace}
-use Rattle.schedule.specs.Ring.{deficitOf, zeroDeficit}
+use Rattle.schedule.specs.Ring.{deficitOf}
+use Rattle.schedule.specs.TwoLists.{zeroDeficit}
 use Rattle.schedule_guarantees.specs.Stretch.{AllFit, AtEach, Event, Line, Waits, after, arrives, departs, served}
 use Rattle.fq_state.specs.State.{State}
 use Rattle.fq_rules.specs.Answer.{Answer, departed, refused, sizeIn, ticked, verdict}
@@ -16,10 +17,12 @@ use Rattle.fq_guarantees.specs.AsStretch.{ServesNext, eventsOf, lineOf}
 use Rattle.fq_guarantees.specs.Calls.{Call, arrive, depart, keyFlow, reply, update}
 use Rattle.fq_guarantees.specs.Fairness.{Backlogged, bytesServed, handedOut}
 use Rattle.fq_guarantees.specs.FairnessBySize.{HandOutAtMost}
+use Rattle.fq_guarantees.specs.Kept.{Sound}
 use Rattle.fq_guarantees.specs.Lists.{fqCalls}
 use Rattle.fq_guarantees.specs.Shedding.{own}
 use Rattle.fq_guarantees.specs.SixtyFour.{Record64}
 use Rattle.fq_guarantees.proofs.AsStretch.{as-stretch}
+use Rattle.fq_guarantees.proofs.Kept.{kept}
 use Rattle.fq_guarantees.proofs.OneFlow.{flow-low}
 use Rattle.fq_guarantees.proofs.PartsKept.{count-at}
 
@@ -76,28 +79,28 @@ key-flow-low s (update clock) = omega arith
 
 -- ── a list of calls ──
 
-pub served-as : (flow : ℕ) (s : Record64) (calls : List Call) →
+pub served-as : (flow : ℕ) (s : Record64) (calls : List Call) → Sound (s .state) →
     served flow (lineOf (s .state)) (stretchOf s calls) ≡ bytesServed flow (trace fqCalls s calls)
 unfolding served
-served-as flow s [] = refl
-served-as flow s (c ∷ calls) =
-    let m = as-stretch (s .state) c in
+served-as flow s [] h = refl
+served-as flow s (c ∷ calls) h =
+    let m = as-stretch (s .state) c (h .order-long) in
     let a = (reply (s .state) c) .answer in
     let t = fqCalls .next s c in
     serves flow (keyFlow (s .state) c) a (lineOf (s .state)) (lineOf (t .state)) (stretchOf t calls) (m .line) (m .serves)
-    ∙ ap (λ n. handedOut flow a + n) (served-as flow t calls)
+    ∙ ap (λ n. handedOut flow a + n) (served-as flow t calls (kept (s .state) c h))
 
-at-each : (flow : ℕ) (s : Record64) (calls : List Call) →
+at-each : (flow : ℕ) (s : Record64) (calls : List Call) → Sound (s .state) →
     ((a : Entry fqCalls) → List·Memᴰ a (trace fqCalls s calls) → answer.departs (a .answer .answer) ≡ true →
     1 ≤ own flow (a .given .state) .count) →
     AtEach flow (lineOf (s .state)) (stretchOf s calls)
-at-each flow s [] has = tt
-at-each flow s (c ∷ calls) has =
-    let m = as-stretch (s .state) c in
+at-each flow s [] h has = tt
+at-each flow s (c ∷ calls) h has =
+    let m = as-stretch (s .state) c (h .order-long) in
     let t = fqCalls .next s c in
     waits flow (keyFlow (s .state) c) ((reply (s .state) c) .answer) (lineOf (s .state)) (lineOf (t .state)) (stretchOf t calls) (m .line)
     (λ d. omega (arith, has _ (List·Memᴰ·head refl) d, count-at (s .state .flows) flow))
-    (at-each flow t calls (λ a k. has a (List·Memᴰ·tail k)))
+    (at-each flow t calls (kept (s .state) c h) (λ a k. has a (List·Memᴰ·tail k)))
 
 pub all-fit : (most : ℕ) (s : Record64) (calls : List Call) → HandOutAtMost most (trace fqCalls s calls) → AllFit most (stretchOf s calls)
 all-fit most s [] fit = tt
@@ -105,11 +108,11 @@ all-fit most s (c ∷ calls) fit =
     fits most (keyFlow (s .state) c) ((reply (s .state) c) .answer) (stretchOf (fqCalls .next s c) calls) (key-flow-low (s .state) c)
     (fit _ (List·Memᴰ·head refl)) (all-fit most (fqCalls .next s c) calls (λ a k. fit a (List·Memᴰ·tail k)))
 
-pub waits-as : (flow most : ℕ) (s : Record64) (calls : List Call) → Backlogged flow s calls →
+pub waits-as : (flow most : ℕ) (s : Record64) (calls : List Call) → Sound (s .state) → Backlogged flow s calls →
     zeroDeficit ≤ deficitOf (s .state .schedule) flow + most → Waits flow most (lineOf (s .state)) (stretchOf s calls)
-waits-as flow most s calls b owed =
+waits-as flow most s calls h b owed =
     record {
       at-start = omega (arith, b .at-start, count-at (s .state .flows) flow);
-      at-each = at-each flow s calls (b .at-each);
+      at-each = at-each flow s calls h (b .at-each);
       deficit = owed;
     }

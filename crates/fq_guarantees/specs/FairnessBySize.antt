@@ -5,7 +5,8 @@ use mathlib.Core.Logic.{_≢_}
 use mathlib.Core.List.{List, List·Memᴰ}
 use Prim.Native.Nat.{ℕ, _+_, _*_, _≤_, _<_}
 use Rattle.calls.specs.Traces.{Entry, trace}
-use Rattle.schedule.specs.Ring.{deficitOf, quantum, zeroDeficit}
+use Rattle.schedule.specs.Ring.{deficitOf}
+use Rattle.schedule.specs.TwoLists.{quantum, zeroDeficit}
 use Rattle.fq_rules.specs.Answer.{sizeIn}
 use Rattle.fq_guarantees.specs.Calls.{Call}
 use Rattle.fq_guarantees.specs.Kept.{Sound}

@@ -6,7 +6,7 @@ use mathlib.Core.Logic.{_≢_}
 use mathlib.Core.List.{List, _++_, foldl}
 use Prim.Native.Nat.{ℕ, _+_, _*_, _≤_}
 use Rattle.calls.specs.Traces.{trace}
-use Rattle.schedule.specs.Ring.{quantum}
+use Rattle.schedule.specs.TwoLists.{quantum}
 use Rattle.fq_state.specs.Fresh.{freshRefusal}
 use Rattle.fq_state.specs.declared.Settings.{Settings}
 use Rattle.fq_guarantees.specs.Calls.{Call}

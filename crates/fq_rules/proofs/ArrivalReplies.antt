@@ -11,8 +11,8 @@ use Rattle.refusals.specs.Rows.{firstRefusal}
 use Rattle.refusals.specs.declared.Accepted.{Accepted}
 use Rattle.refusals.specs.declared.Accepted.the-variants.{No}
 use Rattle.refusals.specs.declared.Refusal.{Refusal}
-use Rattle.schedule.specs.Entering as new
-use Rattle.schedule.specs.Ring.{Schedule}
+use Rattle.schedule.specs.Entering.{isListed}
+use Rattle.schedule.specs.Ring.{Schedule, enteredIn, twoLists}
 use Rattle.store.specs.Put.{freePlace, handlesAfterPut, sizesAfterPut}
 use Rattle.store.specs.declared.Ends.{Ends}
 use Rattle.fq_state.specs.Flow.{endsOf}
@@ -82,7 +82,8 @@ module _ (s : State) (handles sizes : List ℕ) (clock : ℕ) (key : List ℕ) (
       let number : firstRefusal (rows ++ last) ≡ numberOf r = first-refuses rows last (numberOf r) (above r) (rw found at e) in
       rw (arrival-reply, number, refused-reply) (refl, refl, refl, refl)
 
-  module _ (passed : firstRefusal rows ≡ 0) (flow : ℕ) (f : Flow) (v : Verdict) (el : flow ≡ flowNumber s key) (ef : f ≡ flowAt (s .flows) flow)
+  module _ (passed : firstRefusal rows ≡ 0) (flow : ℕ) (f : Flow) (v : Verdict) (el : flow ≡ flowNumber s key)
+      (ef : f ≡ flowAt (s .flows) flow)
       (ev : v ≡ verdictOf (s .common) f size ecn u) where
     past : firstRefusal (rows ++ last) ≡ firstRefusal last
     past = none-refuses-yet rows last refl (sym passed)
@@ -112,7 +113,7 @@ module _ (s : State) (handles sizes : List ℕ) (clock : ℕ) (key : List ℕ) (
       arrival-dropped a = rw (arrival-reply, none, decided, read, ← el, ec, ew, en, ep, a) (refl, refl, refl, refl)
 
       pub arrival-stored : (schedule : Schedule) (ends : Ends) (handles' sizes' : List ℕ) → admitted v ≡ true →
-          schedule ≡ cond (not (new.isListed (s .schedule) flow)) (new.entered (s .schedule) flow) (s .schedule) →
+          schedule ≡ cond (not (isListed (twoLists (s .schedule)) flow)) (enteredIn (s .schedule) flow) (s .schedule) →
           ends ≡ endsOf f →
           handles' ≡ handlesAfterPut handles place handle → sizes' ≡ sizesAfterPut ends (f .count) sizes place size →
           Arrives s handles sizes clock key handle size ecn u (verdict v)

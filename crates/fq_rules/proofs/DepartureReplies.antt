@@ -9,8 +9,8 @@ use Rattle.refusals.specs.Rows.{firstRefusal}
 use Rattle.refusals.specs.declared.Accepted.{Accepted}
 use Rattle.refusals.specs.declared.Accepted.the-variants.{No}
 use Rattle.refusals.specs.declared.Refusal.{Refusal}
-use Rattle.schedule.specs.Choosing.{charged, choose}
-use Rattle.schedule.specs.Ring.{scheduleOf}
+use Rattle.schedule.specs.Choosing.{choose}
+use Rattle.schedule.specs.Ring.{chargedIn, chosenIn, scheduleOf, twoLists}
 use Rattle.schedule.specs.declared.Lists.{Lists}
 use Rattle.store.specs.Take.{sizesAfterTake}
 use Rattle.fq_state.specs.State.{State, countsOf, flowAt}
@@ -57,7 +57,7 @@ module _ (s : State) (handles sizes : List ℕ) (clock : ℕ) where
         state =
             record {
               common = departedCommon (s .common) (servedFlow s .head) clock (headSize (servedFlow s) sizes);
-              schedule = charged (choiceOf s .schedule) (choiceOf s .flow) (headSize (servedFlow s) sizes);
+              schedule = chargedIn (chosenIn (s .schedule) (choiceOf s)) (choiceOf s .flow) (headSize (servedFlow s) sizes);
               flows = set (s .flows) (choiceOf s .flow) (departedFlow (servedFlow s) sizes clock (headSize (servedFlow s) sizes));
             };
       })
@@ -71,7 +71,7 @@ module _ (s : State) (handles sizes : List ℕ) (clock : ℕ) where
       rw (departure-reply, given, refused-reply) (refl, refl, refl, refl, refl, refl)
 
   module _ (passed : firstRefusal rows ≡ 0) (counts : List ℕ) (flow : ℕ) (f : Flow) (ec : counts ≡ countsOf (s .flows))
-      (el : flow ≡ choose counts (s .schedule) .flow) (ef : f ≡ flowAt (s .flows) flow) where
+      (el : flow ≡ choose counts (twoLists (s .schedule)) .flow) (ef : f ≡ flowAt (s .flows) flow) where
     past : firstRefusal (rows ++ last) ≡ firstRefusal last
     past = none-refuses-yet rows last refl (sym passed)
 
@@ -81,7 +81,8 @@ module _ (s : State) (handles sizes : List ℕ) (clock : ℕ) where
     served : servedFlow s ≡ f
     served = ap (flowAt (s .flows)) chosen ∙ sym ef
 
-    pub departure-lost : headWordRefused (s .common .settings .slots) f sizes ≡ true → Departs s handles sizes clock (refused 9) 0 0 0 s sizes
+    pub departure-lost : headWordRefused (s .common .settings .slots) f sizes ≡ true → Departs s handles sizes clock (refused 9) 0 0 0 s
+        sizes
     departure-lost wrong =
         let given : firstRefusal last ≡ 9 = rw (served, wrong) in
         rw (departure-reply, past ∙ given) (refl, refl, refl, refl, refl, refl)
@@ -89,7 +90,7 @@ module _ (s : State) (handles sizes : List ℕ) (clock : ℕ) where
     pub departure-taken : (lists : Lists) (order deficits deficits' : List ℕ) (handle size : ℕ) (common : Common) (next : Flow)
         (flows : List Flow) (sizes' : List ℕ) →
         headWordRefused (s .common .settings .slots) f sizes ≡ false →
-        scheduleOf lists order deficits ≡ choose counts (s .schedule) .schedule →
+        scheduleOf lists order deficits ≡ chosenIn (s .schedule) (choose counts (twoLists (s .schedule))) →
         handle ≡ headHandle f handles → size ≡ headSize f sizes →
         common ≡ departedCommon (s .common) (f .head) clock size →
         deficits' ≡ set deficits flow (getD deficits flow 0 - size) →
@@ -99,5 +100,5 @@ module _ (s : State) (handles sizes : List ℕ) (clock : ℕ) where
         (record { common = common; schedule = scheduleOf lists order deficits'; flows = flows }) sizes'
     departure-taken lists order deficits deficits' handle size common next flows sizes' right es eh ez eo ed en ew et =
         let given : firstRefusal last ≡ 0 = rw (served, right) in
-        let moved : choiceOf s .schedule ≡ scheduleOf lists order deficits = sym (rw ec at es) in
-        rw (departure-reply, past ∙ given, served, chosen, moved, eo, ed, ew, en, et, eh, ez) (refl, refl, refl, refl, refl, refl)
+        let moved : chosenIn (s .schedule) (choiceOf s) ≡ scheduleOf lists order deficits = sym (rw ec at es) in
+        rw (departure-reply, past ∙ given, moved, served, chosen, eo, ed, ew, en, et, eh, ez) (refl, refl, refl, refl, refl, refl)

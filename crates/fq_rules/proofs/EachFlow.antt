@@ -1,19 +1,20 @@
 -- What a well-formed record says of each of its flows, and of the lists.
 use mathlib.Core.Path.{_≡_, refl}
-use mathlib.Core.Bool.{Bool, true, _&&_, _||_}
+use mathlib.Core.Bool.{true}
 use mathlib.Core.List.{List, [], _∷_}
-use Prim.Native.Nat.{ℕ, zero, suc, _+_, _≤_, _<_}
+use Prim.Native.Nat.{ℕ, zero, suc, _≤_, _<_}
 use native.Mathlib.Omega.{arith}
-use lib.Dec.{eqb, leb}
 use lib.ListN.{getD, length}
-use borrow.Author.Count.{below-more}
-use borrow.Author.Tests.{leb-true, ne-eqb}
+use borrow.Author.Tests.{ne-eqb}
 use Rattle.laws.specs.Tests.{all}
 use Rattle.laws.proofs.Tests.{and-left, and-right}
 use Rattle.pie.specs.Verdicts.{total}
 use Rattle.schedule.specs.Entering.{isListed}
-use Rattle.schedule.specs.Ring.{Schedule, deficitOf, entries, occurs, quantum, zeroDeficit}
-use Rattle.schedule.specs.WellFormed.{areFlows, every, flowFits, listsFit, wellListed}
+use Rattle.schedule.specs.Ring.{Schedule, ringOf, twoLists}
+use Rattle.schedule.specs.TwoLists.{listed}
+use Rattle.schedule.specs.WellFormed.{areFlows, listsFit, wellListed}
+use Rattle.schedule.proofs.Tallied.{flows-of, lists-of, well-of-ring}
+use Rattle.schedule.proofs.Well.{facts-of}
 use Rattle.fq_state.specs.State.{countsOf, eachBytes, flowAt}
 use Rattle.fq_state.specs.WellFormed.{flowConditions, flowsFit}
 use Rattle.fq_state.specs.declared.Common.{Common}
@@ -38,42 +39,25 @@ bytes-of-one (f ∷ flows) (suc i) = let h = bytes-of-one flows i in omega arith
 
 pub record ListsFit (counts : List ℕ) (s : Schedule) : Type 0 where
   pub places : listsFit (s .lists) ≡ true
-  pub numbers : areFlows (entries s) ≡ true
-  pub each : every 64 (λ flow. flowFits (occurs flow (entries s)) (getD counts flow 0) (deficitOf s flow)) ≡ true
+  pub numbers : areFlows (ringOf (s .order) (s .lists .first) (s .lists .listed)) ≡ true
+  -- a flow with a packet is in one of the lists
+  pub held : (flow : ℕ) → flow < 64 → (getD counts flow 0 ≡ 0 → ⊥) → 1 ≤ listed flow (twoLists s)
 
 pub lists-fit : (counts : List ℕ) (s : Schedule) → wellListed counts s ≡ true → ListsFit counts s
-unfolding wellListed
 lists-fit counts s w =
-    let a = listsFit (s .lists) in
-    let b = areFlows (entries s) in
-    let c = every 64 (λ flow. flowFits (occurs flow (entries s)) (getD counts flow 0) (deficitOf s flow)) in
-    let ab = and-left (a && b) c w in
-    record { places = and-left a b ab; numbers = and-right a b ab; each = and-right (a && b) c w }
-
-every-at : (n : ℕ) (test : ℕ → Bool) → every n test ≡ true → (i : ℕ) → i < n → test i ≡ true
-unfolding every
-every-at zero test e i h = absurd (omega arith)
-every-at (suc n) test e i h =
-    below-more (λ j. test j ≡ true) n (every-at n test (and-left (every n test) (test n) e)) (and-right (every n test) (test n) e) i (omega arith)
+    record {
+      places = lists-of counts s w;
+      numbers = flows-of counts s w;
+      held = facts-of counts (twoLists s) (well-of-ring counts s w) .held;
+    }
 
 count-at : (flows : List Flow) (i : ℕ) → getD (countsOf flows) i 0 ≡ flowAt flows i .count
 count-at [] i = refl
 count-at (f ∷ flows) zero = refl
 count-at (f ∷ flows) (suc i) = count-at flows i
 
--- of a flow that fits and has a packet
-stands : (times count deficit : ℕ) → flowFits times count deficit ≡ true → 0 < count → 1 ≤ times
-stands times count deficit e h =
-    let a = leb times 1 in
-    let b = eqb count 0 || leb 1 times in
-    let some : b ≡ true = and-right a b (and-left (a && b) (leb deficit (zeroDeficit + quantum)) e) in
-    leb-true 1 times (rw (ne-eqb count 0 (omega arith)) at some)
-
--- a flow with a packet is listed
 pub held-listed : (flows : List Flow) (s : Schedule) (flow : ℕ) → ListsFit (countsOf flows) s → flow < 64 →
-    0 < flowAt flows flow .count → isListed s flow ≡ true
+    0 < flowAt flows flow .count → isListed (twoLists s) flow ≡ true
 held-listed flows s flow k h some =
-    let fits = every-at 64 (λ i. flowFits (occurs i (entries s)) (getD (countsOf flows) i 0) (deficitOf s i)) (k .each) flow h in
-    let n = count-at flows flow in
-    let times : 1 ≤ occurs flow (entries s) = stands (occurs flow (entries s)) (getD (countsOf flows) flow 0) (deficitOf s flow) fits (omega arith) in
-    rw (ne-eqb (occurs flow (entries s)) 0 (omega arith))
+    let times = k .held flow h (λ e. omega (arith, count-at flows flow, e)) in
+    rw (ne-eqb (listed flow (twoLists s)) 0 (λ e. omega (arith, times, e)))

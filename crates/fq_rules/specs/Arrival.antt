@@ -15,8 +15,7 @@ use Rattle.hash.specs.OneAtATime.{flowOf}
 use Rattle.refusals.specs.Rows.{firstRefusal}
 use Rattle.refusals.specs.Tests.{sizeRefused}
 use Rattle.schedule.specs.Entering.{isListed}
-use Rattle.schedule.specs.Entering as new
-use Rattle.schedule.specs.Ring.{Schedule}
+use Rattle.schedule.specs.Ring.{Schedule, enteredIn, twoLists}
 use Rattle.store.specs.Following.{linkRefused}
 use Rattle.store.specs.Put.{endsAfterPut, freePlace, handlesAfterPut, sizesAfterPut, storeAfterPut}
 use Rattle.store.specs.declared.Store.{Store}
@@ -105,9 +104,10 @@ arrivedCommon c sizes clock size v =
       verdicts = raised (c .verdicts) v;
     }
 
--- a flow in neither list enters the new one; a listed flow, even an empty one, keeps its place and deficit; a dropped packet moves nothing
+-- a flow in neither list enters the new one (crate schedule: Entering, and Ring for the places); a listed flow, even an empty one,
+-- keeps its place and deficit; a dropped packet moves nothing
 unfoldable pub arrivedSchedule : Schedule → (flow : ℕ) → Verdict → Schedule
-arrivedSchedule s flow v = cond (admitted v && not (isListed s flow)) (new.entered s flow) s
+arrivedSchedule s flow v = cond (admitted v && not (isListed (twoLists s) flow)) (enteredIn s flow) s
 
 -- an arrival that no test refuses
 abbrev pub acceptedArrival : State → (sizes : List ℕ) (clock : ℕ) (key : List ℕ) (size : ℕ) (ecn : Bool) (u : ℕ) → Reply

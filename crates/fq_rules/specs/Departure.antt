@@ -9,7 +9,8 @@ use Rattle.pie.specs.DepartureRate.{rateAfter}
 use Rattle.pie.specs.declared.Pie.{Pie}
 use Rattle.refusals.specs.Rows.{firstRefusal}
 use Rattle.refusals.specs.Tests.{headRefused}
-use Rattle.schedule.specs.Choosing.{Choice, charged, choose}
+use Rattle.schedule.specs.Choosing.{Choice, choose}
+use Rattle.schedule.specs.Ring.{chargedIn, chosenIn, twoLists}
 use Rattle.store.specs.Following.{linkRefused}
 use Rattle.store.specs.Take.{endsAfterTake, sizesAfterTake, storeAfterTake}
 use Rattle.store.specs.Words.{sizeAt}
@@ -20,9 +21,9 @@ use Rattle.fq_state.specs.declared.Flow.{Flow}
 use Rattle.fq_rules.specs.Answer.{Answer, Reply, departed, departs, unlessRefused}
 use Rattle.fq_rules.specs.Refusals.{clockRefused, emptyRefused, stateRefused, tablesRefused}
 
--- 26: the flow that is served, and the lists after the moves
+-- 26: the flow that is served, the lists and deficits after the moves, and the moves: chosen on the new and the old list
 abbrev pub choiceOf : State → Choice
-choiceOf s = choose (countsOf (s .flows)) (s .schedule)
+choiceOf s = choose (countsOf (s .flows)) (twoLists (s .schedule))
 
 abbrev pub servedFlow : State → Flow
 servedFlow s = flowAt (s .flows) (choiceOf s .flow)
@@ -96,7 +97,7 @@ acceptedDeparture s handles sizes clock =
       state =
           record {
             common = departedCommon (s .common) (f .head) clock size;
-            schedule = charged (c .schedule) (c .flow) size;
+            schedule = chargedIn (chosenIn (s .schedule) c) (c .flow) size;
             flows = set (s .flows) (c .flow) (departedFlow f sizes clock size);
           };
     }

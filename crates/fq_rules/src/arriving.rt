@@ -26,8 +26,8 @@ ghost use lib.ListN.{length};
 ghost use Rattle.pie.specs.Constants.{largest, mostVerdicts};
 ghost use Rattle.pie.specs.Verdicts.{total};
 ghost use Rattle.refusals.specs.Rows.{firstRefusal};
-ghost use Rattle.schedule.specs.Entering.{entered, isListed};
-ghost use Rattle.schedule.specs.Ring.{scheduleOf};
+ghost use Rattle.schedule.specs.Entering.{isListed};
+ghost use Rattle.schedule.specs.Ring.{enteredIn, scheduleOf, twoLists};
 ghost use Rattle.schedule.specs.WellFormed.{listsFit};
 ghost use Rattle.fq_state.specs.Words.{stateOf};
 ghost use Rattle.fq_rules.specs.Answer.{arrivalAnswer};
@@ -92,9 +92,9 @@ fn list(
     count: u64,
 ) -> Lists
     requires { ⌜ (listsFit lists ≡ true) × (flow < 64) ⌝ }
-    requires { ⌜ (0 < count → isListed (scheduleOf lists (now order) (now deficits)) flow ≡ true) ⌝ }
+    requires { ⌜ (0 < count → isListed (twoLists (scheduleOf lists (now order) (now deficits))) flow ≡ true) ⌝ }
     ensures { λ r. ⌜ (let s = scheduleOf lists (now (order .entry)) (now (deficits .entry)) in
-        scheduleOf r (now (order .exit)) (now (deficits .exit)) ≡ cond (not (isListed s flow)) (entered s flow) s) ⌝ }
+        scheduleOf r (now (order .exit)) (now (deficits .exit)) ≡ cond (not (isListed (twoLists s) flow)) (enteredIn s flow) s) ⌝ }
 {
     if 0 < count {
         return lists;

@@ -13,8 +13,8 @@ ghost use mathlib.Core.Bool.{true, false};
 ghost use Prim.Native.Nat.{ℕ, _*_, _≤_, _<_};
 ghost use lib.ListN.{length};
 ghost use Rattle.pie.specs.Constants.{largest};
-ghost use Rattle.schedule.specs.Choosing as spec;
-ghost use Rattle.schedule.specs.Ring.{ringOf, scheduleOf};
+ghost use Rattle.schedule.specs.Choosing as rule;
+ghost use Rattle.schedule.specs.Ring.{chosenIn, ringOf, scheduleOf, twoLists};
 ghost use Rattle.schedule.specs.WellFormed.{areFlows, listsFit};
 ghost use Rattle.fq_state.specs.State.{flowAt};
 ghost use Rattle.fq_state.specs.Words.{flowsOf};
@@ -50,12 +50,13 @@ pub(crate) fn pick(
     requires { ⌜ (listsFit lists ≡ true) × (areFlows (ringOf (now order) (lists .first) (lists .listed)) ≡ true) ⌝ }
     requires { ⌜ ((i : ℕ) → i < 64 → let f = flowAt (flowsOf (now flows)) i in
         (f .head < length (now sizes)) × (f .head < 65536) × (f .count ≤ 65536) × (f .bytes ≤ largest * f .count)) ⌝ }
-    ensures { λ r. ⌜ r .flow ≡ spec.choose (now (counts .entry)) (scheduleOf lists (now (order .entry)) (now (deficits .entry))) .flow ⌝ }
+    ensures { λ r. ⌜ (let s = scheduleOf lists (now (order .entry)) (now (deficits .entry)) in
+        r .flow ≡ rule.choose (now (counts .entry)) (twoLists s) .flow) ⌝ }
     ensures { λ r. ⌜ (r .flow < 64)
         × (r .wrong ≡ headWordRefused slots (flowAt (flowsOf (now (flows .entry))) (r .flow)) (now (sizes .entry))) ⌝ }
     ensures { λ r. ⌜ (r .wrong ≡ true → (now (order .exit) ≡ now (order .entry)) × (now (deficits .exit) ≡ now (deficits .entry))) ⌝ }
-    ensures { λ r. ⌜ (r .wrong ≡ false → scheduleOf (r .lists) (now (order .exit)) (now (deficits .exit))
-        ≡ spec.choose (now (counts .entry)) (scheduleOf lists (now (order .entry)) (now (deficits .entry))) .schedule) ⌝ }
+    ensures { λ r. ⌜ (r .wrong ≡ false → let s = scheduleOf lists (now (order .entry)) (now (deficits .entry)) in
+        scheduleOf (r .lists) (now (order .exit)) (now (deficits .exit)) ≡ chosenIn s (rule.choose (now (counts .entry)) (twoLists s))) ⌝ }
 {
     let passed = pass(order, deficits, counts, lists);
     let at = passed.lists;

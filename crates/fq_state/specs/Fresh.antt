@@ -7,7 +7,8 @@ use lib.ListN.{replicate}
 use Rattle.laws.specs.Tests.{all}
 use Rattle.units.specs.Kinds.{bytes, micros}
 use Rattle.pie.specs.Constants.{fullAllowance, latest}
-use Rattle.schedule.specs.Ring.{Schedule, emptyLists, scheduleOf, zeroDeficit}
+use Rattle.schedule.specs.Ring.{emptyLists, scheduleOf}
+use Rattle.schedule.specs.TwoLists.{zeroDeficit}
 use Rattle.store.specs.Fresh.{freshStore}
 use Rattle.fq_state.specs.Flow.{emptyFlow}
 use Rattle.fq_state.specs.State.{State}

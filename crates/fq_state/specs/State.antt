@@ -10,7 +10,7 @@ use Rattle.fq_state.specs.declared.Flow.{Flow}
 pub record State : Type 0 where
   -- settings, clock, last tick, total count and bytes, the store, and the five counts
   pub common : Common
-  -- the lists and the deficits
+  -- the new and the old list, in one ring, and the deficits
   pub schedule : Schedule
   pub flows : List Flow
 

@@ -1,60 +1,91 @@
 -- Choosing goes on after a look.
 use mathlib.Core.Path.{_≡_, refl, ap, _∙_}
 use mathlib.Core.Bool.{Bool, true, false, cond}
-use mathlib.Core.List.{List}
-use Prim.Native.Nat.{ℕ, suc, _-_, _<_}
+use mathlib.Core.List.{List, [], _∷_, foldl}
+use Prim.Native.Nat.{ℕ, zero, suc, _-_, _<_}
 use native.Mathlib.Omega.{arith}
-use lib.Dec.{eqb, ltb}
-use Rattle.schedule.specs.Ring.{Schedule}
-use Rattle.schedule.specs.Choosing.{Choice, Look, after, atNew, atOld, choose, chooseIn, chosen, look, mostLooks, newHead, oldHead}
+use Rattle.schedule.specs.Choosing.{
+  Choice,
+  Look,
+  Move,
+  after,
+  choose,
+  chooseIn,
+  chosen,
+  led,
+  look,
+  mostLooks,
+  moves,
+  newGoesOld,
+  nobody,
+  oldGoesLast,
+  oldLeaves,
+  serves,
+}
+use Rattle.schedule.specs.Passing.{Found, afterLook, found, foundIn}
+use Rattle.schedule.specs.Ring.{Schedule, chosenIn, movedIn, scheduleOf, turned, twoLists}
+use Rattle.schedule.specs.TwoLists.{TwoLists}
+use Rattle.schedule.proofs.Looks.{Reads}
 
--- a look that finds this ends choosing at a flow, or goes on from another schedule
-abbrev pub Leads : Schedule → Look → (ends : Bool) (flow : ℕ) → Schedule → Type 0
-Leads s l ends flow t = (again : Schedule → Choice) → after again s l ≡ cond ends (chosen flow t) (again t)
+-- a look that finds this ends choosing at a flow, or goes on from another ring
+abbrev pub GoesTo : Schedule → Look → (ends : Bool) (flow : ℕ) → Schedule → Type 0
+GoesTo s l ends flow t = (again : Schedule → Found) → afterLook again s l ≡ cond ends (found flow t) (again t)
 
--- ── where a look looks ──
+-- ── the moves of a choice ──
 
-module _ (counts : List ℕ) (s : Schedule) where
-  pub at-new : (ends : Bool) (flow : ℕ) (t : Schedule) → ltb (s .lists .old) (s .lists .listed) ≡ true →
-      Leads s (atNew counts s (newHead s)) ends flow t → Leads s (look counts s) ends flow t
-  unfolding look
-  at-new ends flow t e h = rw e h
+abbrev with : Schedule → (deficits : List ℕ) → Schedule
+with s ds = scheduleOf (s .lists) (s .order) ds
 
-  pub at-none : ltb (s .lists .old) (s .lists .listed) ≡ false → eqb (s .lists .listed) 0 ≡ true → Leads s (look counts s) true 0 s
-  unfolding look
-  at-none e f = rw (e, f) (λ again. refl)
+-- no move reads the deficits
+turned-with : (s : Schedule) (ds : List ℕ) (m : Move) → turned (with s ds) m ≡ with (turned s m) ds
+turned-with s ds newGoesOld = refl
+turned-with s ds oldGoesLast = refl
+turned-with s ds oldLeaves = refl
 
-  pub at-old : (ends : Bool) (flow : ℕ) (t : Schedule) → ltb (s .lists .old) (s .lists .listed) ≡ false →
-      eqb (s .lists .listed) 0 ≡ false → Leads s (atOld counts s (oldHead s)) ends flow t → Leads s (look counts s) ends flow t
-  unfolding look
-  at-old ends flow t e f h = rw (e, f) h
+all-turned : (ms : List Move) (s : Schedule) (ds : List ℕ) → foldl turned (with s ds) ms ≡ with (foldl turned s ms) ds
+all-turned [] s ds = refl
+all-turned (m ∷ ms) s ds = ap (λ t. foldl turned t ms) (turned-with s ds m) ∙ all-turned ms (turned s m) ds
+
+-- one move, then the others
+pub led-in : (s : Schedule) (m : Move) (ds : List ℕ) (c : Choice) → chosenIn s (led m c) ≡ chosenIn (movedIn s m ds) c
+unfolding chosenIn
+led-in s m ds c = rw (all-turned (c .moved) (turned s m) ds)
+
+-- no move
+pub unmoved : (s : Schedule) (flow : ℕ) → chosenIn s (chosen flow (twoLists s)) ≡ s
+unfolding chosenIn
+unmoved s flow = refl
 
 -- ── one look after another ──
 
-pub chosen-all : (counts : List ℕ) (s : Schedule) → choose counts s ≡ chooseIn mostLooks counts s
+pub chosen-all : (counts : List ℕ) (l : TwoLists) → choose counts l ≡ chooseIn mostLooks counts l
 unfolding choose
-chosen-all counts s = refl
+chosen-all counts l = refl
 
-pub used-up : (counts : List ℕ) (s : Schedule) (looks : ℕ) → looks ≡ 0 → chooseIn looks counts s ≡ chosen 0 s
-unfolding chooseIn
+pub used-up : (counts : List ℕ) (s : Schedule) (looks : ℕ) → looks ≡ 0 → foundIn looks counts s ≡ found 0 s
+unfolding chooseIn chosenIn
 used-up counts s looks e = rw e refl
 
-looked : (counts : List ℕ) (s : Schedule) (looks : ℕ) → chooseIn (suc looks) counts s ≡ after (chooseIn looks counts) s (look counts s)
+pub looked : (counts : List ℕ) (s : Schedule) (looks : ℕ) (l : Look) → look counts (twoLists s) ≡ l → Reads s l →
+    foundIn (suc looks) counts s ≡ afterLook (foundIn looks counts) s l
 unfolding chooseIn
-looked counts s looks = refl
+looked counts s looks l e r = rw e (go l r)
+  where
+    go : (l : Look) → Reads s l →
+        (let c = after (chooseIn looks counts) (twoLists s) l in found (c .flow) (chosenIn s c)) ≡ afterLook (foundIn looks counts) s l
+    go nobody r = ap (found 0) (unmoved s 0)
+    go (serves flow) r = ap (found flow) (unmoved s flow)
+    go (moves m next) r = rw (r, led-in s m (next .deficits) (chooseIn looks counts next))
 
-looked-from : (counts : List ℕ) (s : Schedule) (looks : ℕ) → 0 < looks →
-    chooseIn looks counts s ≡ after (chooseIn (looks - 1) counts) s (look counts s)
-looked-from counts s looks h =
-    let e : looks ≡ suc (looks - 1) = omega arith in
-    ap (λ n. chooseIn n counts s) e ∙ looked counts s (looks - 1)
+module _ (counts : List ℕ) (s t : Schedule) (looks flow : ℕ) (ends : Bool) (some : 0 < looks) (l : Look)
+    (e : look counts (twoLists s) ≡ l) (r : Reads s l) (k : GoesTo s l ends flow t) where
+  from : foundIn looks counts s ≡ cond ends (found flow t) (foundIn (looks - 1) counts t)
+  from =
+      let n : looks ≡ suc (looks - 1) = omega arith in
+      ap (λ n. foundIn n counts s) n ∙ looked counts s (looks - 1) l e r ∙ k (foundIn (looks - 1) counts)
 
-pub ends-at : (counts : List ℕ) (s t : Schedule) (looks flow : ℕ) (ends : Bool) → 0 < looks → ends ≡ true →
-    Leads s (look counts s) ends flow t → chooseIn looks counts s ≡ chosen flow t
-ends-at counts s t looks flow ends h e f =
-    looked-from counts s looks h ∙ f (chooseIn (looks - 1) counts) ∙ ap (λ b. cond b (chosen flow t) (chooseIn (looks - 1) counts t)) e
+  pub ends-at : ends ≡ true → foundIn looks counts s ≡ found flow t
+  ends-at e = from ∙ ap (λ b. cond b (found flow t) (foundIn (looks - 1) counts t)) e
 
-pub goes-on : (counts : List ℕ) (s t : Schedule) (looks flow : ℕ) (ends : Bool) → 0 < looks → ends ≡ false →
-    Leads s (look counts s) ends flow t → chooseIn looks counts s ≡ chooseIn (looks - 1) counts t
-goes-on counts s t looks flow ends h e f =
-    looked-from counts s looks h ∙ f (chooseIn (looks - 1) counts) ∙ ap (λ b. cond b (chosen flow t) (chooseIn (looks - 1) counts t)) e
+  pub goes-on : ends ≡ false → foundIn looks counts s ≡ foundIn (looks - 1) counts t
+  goes-on e = from ∙ ap (λ b. cond b (found flow t) (foundIn (looks - 1) counts t)) e

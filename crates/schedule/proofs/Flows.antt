@@ -8,7 +8,7 @@ use lib.Dec.{ltb}
 use lib.ListN.{getD}
 use borrow.Author.Tests.{ltb-true, ltb-false, lt-ltb, le-ltb}
 use Rattle.laws.proofs.Tests.{and-left, and-right}
-use Rattle.schedule.specs.Ring.{place, ringOf}
+use Rattle.schedule.specs.Ring.{Schedule, newList, oldList, place, ringOf}
 use Rattle.schedule.specs.WellFormed.{areFlows}
 use Rattle.schedule.proofs.Ring.{ring-both, ring-head, ring-more, ring-none}
 
@@ -46,7 +46,7 @@ flows-and l x h low = flows-end l x ∙ rw (h, lt-ltb x 64 low) refl
 
 pub flows-none : (order : List ℕ) (first : ℕ) → areFlows (ringOf order first 0) ≡ true
 unfolding areFlows
-flows-none order first = rw (ring-none order first) refl
+flows-none order first = rw (ring-none order first 0 refl) refl
 
 pub flows-more : (order : List ℕ) (first n : ℕ) → areFlows (ringOf order first n) ≡ true → getD order (place first n) 0 < 64 →
     areFlows (ringOf order first (n + 1)) ≡ true
@@ -81,3 +81,17 @@ flow-at order first i n h e = go (ltb (getD order (place first i) 0) 64) refl
     go : (b : Bool) → ltb (getD order (place first i) 0) 64 ≡ b → getD order (place first i) 0 < 64
     go true q = ltb-true (getD order (place first i) 0) 64 q
     go false q = absurd (false≢true (sym (flows-broken order first i n h (ltb-false (getD order (place first i) 0) 64 q)) ∙ e))
+
+-- both lists
+pub flows-both : (s : Schedule) → s .lists .old ≤ s .lists .listed →
+    areFlows (ringOf (s .order) (s .lists .first) (s .lists .listed)) ≡ areFlows (newList s) && areFlows (oldList s)
+flows-both s h =
+    ap areFlows (ring-both (s .order) (s .lists .first) (s .lists .old) (s .lists .listed) h)
+    ∙ flows-append (oldList s) (newList s)
+    ∙ and-swap (areFlows (oldList s)) (areFlows (newList s))
+  where
+    and-swap : (a b : Bool) → a && b ≡ b && a
+    and-swap true true = refl
+    and-swap true false = refl
+    and-swap false true = refl
+    and-swap false false = refl

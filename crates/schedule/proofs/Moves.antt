@@ -35,7 +35,8 @@ rotated order first n flow f h k low e =
 
 pub same-flows : {first first′ n n′ : ℕ} (order : List ℕ) → first′ ≡ first → n′ ≡ n → areFlows (ringOf order first n) ≡ true →
     areFlows (ringOf order first′ n′) ≡ true
-same-flows {first = first} {n′ = n′} order a b e = ap (λ p. areFlows (ringOf order p n′)) a ∙ ap (λ m. areFlows (ringOf order first m)) b ∙ e
+same-flows {first = first} {n′ = n′} order a b e = ap (λ p. areFlows (ringOf order p n′)) a ∙ ap (λ m. areFlows (ringOf order first m))
+    b ∙ e
 
 abbrev pub rotatedLists : Lists → Lists
 rotatedLists l = record { first = place (l .first) 1; old = l .old; listed = l .listed }

@@ -7,13 +7,18 @@ use native.Mathlib.Omega.{arith}
 use lib.Dec.{eqb}
 use lib.ListN.{getD, length}
 use borrow.Author.Tests.{eq-eqb, ne-eqb}
-use Rattle.schedule.specs.Ring.{occurs, place, ringOf}
+use Rattle.schedule.specs.Ring.{Schedule, newList, oldList, place, ringOf, twoLists}
+use Rattle.schedule.specs.TwoLists.{listed, occurs}
 use Rattle.schedule.proofs.Ring.{ring-both, ring-more, ring-none}
 
 pub occurs-append : (flow : ℕ) (a b : List ℕ) → occurs flow (a ++ b) ≡ occurs flow a + occurs flow b
 unfolding occurs
 occurs-append flow [] b = omega arith
 occurs-append flow (x ∷ a) b = omega (arith, occurs-append flow a b)
+
+pub occurs-none : (flow : ℕ) → occurs flow [] ≡ 0
+unfolding occurs
+occurs-none flow = refl
 
 pub occurs-head : (x flow : ℕ) (l : List ℕ) → occurs flow (x ∷ l) ≡ occurs flow (x ∷ []) + occurs flow l
 unfolding occurs
@@ -27,6 +32,9 @@ pub occurs-other : (x flow : ℕ) → (x ≡ flow → ⊥) → occurs flow (x �
 unfolding occurs
 occurs-other x flow h = rw (ne-eqb x flow h)
 
+pub occurs-end : (x flow : ℕ) (l : List ℕ) → occurs flow (l ++ x ∷ []) ≡ occurs flow l + occurs flow (x ∷ [])
+occurs-end x flow l = occurs-append flow l (x ∷ [])
+
 pub occurs-le : (flow : ℕ) (l : List ℕ) → occurs flow l ≤ length l
 unfolding occurs
 occurs-le flow [] = omega arith
@@ -38,9 +46,8 @@ occurs-le flow (x ∷ l) = go (eqb x flow) (occurs-le flow l)
 
 -- ── in the ring ──
 
-pub occurs-none : (order : List ℕ) (first flow : ℕ) → occurs flow (ringOf order first 0) ≡ 0
-unfolding occurs
-occurs-none order first flow = rw (ring-none order first) refl
+pub occurs-first : (order : List ℕ) (first flow : ℕ) → occurs flow (ringOf order first 0) ≡ 0
+occurs-first order first flow = ap (occurs flow) (ring-none order first 0 refl) ∙ occurs-none flow
 
 pub occurs-more : (order : List ℕ) (first n flow : ℕ) →
     occurs flow (ringOf order first (n + 1)) ≡ occurs flow (ringOf order first n) + occurs flow (getD order (place first n) 0 ∷ [])
@@ -57,6 +64,13 @@ occurs-at order first i n flow h e =
     let both : occurs flow (ringOf order first n) ≡ occurs flow l + occurs flow rest =
     ap (occurs flow) (ring-both order first (i + 1) n (omega arith)) ∙ occurs-append flow l rest in
     omega (arith, both, occurs-more order first i flow, one)
+
+-- in both lists
+pub occurs-both : (flow : ℕ) (s : Schedule) → s .lists .old ≤ s .lists .listed →
+    occurs flow (ringOf (s .order) (s .lists .first) (s .lists .listed)) ≡ listed flow (twoLists s)
+occurs-both flow s h =
+    ap (occurs flow) (ring-both (s .order) (s .lists .first) (s .lists .old) (s .lists .listed) h)
+    ∙ omega (arith, occurs-append flow (oldList s) (newList s))
 
 -- ── whether a flow is listed ──
 

@@ -6,7 +6,7 @@ use native.Mathlib.Nat.{add-suc, add-zero}
 use native.Mathlib.Numerals.{add-one}
 use native.Mathlib.Omega.{arith}
 use lib.ListN.{getD, length, length-append, set}
-use lib.Seq.{getD-set-other}
+use lib.Seq.{getD-set-other, getD-set-same}
 use Rattle.schedule.specs.Ring.{place, ringOf}
 
 pub place-lt : (first i : ℕ) → place first i < 64
@@ -24,9 +24,9 @@ length-ring order first zero = refl
 length-ring order first (suc n) =
     omega (arith, length-append (ringOf order first n) (getD order (place first n) 0 ∷ []), length-ring order first n)
 
-pub ring-none : (order : List ℕ) (first : ℕ) → ringOf order first 0 ≡ []
+pub ring-none : (order : List ℕ) (first n : ℕ) → n ≡ 0 → ringOf order first n ≡ []
 unfolding ringOf
-ring-none order first = refl
+ring-none order first n e = rw e
 
 -- one flow more, at the end
 pub ring-more : (order : List ℕ) (first n : ℕ) → ringOf order first (n + 1) ≡ ringOf order first n ++ getD order (place first n) 0 ∷ []
@@ -50,7 +50,16 @@ unfolding ringOf
 ring-set order first zero m x p q = refl
 ring-set order first (suc n) m x p q =
     ap (λ l. l ++ getD (set order (place first m) x) (place first n) 0 ∷ []) (ring-set order first n m x (omega arith) q)
-    ∙ ap (λ y. ringOf order first n ++ y ∷ []) (getD-set-other order (place first m) (place first n) x 0 (place-ne first n m (omega arith) q))
+    ∙ ap (λ y. ringOf order first n ++ y ∷ [])
+    (getD-set-other order (place first m) (place first n) x 0 (place-ne first n m (omega arith) q))
+
+-- the place behind the first n is written: they have one more
+pub ring-end : (order : List ℕ) (first n x : ℕ) → length order ≡ 64 → n < 64 →
+    ringOf (set order (place first n) x) first (suc n) ≡ ringOf order first n ++ x ∷ []
+unfolding ringOf
+ring-end order first n x h p =
+    ap (λ l. l ++ getD (set order (place first n) x) (place first n) 0 ∷ []) (ring-set order first n n x (omega arith) p)
+    ∙ ap (λ y. ringOf order first n ++ y ∷ []) (getD-set-same order (place first n) x 0 (omega (arith, place-lt first n)))
 
 -- two parts of the ring
 pub ring-add : (order : List ℕ) (first a b : ℕ) → ringOf order first (a + b) ≡ ringOf order first a ++ ringOf order (place first a) b

@@ -5,6 +5,15 @@ mod entering;
 mod passing;
 mod testing;
 
+// What a deficit gains at a time.
+pub(crate) const QUANTUM: u32 = 1_514;
+// How the deficit 0 is kept.
+pub(crate) const ZERO_DEFICIT: u32 = 65_535;
+// The highest deficit, that of a flow which enters: one quantum.
+pub(crate) const ONE_QUANTUM: u32 = 67_049;
+// One more than the most moves that lead to a flow with a packet.
+pub(crate) const MOST_LOOKS: usize = 2_880;
+
 // Where the lists stand: the place of the first flow, how many flows are in the old list, and how many in both.
 pub struct Lists {
     pub first: usize,

@@ -1,14 +1,15 @@
 // The choosing as far as it writes nothing: emptied flows at the head of a list are passed.
 use crate::Lists;
+use crate::MOST_LOOKS;
 use crate::Passed;
 use crate::choosing::is_negative;
 ghost use mathlib.Core.Path.{_≡_};
 ghost use mathlib.Core.Bool.{true, cond};
 ghost use mathlib.Core.List.{[]};
 ghost use Prim.Native.Nat.{_<_};
-ghost use Rattle.schedule.specs.Choosing.{choose, chooseIn, chosen};
-ghost use Rattle.schedule.specs.Passing.{headOf, withoutHead};
-ghost use Rattle.schedule.specs.Ring.{ringOf, scheduleOf};
+ghost use Rattle.schedule.specs.Choosing.{choose};
+ghost use Rattle.schedule.specs.Passing.{found, foundBy, foundIn, headOf, withoutHead};
+ghost use Rattle.schedule.specs.Ring.{ringOf, scheduleOf, twoLists};
 ghost use Rattle.schedule.specs.WellFormed.{areFlows, listsFit};
 
 // The head of the new list, or of the old list where the new one is empty.
@@ -53,14 +54,15 @@ fn without_head(lists: Lists) -> Lists
 // Looks at the heads of the lists until a flow is found, or one whose deficit is below 0: to move that one is to write.
 pub fn pass(order: &[u64; 64], deficits: &[u32; 64], counts: &[u32; 64], lists: Lists) -> Passed
     requires { ⌜ (listsFit lists ≡ true) × (areFlows (ringOf (now order) (lists .first) (lists .listed)) ≡ true) ⌝ }
-    ensures { λ r. ⌜ choose (now (counts .entry)) (scheduleOf lists (now (order .entry)) (now (deficits .entry)))
-        ≡ (let s = scheduleOf (r .lists) (now (order .entry)) (now (deficits .entry)) in
-        cond (r .ends) (chosen (r .flow) s) (chooseIn (r .looks) (now (counts .entry)) s)) ⌝ }
+    ensures { λ r. ⌜ (let s = scheduleOf lists (now (order .entry)) (now (deficits .entry)) in
+        let t = scheduleOf (r .lists) (now (order .entry)) (now (deficits .entry)) in
+        foundBy (choose (now (counts .entry)) (twoLists s)) s
+        ≡ cond (r .ends) (found (r .flow) t) (foundIn (r .looks) (now (counts .entry)) t)) ⌝ }
     ensures { λ r. ⌜ (r .flow < 64) × (listsFit (r .lists) ≡ true)
         × (areFlows (ringOf (now (order .entry)) (r .lists .first) (r .lists .listed)) ≡ true) ⌝ }
 {
     let mut at = lists;
-    let mut looks: usize = 2_880;
+    let mut looks: usize = MOST_LOOKS;
     while 0 < looks {
         let none = at.listed == 0;
         if none {

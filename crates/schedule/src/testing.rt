@@ -1,10 +1,12 @@
 // Whether lists and deficits are well formed.
 use crate::Lists;
+use crate::ONE_QUANTUM;
 ghost use mathlib.Core.Path.{_≡_};
 ghost use mathlib.Core.Bool.{true};
 ghost use Prim.Native.Nat.{ℕ, _<_};
 ghost use lib.ListN.{getD};
-ghost use Rattle.schedule.specs.Ring.{occurs, ringOf, scheduleOf};
+ghost use Rattle.schedule.specs.Ring.{ringOf, scheduleOf};
+ghost use Rattle.schedule.specs.TwoLists.{occurs};
 ghost use Rattle.schedule.specs.WellFormed.{areFlows, every, flowFits, listsFit, wellListed};
 
 // How often each flow is listed, and whether only flows are.
@@ -48,7 +50,7 @@ fn every_flow_fits(times: &[u32; 64], deficits: &[u32; 64], counts: &[u32; 64]) 
         let n = times[flow];
         let count = counts[flow];
         let deficit = deficits[flow];
-        let fits = (n <= 1) & ((count == 0) | (1 <= n)) & (deficit <= 67_049);
+        let fits = (n <= 1) & ((count == 0) | (1 <= n)) & (deficit <= ONE_QUANTUM);
         fit = fit & fits;
         flow += 1;
     }

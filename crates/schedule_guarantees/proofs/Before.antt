@@ -6,7 +6,7 @@ use Prim.Native.Nat.{ℕ, _+_, _≤_}
 use native.Mathlib.Omega.{arith}
 use lib.Dec.{eqb}
 use borrow.Author.Tests.{eq-eqb, ne-eqb}
-use Rattle.schedule.specs.Ring.{occurs}
+use Rattle.schedule.specs.TwoLists.{occurs}
 
 unfoldable pub before : (f g : ℕ) → List ℕ → Bool
 before f g [] = false

@@ -10,71 +10,77 @@ use lib.ListN.{getD, length, set}
 use lib.Seq.{getD-set-same, getD-set-other}
 use borrow.Author.Tests.{eqb-true, eqb-false, not-false}
 use Rattle.schedule.specs.Choosing.{Choice, Look, choose, chooseIn, look, mostLooks, moves, nobody, serves}
-use Rattle.schedule.specs.Choosing as choosing
 use Rattle.schedule.specs.Entering.{entered, isListed}
-use Rattle.schedule.specs.Ring.{Schedule, deficitOf, entries, newList, occurs, oldList, quantum, zeroDeficit}
-use Rattle.schedule_guarantees.specs.AsTwoLists.{asFound, twoLists}
+use Rattle.schedule.specs.TwoLists.{TwoLists, deficitOf, listed, lists, occurs, quantum, zeroDeficit}
+use Rattle.schedule.proofs.Occurs.{occurs-end, occurs-other}
+use Rattle.schedule.specs.Choosing as choosing
 use Rattle.schedule_guarantees.specs.ChoosingEnds.{MayBeServed}
 use Rattle.schedule_guarantees.specs.Fairness.{Fairness}
 use Rattle.schedule_guarantees.specs.Stretch.{AllFit, AtEach, Event, Fits, HasPackets, Line, after, arrives, bytes, departs, served}
 use Rattle.schedule_guarantees.specs.Kept.{Sound}
-use Rattle.schedule_guarantees.specs.TwoLists.{listed}
 use Rattle.schedule_guarantees.proofs.Before.{before, before-skip}
 use Rattle.schedule_guarantees.proofs.ChoosingEnds.{choosing-ends, holder-listed, holder-low, left-high}
-use Rattle.schedule_guarantees.proofs.Facts.{fits-of, listed-entries}
-use Rattle.schedule_guarantees.proofs.Kept.{Looked, arrival-keeps, choosing-keeps, departure-keeps, entered-lists, facts-at, look-law}
+use Rattle.schedule_guarantees.proofs.Kept.{
+  Looked,
+  arrival-keeps,
+  choosing-keeps,
+  departure-keeps,
+  entered-lists,
+  facts-at,
+  look-law,
+}
 use Rattle.schedule_guarantees.proofs.Levels.{Lag, Turned, Turns, ahead, as-before, orderOf, turns-law}
-use Rattle.schedule_guarantees.proofs.Looks.{look-as-two}
 use Rattle.schedule_guarantees.proofs.Measure.{movesLeft}
 use Rattle.schedule_guarantees.proofs.Moves.{proper-of}
-use Rattle.schedule_guarantees.proofs.Occurs.{occurs-end, occurs-other}
 use Rattle.schedule_guarantees.proofs.Stretch.{final}
-use Rattle.schedule_guarantees.proofs.Totals.{room}
 
-abbrev order : Schedule → List ℕ
-order s = orderOf (twoLists s)
+abbrev order : TwoLists → List ℕ
+order s = orderOf s
 
 module _ (f g most top : ℕ) (enough : zeroDeficit + quantum ≤ top + 1) (ne : f ≡ g → ⊥) (first : Bool) where
   -- ── choosing ──
 
-  abbrev Change : Schedule → Schedule → Type 0
+  abbrev Change : TwoLists → TwoLists → Type 0
   Change s t = Turned f g most top first (order s) (s .deficits) (order t) (t .deficits)
 
-  and-then : (s t u : Schedule) → Change s t → Change t u → Change s u
+  and-then : (s t u : TwoLists) → Change s t → Change t u → Change s u
   and-then s t u a b = record { level = omega (arith, a .level, b .level); lag = b .lag }
 
-  record Chose (s : Schedule) (c : Choice) : Type 0 where
-    change : Change s (c .schedule)
-    head : c .flow ≡ f → before f g (order (c .schedule)) ≡ true
+  record Chose (s : TwoLists) (c : Choice) : Type 0 where
+    change : Change s (c .lists)
+    head : c .flow ≡ f → before f g (order (c .lists)) ≡ true
 
   module _ (counts : List ℕ) (held-f : 1 ≤ getD counts f 0) (held-g : 1 ≤ getD counts g 0) where
-    abbrev Sees : Schedule → Look → Type 0
-    Sees s l = Turns f g most top enough ne first (twoLists s) (asFound l)
+    abbrev Sees : TwoLists → Look → Type 0
+    Sees s l = Turns f g most top enough ne first s l
 
-    sees : (s : Schedule) → Sound counts s → Lag f g most top first (order s) (s .deficits) → Sees s (look counts s)
+    sees : (s : TwoLists) → Sound counts s → Lag f g most top first (order s) (s .deficits) → Sees s (look counts s)
     sees s h k =
-        rw (look-as-two counts s (fits-of counts s (h .well)) (h .order-long))
-        (turns-law f g most top enough ne first counts (λ e. omega arith) (λ e. omega arith) (twoLists s)
-        (proper-of counts (twoLists s) (h .deficits-long) (facts-at counts s h)) k
-        (holder-listed counts s f h held-f) (holder-listed counts s g h held-g))
+        turns-law f g most top enough ne first counts (λ e. omega arith) (λ e. omega arith) s
+        (proper-of counts s (h .deficits-long) (facts-at counts s h)) k
+        (holder-listed counts s f h held-f) (holder-listed counts s g h held-g)
 
-    chose-in : (n : ℕ) (s : Schedule) → Sound counts s → Lag f g most top first (order s) (s .deficits) → movesLeft counts (twoLists s) < n →
+    chose-in : (n : ℕ) (s : TwoLists) → Sound counts s → Lag f g most top first (order s) (s .deficits) → movesLeft counts s < n →
         Chose s (chooseIn n counts s)
     unfolding chooseIn
     chose-in zero s h k p = absurd (omega arith)
     chose-in (suc n) s h k p = go (look counts s) (look-law counts s h) (sees s h k) (chose-in n)
       where
         go : (l : Look) → Looked counts s l → Sees s l →
-            ((t : Schedule) → Sound counts t → Lag f g most top first (order t) (t .deficits) → movesLeft counts (twoLists t) < n → Chose t (chooseIn n counts t)) →
+            ((t : TwoLists) → Sound counts t → Lag f g most top first (order t) (t .deficits) → movesLeft counts t < n → Chose t
+            (chooseIn n counts t)) →
             Chose s (choosing.after (chooseIn n counts) s l)
         go nobody a b again = absurd (omega (arith, a f, holder-listed counts s f h held-f))
         go (serves x) a b again =
-            record { change = as-before f g most top enough ne first (order s) (s .deficits) (order s) (s .deficits) refl refl refl k; head = b }
-        go (moves t) a b again =
+            record {
+              change = as-before f g most top enough ne first (order s) (s .deficits) (order s) (s .deficits) refl refl refl k;
+              head = b;
+            }
+        go (moves move t) a b again =
             let r = again t (a .0) (b .lag) (omega (arith, a .1 .fewer)) in
-            record { change = and-then s t (chooseIn n counts t .schedule) b (r .change); head = r .head }
+            record { change = and-then s t (chooseIn n counts t .lists) b (r .change); head = r .head }
 
-    chose : (s : Schedule) → Sound counts s → Lag f g most top first (order s) (s .deficits) → Chose s (choose counts s)
+    chose : (s : TwoLists) → Sound counts s → Lag f g most top first (order s) (s .deficits) → Chose s (choose counts s)
     unfolding choose
     chose s h k = chose-in mostLooks s h k (omega (arith, left-high counts s f h held-f))
 
@@ -85,7 +91,8 @@ module _ (f g most top : ℕ) (enough : zeroDeficit + quantum ≤ top + 1) (ne :
         ≡ cond (eqb x g) size 0 + (getD ds f 0 + ahead f g o) + getD ds′ g 0
     lag : Lag f g most top first o ds′
 
-  pays : (size x : ℕ) (o ds : List ℕ) → size ≤ most → most ≤ 65535 → x < length ds → zeroDeficit ≤ getD ds x 0 → (x ≡ f → before f g o ≡ true) →
+  pays : (size x : ℕ) (o ds : List ℕ) → size ≤ most → most ≤ 65535 → x < length ds → zeroDeficit ≤ getD ds x 0 →
+      (x ≡ f → before f g o ≡ true) →
       Lag f g most top first o ds → Paid size x o ds (set ds x (getD ds x 0 - size))
   pays size x o ds fit cap h d head k = go (eqb x f) refl (eqb x g) refl
     where
@@ -143,16 +150,16 @@ module _ (f g most top : ℕ) (enough : zeroDeficit + quantum ≤ top + 1) (ne :
   -- ── an event ──
 
   record Inv (l : Line) : Type 0 where
-    sound : Sound (l .counts) (l .schedule)
-    has-f : listed f (twoLists (l .schedule)) ≡ 1
-    has-g : listed g (twoLists (l .schedule)) ≡ 1
-    lag : Lag f g most top first (order (l .schedule)) (l .schedule .deficits)
+    sound : Sound (l .counts) (l .lists)
+    has-f : listed f (l .lists) ≡ 1
+    has-g : listed g (l .lists) ≡ 1
+    lag : Lag f g most top first (order (l .lists)) (l .lists .deficits)
 
   -- a and b: the bytes served to f and to g
   abbrev Balance : (a b : ℕ) (l m : Line) → Type 0
   Balance a b l m =
-      a + (deficitOf (m .schedule) f + ahead f g (order (m .schedule))) + deficitOf (l .schedule) g
-      ≡ b + (deficitOf (l .schedule) f + ahead f g (order (l .schedule))) + deficitOf (m .schedule) g
+      a + (deficitOf (m .lists) f + ahead f g (order (m .lists))) + deficitOf (l .lists) g
+      ≡ b + (deficitOf (l .lists) f + ahead f g (order (l .lists))) + deficitOf (m .lists) g
 
   abbrev Stepped : (l : Line) → Event → Type 0
   Stepped l e = Inv (after l e) × Balance (bytes f l e) (bytes g l e) l (after l e)
@@ -162,13 +169,14 @@ module _ (f g most top : ℕ) (enough : zeroDeficit + quantum ≤ top + 1) (ne :
   unfolding after
   departure l size v pf pg fit cap =
       let counts = l .counts in
-      let s = l .schedule in
+      let s = l .lists in
       let c = choose counts s in
-      let t = c .schedule in
+      let t = c .lists in
       let r = chose counts pf pg s (v .sound) (v .lag) in
       let m : MayBeServed counts c = choosing-ends counts s f (v .sound) pf .0 in
       let h : Sound counts t = choosing-keeps counts s (v .sound) .0 in
-      let p = pays size (c .flow) (order t) (t .deficits) fit cap (omega (arith, h .deficits-long, m .is-flow)) (m .not-negative) (r .head) (r .change .lag) in (
+      let p = pays size (c .flow) (order t) (t .deficits) fit cap (omega (arith, h .deficits-long, m .is-flow)) (m .not-negative)
+      (r .head) (r .change .lag) in (
         record {
           sound = departure-keeps counts t (c .flow) size h (m .is-flow);
           has-f = holder-listed counts t f h pf;
@@ -179,46 +187,44 @@ module _ (f g most top : ℕ) (enough : zeroDeficit + quantum ≤ top + 1) (ne :
       )
 
   -- a flow in neither list enters between the two lists
-  enters : (counts : List ℕ) (s : Schedule) (x : ℕ) → Sound counts s → x < 64 → listed x (twoLists s) ≡ 0 →
-      listed f (twoLists s) ≡ 1 → listed g (twoLists s) ≡ 1 → Lag f g most top first (order s) (s .deficits) →
-      Change s (entered s x) × (listed f (twoLists (entered s x)) ≡ 1) × (listed g (twoLists (entered s x)) ≡ 1)
+  enters : (counts : List ℕ) (s : TwoLists) (x : ℕ) → Sound counts s → x < 64 → listed x s ≡ 0 →
+      listed f s ≡ 1 → listed g s ≡ 1 → Lag f g most top first (order s) (s .deficits) →
+      Change s (entered s x) × (listed f (entered s x) ≡ 1) × (listed g (entered s x) ≡ 1)
   enters counts s x h low out has-f has-g k =
-      let not-f : x ≡ f → ⊥ = λ e. clash f (ap (λ y. listed y (twoLists s)) (sym e) ∙ out) has-f in
-      let not-g : x ≡ g → ⊥ = λ e. clash g (ap (λ y. listed y (twoLists s)) (sym e) ∙ out) has-g in
+      let not-f : x ≡ f → ⊥ = λ e. clash f (ap (λ y. listed y s) (sym e) ∙ out) has-f in
+      let not-g : x ≡ g → ⊥ = λ e. clash g (ap (λ y. listed y s) (sym e) ∙ out) has-g in
       let ds = set (s .deficits) x (zeroDeficit + quantum) in
-      let same : before f g ((newList s ++ x ∷ []) ++ oldList s) ≡ before f g (newList s ++ oldList s) =
-      ap (before f g) (append-assoc (newList s) (x ∷ []) (oldList s)) ∙ before-skip f g x (newList s) (oldList s) not-f not-g in
+      let same : before f g ((s .new ++ x ∷ []) ++ s .old) ≡ before f g (s .new ++ s .old) =
+      ap (before f g) (append-assoc (s .new) (x ∷ []) (s .old)) ∙ before-skip f g x (s .new) (s .old) not-f not-g in
       subst (λ l. Turned f g most top first (order s) (s .deficits) (orderOf l) (l .deficits) × (listed f l ≡ 1) × (listed g l ≡ 1))
-      (sym (entered-lists counts s x h low (room counts s (h .well) x low out))) (
-        as-before f g most top enough ne first (order s) (s .deficits) ((newList s ++ x ∷ []) ++ oldList s) ds same
+      (sym (entered-lists s x)) (
+        as-before f g most top enough ne first (order s) (s .deficits) ((s .new ++ x ∷ []) ++ s .old) ds same
             (getD-set-other (s .deficits) x f (zeroDeficit + quantum) 0 (λ e. not-f (sym e)))
             (getD-set-other (s .deficits) x g (zeroDeficit + quantum) 0 (λ e. not-g (sym e))) k,
-        omega (arith, occurs-end x f (newList s), occurs-other x f not-f, has-f),
-        omega (arith, occurs-end x g (newList s), occurs-other x g not-g, has-g),
+        omega (arith, occurs-end x f (s .new), occurs-other x f not-f, has-f),
+        omega (arith, occurs-end x g (s .new), occurs-other x g not-g, has-g),
       )
     where
-      clash : (y : ℕ) → listed y (twoLists s) ≡ 0 → listed y (twoLists s) ≡ 1 → ⊥
+      clash : (y : ℕ) → listed y s ≡ 0 → listed y s ≡ 1 → ⊥
       clash y a b = omega (arith, a, b)
 
   arrival : (l : Line) (x : ℕ) → Inv l → x < 64 → Stepped l (arrives x)
   unfolding after
-  arrival l x v low = go (isListed (l .schedule) x) refl (arrival-keeps (l .counts) (l .schedule) x (v .sound) low)
+  arrival l x v low = go (isListed (l .lists) x) refl (arrival-keeps (l .counts) (l .lists) x (v .sound) low)
     where
       more : List ℕ
       more = set (l .counts) x (getD (l .counts) x 0 + 1)
 
-      entries-of : (j : ℕ) → occurs j (entries (l .schedule)) ≡ listed j (twoLists (l .schedule))
-      entries-of j = listed-entries j (l .schedule) (fits-of (l .counts) (l .schedule) (v .sound .well) .old-le)
-
-      go : (b : Bool) → isListed (l .schedule) x ≡ b →
-          Sound (set (l .counts) x (getD (l .counts) x 0 + 1)) (cond b (l .schedule) (entered (l .schedule) x)) →
-          let m : Line = record { counts = set (l .counts) x (getD (l .counts) x 0 + 1); schedule = cond b (l .schedule) (entered (l .schedule) x) } in
+      go : (b : Bool) → isListed (l .lists) x ≡ b →
+          Sound (set (l .counts) x (getD (l .counts) x 0 + 1)) (cond b (l .lists) (entered (l .lists) x)) →
+          let m : Line = record
+          { counts = set (l .counts) x (getD (l .counts) x 0 + 1); lists = cond b (l .lists) (entered (l .lists) x) } in
           Inv m × Balance 0 0 l m
       go true e h = (record { sound = h; has-f = v .has-f; has-g = v .has-g; lag = v .lag }, refl)
       go false e h =
-          let out : listed x (twoLists (l .schedule)) ≡ 0 =
-          sym (entries-of x) ∙ eqb-true (occurs x (entries (l .schedule))) 0 (not-false (eqb (occurs x (entries (l .schedule))) 0) e) in
-          let r = enters (l .counts) (l .schedule) x (v .sound) low out (v .has-f) (v .has-g) (v .lag) in
+          let out : listed x (l .lists) ≡ 0 =
+          eqb-true (listed x (l .lists)) 0 (not-false (eqb (listed x (l .lists)) 0) e) in
+          let r = enters (l .counts) (l .lists) x (v .sound) low out (v .has-f) (v .has-g) (v .lag) in
           (record { sound = h; has-f = r .1; has-g = r .2; lag = r .0 .lag }, omega (arith, r .0 .level))
 
   step : (l : Line) (e : Event) → Inv l → HasPackets f l e → HasPackets g l e → Fits most e → most ≤ 65535 → Stepped l e
@@ -237,17 +243,17 @@ module _ (f g most top : ℕ) (enough : zeroDeficit + quantum ≤ top + 1) (ne :
       (b .0, omega (arith, a .1, b .1))
 
   -- f stood before g at the start, or did not
-  bounded : (l : Line) (events : List Event) → Inv l → before f g (order (l .schedule)) ≡ first → f < 64 →
-      top ≡ max 67048 (deficitOf (l .schedule) g) → AtEach f l events → AtEach g l events → AllFit most events → most ≤ 65535 →
+  bounded : (l : Line) (events : List Event) → Inv l → before f g (order (l .lists)) ≡ first → f < 64 →
+      top ≡ max 67048 (deficitOf (l .lists) g) → AtEach f l events → AtEach g l events → AllFit most events → most ≤ 65535 →
       served f l events < served g l events + 2 * (most + quantum)
   bounded l events v start low limit pf pg fit cap =
       let r = run l events v pf pg fit cap in
-      let high = facts-at (l .counts) (l .schedule) (v .sound) .range f low in
-      go first start refl (before f g (order (final l events .schedule))) refl high (r .0 .lag) (r .1)
+      let high = facts-at (l .counts) (l .lists) (v .sound) .range f low in
+      go first start refl (before f g (order (final l events .lists))) refl high (r .0 .lag) (r .1)
     where
-      go : (a : Bool) → before f g (order (l .schedule)) ≡ a → first ≡ a →
-          (b : Bool) → before f g (order (final l events .schedule)) ≡ b → deficitOf (l .schedule) f ≤ zeroDeficit + quantum →
-          Lag f g most top first (order (final l events .schedule)) (final l events .schedule .deficits) →
+      go : (a : Bool) → before f g (order (l .lists)) ≡ a → first ≡ a →
+          (b : Bool) → before f g (order (final l events .lists)) ≡ b → deficitOf (l .lists) f ≤ zeroDeficit + quantum →
+          Lag f g most top first (order (final l events .lists)) (final l events .lists .deficits) →
           Balance (served f l events) (served g l events) l (final l events) →
           served f l events < served g l events + 2 * (most + quantum)
       go true p s true q h k e = let u = rw (p, q) at e in omega (arith, u, h, limit, k .low-f, k .high-g, v .lag .low-g)
@@ -257,12 +263,12 @@ module _ (f g most top : ℕ) (enough : zeroDeficit + quantum ≤ top + 1) (ne :
 
 pub fairness : Fairness
 fairness l events f g most h ne cap fit wf wg =
-    let top = max 67048 (deficitOf (l .schedule) g) in
-    bounded f g most top (omega arith) ne (before f g (order (l .schedule))) l events
+    let top = max 67048 (deficitOf (l .lists) g) in
+    bounded f g most top (omega arith) ne (before f g (order (l .lists))) l events
     (record {
       sound = h;
-      has-f = holder-listed (l .counts) (l .schedule) f h (wf .at-start);
-      has-g = holder-listed (l .counts) (l .schedule) g h (wg .at-start);
+      has-f = holder-listed (l .counts) (l .lists) f h (wf .at-start);
+      has-g = holder-listed (l .counts) (l .lists) g h (wg .at-start);
       lag = record { low-f = wf .deficit; low-g = wg .deficit; high-g = omega arith; behind = λ z p. absurd (true≢false (sym p ∙ z)) };
     })
-    refl (holder-low (l .counts) (l .schedule) f h (wf .at-start)) refl (wf .at-each) (wg .at-each) fit cap
+    refl (holder-low (l .counts) (l .lists) f h (wf .at-start)) refl (wf .at-each) (wg .at-each) fit cap

@@ -9,8 +9,8 @@ use borrow.Author.Tests.{leb-true, ltb-true}
 use Rattle.laws.proofs.Tests.{and-left, and-right}
 use Rattle.schedule.specs.Choosing.{choose, chooseIn, look}
 use Rattle.schedule.specs.Entering.{entered}
-use Rattle.schedule.specs.Ring.{deficitOf, occurs, ringOf, zeroDeficit}
-use Rattle.schedule.specs.WellFormed.{areFlows, every, wellListed}
+use Rattle.schedule.specs.TwoLists.{deficitOf, occurs, zeroDeficit}
+use Rattle.schedule.specs.WellFormed.{areFlows, every, listsWell}
 use Rattle.schedule_guarantees.specs.Stretch.{AllFit, AtEach, Event, Fits, HasPackets, Line, Waits, after, arrives, departs, served}
 use Rattle.schedule_guarantees.specs.FairnessReached.{FairnessReached, departures, twoFlows}
 
@@ -55,21 +55,21 @@ at-each flow l (e ∷ events) h = (
 )
 
 waits : (flow : ℕ) → holdsAtEach flow twoFlows departures ≡ true → leb 1 (getD (twoFlows .counts) flow 0) ≡ true →
-    leb zeroDeficit (deficitOf (twoFlows .schedule) flow + 65535) ≡ true → Waits flow 65535 twoFlows departures
+    leb zeroDeficit (deficitOf (twoFlows .lists) flow + 65535) ≡ true → Waits flow 65535 twoFlows departures
 waits flow a b c =
     record {
       at-start = leb-true 1 (getD (twoFlows .counts) flow 0) b;
       at-each = at-each flow twoFlows departures a;
-      deficit = leb-true zeroDeficit (deficitOf (twoFlows .schedule) flow + 65535) c;
+      deficit = leb-true zeroDeficit (deficitOf (twoFlows .lists) flow + 65535) c;
     }
 
 -- ── the stretch ──
 
 pub fairness-reached : FairnessReached
-unfolding after served choose chooseIn look entered occurs ringOf areFlows every wellListed
+unfolding after served choose chooseIn look entered occurs areFlows every listsWell
 fairness-reached = (
   refl,
-  record { counts-long = refl; order-long = refl; deficits-long = refl; well = refl },
+  record { counts-long = refl; deficits-long = refl; well = refl },
   all-fit 65535 departures refl,
   waits 0 refl refl refl,
   waits 1 refl refl refl,

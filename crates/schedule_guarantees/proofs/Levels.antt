@@ -9,11 +9,27 @@ use lib.Dec.{eqb}
 use lib.ListN.{getD, length}
 use lib.Seq.{getD-set-same, getD-set-other}
 use borrow.Author.Tests.{eqb-true, eqb-false, ltb-true}
-use Rattle.schedule.specs.Ring.{occurs, quantum, zeroDeficit}
-use Rattle.schedule_guarantees.specs.TwoLists.{Found, TwoLists, atNewHead, atOldHead, found, foundNew, foundOld, goesOn, hasNone, listed, lists, none, owes, raised, takes}
+use Rattle.schedule.specs.Choosing.{
+  Look,
+  atNew,
+  atOld,
+  hasNone,
+  look,
+  lookNew,
+  lookOld,
+  moves,
+  newGoesOld,
+  nobody,
+  oldGoesLast,
+  oldLeaves,
+  owes,
+  raised,
+  serves,
+}
+use Rattle.schedule.specs.TwoLists.{TwoLists, listed, lists, occurs, quantum, zeroDeficit}
+use Rattle.schedule.proofs.Occurs.{occurs-append, occurs-head, occurs-other, occurs-self}
 use Rattle.schedule_guarantees.proofs.Before.{before, before-first, before-here, before-second, before-skip, before-there}
 use Rattle.schedule_guarantees.proofs.Moves.{Proper, below}
-use Rattle.schedule_guarantees.proofs.Occurs.{occurs-append, occurs-head, occurs-other, occurs-self}
 
 -- a quantum where f stands before g
 abbrev pub ahead : (f g : ℕ) (order : List ℕ) → ℕ
@@ -37,7 +53,8 @@ pub record Turned (f g most top : ℕ) (first : Bool) (order ds order′ ds′ :
 
 module _ (f g most top : ℕ) (enough : zeroDeficit + quantum ≤ top + 1) (ne : f ≡ g → ⊥) (first : Bool) where
   -- the order of f and g is the same, and so are their deficits
-  pub as-before : (order ds order′ ds′ : List ℕ) → before f g order′ ≡ before f g order → getD ds′ f 0 ≡ getD ds f 0 → getD ds′ g 0 ≡ getD ds g 0 →
+  pub as-before : (order ds order′ ds′ : List ℕ) → before f g order′ ≡ before f g order → getD ds′ f 0 ≡ getD ds f 0 → getD ds′ g 0 ≡
+      getD ds g 0 →
       Lag f g most top first order ds → Turned f g most top first order ds order′ ds′
   as-before order ds order′ ds′ e a b k =
       record {
@@ -68,7 +85,8 @@ module _ (f g most top : ℕ) (enough : zeroDeficit + quantum ≤ top + 1) (ne :
         (getD-set-other ds x f (getD ds x 0 + quantum) 0 (λ e. p (sym e)))
         (getD-set-other ds x g (getD ds x 0 + quantum) 0 (λ e. q (sym e))) k
 
-  f-gains : (rest ds : List ℕ) → Lag f g most top first (f ∷ rest) ds → occurs f (f ∷ rest) ≡ 1 → occurs g (f ∷ rest) ≡ 1 → f < length ds → getD ds f 0 < zeroDeficit →
+  f-gains : (rest ds : List ℕ) → Lag f g most top first (f ∷ rest) ds → occurs f (f ∷ rest) ≡ 1 → occurs g (f ∷ rest) ≡ 1 → f < length
+      ds → getD ds f 0 < zeroDeficit →
       Turned f g most top first (f ∷ rest) ds (rest ++ f ∷ []) (raised ds f)
   f-gains rest ds k a b h low =
       let now : before f g (rest ++ f ∷ []) ≡ false =
@@ -86,7 +104,8 @@ module _ (f g most top : ℕ) (enough : zeroDeficit + quantum ≤ top + 1) (ne :
         };
       }
 
-  g-gains : (rest ds : List ℕ) → Lag f g most top first (g ∷ rest) ds → occurs f (g ∷ rest) ≡ 1 → occurs g (g ∷ rest) ≡ 1 → g < length ds → getD ds g 0 < zeroDeficit →
+  g-gains : (rest ds : List ℕ) → Lag f g most top first (g ∷ rest) ds → occurs f (g ∷ rest) ≡ 1 → occurs g (g ∷ rest) ≡ 1 → g < length
+      ds → getD ds g 0 < zeroDeficit →
       Turned f g most top first (g ∷ rest) ds (rest ++ g ∷ []) (raised ds g)
   g-gains rest ds k a b h low =
       let now : before f g (rest ++ g ∷ []) ≡ true =
@@ -104,28 +123,31 @@ module _ (f g most top : ℕ) (enough : zeroDeficit + quantum ≤ top + 1) (ne :
         };
       }
 
-  gains : (x : ℕ) (rest ds : List ℕ) → Lag f g most top first (x ∷ rest) ds → occurs f (x ∷ rest) ≡ 1 → occurs g (x ∷ rest) ≡ 1 → x < length ds → getD ds x 0 < zeroDeficit →
+  gains : (x : ℕ) (rest ds : List ℕ) → Lag f g most top first (x ∷ rest) ds → occurs f (x ∷ rest) ≡ 1 → occurs g (x ∷ rest) ≡ 1 → x <
+      length ds → getD ds x 0 < zeroDeficit →
       Turned f g most top first (x ∷ rest) ds (rest ++ x ∷ []) (raised ds x)
   gains x rest ds k a b h low = go (eqb x f) refl
     where
       is-g : (d : Bool) → eqb x g ≡ d → (x ≡ f → ⊥) → Turned f g most top first (x ∷ rest) ds (rest ++ x ∷ []) (raised ds x)
       is-g true e p =
-          subst (λ y. Lag f g most top first (y ∷ rest) ds → occurs f (y ∷ rest) ≡ 1 → occurs g (y ∷ rest) ≡ 1 → y < length ds → getD ds y 0 < zeroDeficit →
+          subst (λ y. Lag f g most top first (y ∷ rest) ds → occurs f (y ∷ rest) ≡ 1 → occurs g (y ∷ rest) ≡ 1 → y < length ds → getD ds
+          y 0 < zeroDeficit →
           Turned f g most top first (y ∷ rest) ds (rest ++ y ∷ []) (raised ds y)) (sym (eqb-true x g e)) (g-gains rest ds) k a b h low
       is-g false e p = other-gains x rest ds k p (eqb-false x g e)
 
       go : (c : Bool) → eqb x f ≡ c → Turned f g most top first (x ∷ rest) ds (rest ++ x ∷ []) (raised ds x)
       go true e =
-          subst (λ y. Lag f g most top first (y ∷ rest) ds → occurs f (y ∷ rest) ≡ 1 → occurs g (y ∷ rest) ≡ 1 → y < length ds → getD ds y 0 < zeroDeficit →
+          subst (λ y. Lag f g most top first (y ∷ rest) ds → occurs f (y ∷ rest) ≡ 1 → occurs g (y ∷ rest) ≡ 1 → y < length ds → getD ds
+          y 0 < zeroDeficit →
           Turned f g most top first (y ∷ rest) ds (rest ++ y ∷ []) (raised ds y)) (sym (eqb-true x f e)) (f-gains rest ds) k a b h low
       go false e = is-g (eqb x g) refl (eqb-false x f e)
 
   -- ── a look ──
 
-  abbrev pub Turns : TwoLists → Found → Type 0
-  Turns l none = Unit {0}
-  Turns l (takes x) = x ≡ f → before f g (orderOf l) ≡ true
-  Turns l (goesOn m) = Turned f g most top first (orderOf l) (l .deficits) (orderOf m) (m .deficits)
+  abbrev pub Turns : TwoLists → Look → Type 0
+  Turns l nobody = Unit {0}
+  Turns l (serves x) = x ≡ f → before f g (orderOf l) ≡ true
+  Turns l (moves k m) = Turned f g most top first (orderOf l) (l .deficits) (orderOf m) (m .deficits)
 
   module _ (counts : List ℕ) (held-f : getD counts f 0 ≡ 0 → ⊥) (held-g : getD counts g 0 ≡ 0 → ⊥) where
     not-f : (x : ℕ) → getD counts x 0 ≡ 0 → x ≡ f → ⊥
@@ -138,47 +160,53 @@ module _ (f g most top : ℕ) (enough : zeroDeficit + quantum ≤ top + 1) (ne :
     head-first x rest e = rw e (before-here f g rest)
 
     at-new : (x : ℕ) (rest old ds : List ℕ) → Lag f g most top first (x ∷ (rest ++ old)) ds → occurs f (x ∷ (rest ++ old)) ≡ 1 →
-        occurs g (x ∷ (rest ++ old)) ≡ 1 → x < length ds → Turns (lists (x ∷ rest) old ds) (atNewHead counts x rest old ds)
+        occurs g (x ∷ (rest ++ old)) ≡ 1 → x < length ds → Turns (lists (x ∷ rest) old ds) (atNew counts x rest old ds)
     at-new x rest old ds k a b h = go (owes ds x) refl (hasNone counts x) refl
       where
         go : (c : Bool) → owes ds x ≡ c → (d : Bool) → hasNone counts x ≡ d →
             Turns (lists (x ∷ rest) old ds)
-            (cond c (goesOn (lists rest (old ++ x ∷ []) (raised ds x))) (cond d (goesOn (lists rest (old ++ x ∷ []) ds)) (takes x)))
+            (cond c (moves newGoesOld (lists rest (old ++ x ∷ []) (raised ds x)))
+            (cond d (moves newGoesOld (lists rest (old ++ x ∷ []) ds)) (serves x)))
         go true q d e =
-            subst (λ o. Turned f g most top first (x ∷ (rest ++ old)) ds o (raised ds x)) (append-assoc rest old (x ∷ [])) (gains x (rest ++ old) ds k a b h (ltb-true (getD ds x 0) zeroDeficit q))
+            subst (λ o. Turned f g most top first (x ∷ (rest ++ old)) ds o (raised ds x)) (append-assoc rest old (x ∷ []))
+            (gains x (rest ++ old) ds k a b h (ltb-true (getD ds x 0) zeroDeficit q))
         go false q true e =
             let z = eqb-true (getD counts x 0) 0 e in
             subst (λ o. Turned f g most top first (x ∷ (rest ++ old)) ds o ds) (append-assoc rest old (x ∷ []))
             (other-turns x (rest ++ old) ds k (not-f x z) (not-g x z))
         go false q false e = head-first x (rest ++ old)
 
-    at-old : (x : ℕ) (rest ds : List ℕ) → Lag f g most top first (x ∷ rest) ds → occurs f (x ∷ rest) ≡ 1 → occurs g (x ∷ rest) ≡ 1 → x < length ds →
-        Turns (lists [] (x ∷ rest) ds) (atOldHead counts x rest ds)
+    at-old : (x : ℕ) (rest ds : List ℕ) → Lag f g most top first (x ∷ rest) ds → occurs f (x ∷ rest) ≡ 1 → occurs g (x ∷ rest) ≡ 1 → x <
+        length ds →
+        Turns (lists [] (x ∷ rest) ds) (atOld counts x rest ds)
     at-old x rest ds k a b h = go (owes ds x) refl (hasNone counts x) refl
       where
         go : (c : Bool) → owes ds x ≡ c → (d : Bool) → hasNone counts x ≡ d →
-            Turns (lists [] (x ∷ rest) ds) (cond c (goesOn (lists [] (rest ++ x ∷ []) (raised ds x))) (cond d (goesOn (lists [] rest ds)) (takes x)))
+            Turns (lists [] (x ∷ rest) ds)
+            (cond c (moves oldGoesLast (lists [] (rest ++ x ∷ []) (raised ds x)))
+            (cond d (moves oldLeaves (lists [] rest ds)) (serves x)))
         go true q d e = gains x rest ds k a b h (ltb-true (getD ds x 0) zeroDeficit q)
         go false q true e = let z = eqb-true (getD counts x 0) 0 e in other-leaves x rest ds k (not-f x z) (not-g x z)
         go false q false e = head-first x rest
 
     abbrev Premised : (new old ds : List ℕ) → Type 0
     Premised new old ds =
-        Proper (lists new old ds) × Lag f g most top first (new ++ old) ds × (listed f (lists new old ds) ≡ 1) × (listed g (lists new old ds) ≡ 1)
+        Proper (lists new old ds) × Lag f g most top first (new ++ old) ds × (listed f (lists new old ds) ≡ 1) ×
+        (listed g (lists new old ds) ≡ 1)
 
-    turns-old : (old ds : List ℕ) → Premised [] old ds → Turns (lists [] old ds) (foundOld counts ds old)
+    turns-old : (old ds : List ℕ) → Premised [] old ds → Turns (lists [] old ds) (lookOld counts ds old)
     turns-old [] ds h = tt
     turns-old (x ∷ rest) ds (p, k, a, b) =
         at-old x rest ds k (omega (arith, occurs-append f [] (x ∷ rest), a)) (omega (arith, occurs-append g [] (x ∷ rest), b))
         (below (length ds) x (listed x (lists [] (x ∷ rest) ds)) (omega (arith, occurs-head x x rest, occurs-self x)) (p .numbered x))
 
-    turns-new : (new old ds : List ℕ) → Premised new old ds → Turns (lists new old ds) (foundNew counts ds old new)
+    turns-new : (new old ds : List ℕ) → Premised new old ds → Turns (lists new old ds) (lookNew counts ds old new)
     turns-new [] old ds h = turns-old old ds h
     turns-new (x ∷ rest) old ds (p, k, a, b) =
         at-new x rest old ds k (occurs-append f (x ∷ rest) old ∙ a) (occurs-append g (x ∷ rest) old ∙ b)
         (below (length ds) x (listed x (lists (x ∷ rest) old ds)) (omega (arith, occurs-head x x rest, occurs-self x)) (p .numbered x))
 
     pub turns-law : (l : TwoLists) → Proper l → Lag f g most top first (orderOf l) (l .deficits) → listed f l ≡ 1 → listed g l ≡ 1 →
-        Turns l (found counts l)
-    unfolding found
+        Turns l (look counts l)
+    unfolding look
     turns-law l p k a b = turns-new (l .new) (l .old) (l .deficits) (p, k, a, b)

@@ -8,11 +8,41 @@ use lib.Dec.{eqb, ltb}
 use lib.ListN.{getD, length, length-set, set}
 use lib.Seq.{getD-set-same, getD-set-other}
 use borrow.Author.Tests.{eqb-true, eqb-false, ltb-true, ltb-false}
-use Rattle.schedule.specs.Ring.{occurs, quantum, zeroDeficit}
-use Rattle.schedule_guarantees.specs.TwoLists.{Found, TwoLists, atNewHead, atOldHead, found, foundNew, foundOld, goesOn, hasNone, listed, lists, none, owes, raised, takes}
-use Rattle.schedule_guarantees.proofs.Facts.{Facts, highest, range-at}
-use Rattle.schedule_guarantees.proofs.Measure.{movesLeft, new-emptied, new-raised, new-same, newWeight, old-emptied, old-raised, old-same, oldWeight, weights-end, weights-head, weights-none, weights-same}
-use Rattle.schedule_guarantees.proofs.Occurs.{occurs-end, occurs-head, occurs-none, occurs-other, occurs-self}
+use Rattle.schedule.specs.Choosing.{
+  Look,
+  atNew,
+  atOld,
+  hasNone,
+  look,
+  lookNew,
+  lookOld,
+  moves,
+  newGoesOld,
+  nobody,
+  oldGoesLast,
+  oldLeaves,
+  owes,
+  raised,
+  serves,
+}
+use Rattle.schedule.specs.TwoLists.{TwoLists, listed, lists, occurs, quantum, zeroDeficit}
+use Rattle.schedule.proofs.Occurs.{occurs-end, occurs-head, occurs-none, occurs-other, occurs-self}
+use Rattle.schedule.proofs.Well.{Facts, highest, range-at}
+use Rattle.schedule_guarantees.proofs.Measure.{
+  movesLeft,
+  new-emptied,
+  new-raised,
+  new-same,
+  newWeight,
+  old-emptied,
+  old-raised,
+  old-same,
+  oldWeight,
+  weights-end,
+  weights-head,
+  weights-none,
+  weights-same,
+}
 
 pub record Moved (counts : List ℕ) (l m : TwoLists) : Type 0 where
   pub fewer : movesLeft counts m + 1 ≡ movesLeft counts l
@@ -31,10 +61,10 @@ pub record Served (counts : List ℕ) (l : TwoLists) (flow : ℕ) : Type 0 where
   pub owes-nothing : zeroDeficit ≤ getD (l .deficits) flow 0
   pub holds : getD counts flow 0 ≡ 0 → ⊥
 
-abbrev pub Finds : (counts : List ℕ) → TwoLists → Found → Type 0
-Finds counts l none = (j : ℕ) → listed j l ≡ 0
-Finds counts l (takes flow) = Served counts l flow
-Finds counts l (goesOn m) = Moved counts l m
+abbrev pub Finds : (counts : List ℕ) → TwoLists → Look → Type 0
+Finds counts l nobody = (j : ℕ) → listed j l ≡ 0
+Finds counts l (serves flow) = Served counts l flow
+Finds counts l (moves k m) = Moved counts l m
 
 raised-range : (ds : List ℕ) (i : ℕ) → i < length ds → getD ds i 0 < zeroDeficit → ((j : ℕ) → getD ds j 0 ≤ highest) →
     (j : ℕ) → getD (raised ds i) j 0 ≤ highest
@@ -89,13 +119,14 @@ module _ (counts : List ℕ) (flow : ℕ) (rest old ds : List ℕ) (p : Proper (
         no-less = rises;
       }
 
-  at-new : flow < length ds → Finds counts was (atNewHead counts flow rest old ds)
+  at-new : flow < length ds → Finds counts was (atNew counts flow rest old ds)
   at-new h = go (owes ds flow) refl
     where
       go2 : (e : Bool) → hasNone counts flow ≡ e → zeroDeficit ≤ getD ds flow 0 →
-          Finds counts was (cond e (goesOn (lists rest (old ++ flow ∷ []) ds)) (takes flow))
+          Finds counts was (cond e (moves newGoesOld (lists rest (old ++ flow ∷ []) ds)) (serves flow))
       go2 true q d =
-          moved ds refl (new-emptied counts ds flow d (eqb-true (getD counts flow 0) 0 q)) (λ j n. refl) (λ j n. refl) (λ r. r) (λ j. omega arith)
+          moved ds refl (new-emptied counts ds flow d (eqb-true (getD counts flow 0) 0 q)) (λ j n. refl) (λ j n. refl) (λ r. r)
+          (λ j. omega arith)
       go2 false q d =
           record {
             is-listed = omega (arith, occurs-head flow flow rest, occurs-self flow);
@@ -105,11 +136,13 @@ module _ (counts : List ℕ) (flow : ℕ) (rest old ds : List ℕ) (p : Proper (
 
       go : (b : Bool) → owes ds flow ≡ b →
           Finds counts was
-          (cond b (goesOn (lists rest (old ++ flow ∷ []) (raised ds flow))) (cond (hasNone counts flow) (goesOn (lists rest (old ++ flow ∷ []) ds)) (takes flow)))
+          (cond b (moves newGoesOld (lists rest (old ++ flow ∷ []) (raised ds flow)))
+          (cond (hasNone counts flow) (moves newGoesOld (lists rest (old ++ flow ∷ []) ds)) (serves flow)))
       go true q =
           let low = ltb-true (getD ds flow 0) zeroDeficit q in
           moved (raised ds flow) (length-set ds flow (getD ds flow 0 + quantum)) (new-raised counts ds flow h low)
-          (new-same counts ds flow (getD ds flow 0 + quantum)) (old-same counts ds flow (getD ds flow 0 + quantum)) (raised-range ds flow h low)
+          (new-same counts ds flow (getD ds flow 0 + quantum)) (old-same counts ds flow (getD ds flow 0 + quantum))
+          (raised-range ds flow h low)
           (raised-no-less ds flow h)
       go false q = go2 (hasNone counts flow) refl (ltb-false (getD ds flow 0) zeroDeficit q)
 
@@ -132,7 +165,8 @@ module _ (counts : List ℕ) (flow : ℕ) (rest ds : List ℕ) (p : Proper (list
           weights-head (oldWeight counts ds) flow rest,
           weights-none (newWeight counts ds),
           weights-none (newWeight counts (raised ds flow)),
-          weights-same (oldWeight counts (raised ds flow)) (oldWeight counts ds) flow rest (old-same counts ds flow (getD ds flow 0 + quantum)) gone,
+          weights-same (oldWeight counts (raised ds flow)) (oldWeight counts ds) flow rest
+              (old-same counts ds flow (getD ds flow 0 + quantum)) gone,
         );
         long = length-set ds flow (getD ds flow 0 + quantum);
         no-more = λ j. omega (arith, occurs-end flow j rest, occurs-head flow j rest);
@@ -154,11 +188,11 @@ module _ (counts : List ℕ) (flow : ℕ) (rest ds : List ℕ) (p : Proper (list
         kept = λ j k. omega (arith, occurs-head flow j rest, occurs-other flow j (λ e. k (ap (λ i. getD counts i 0) (sym e) ∙ no-packet)));
       }
 
-  at-old : flow < length ds → Finds counts was-old (atOldHead counts flow rest ds)
+  at-old : flow < length ds → Finds counts was-old (atOld counts flow rest ds)
   at-old h = go (owes ds flow) refl
     where
       go2 : (e : Bool) → hasNone counts flow ≡ e → zeroDeficit ≤ getD ds flow 0 →
-          Finds counts was-old (cond e (goesOn (lists [] rest ds)) (takes flow))
+          Finds counts was-old (cond e (moves oldLeaves (lists [] rest ds)) (serves flow))
       go2 true q d = left d (eqb-true (getD counts flow 0) 0 q)
       go2 false q d =
           record {
@@ -169,7 +203,8 @@ module _ (counts : List ℕ) (flow : ℕ) (rest ds : List ℕ) (p : Proper (list
 
       go : (b : Bool) → owes ds flow ≡ b →
           Finds counts was-old
-          (cond b (goesOn (lists [] (rest ++ flow ∷ []) (raised ds flow))) (cond (hasNone counts flow) (goesOn (lists [] rest ds)) (takes flow)))
+          (cond b (moves oldGoesLast (lists [] (rest ++ flow ∷ []) (raised ds flow)))
+          (cond (hasNone counts flow) (moves oldLeaves (lists [] rest ds)) (serves flow)))
       go true q = rotated h (ltb-true (getD ds flow 0) zeroDeficit q)
       go false q = go2 (hasNone counts flow) refl (ltb-false (getD ds flow 0) zeroDeficit q)
 
@@ -181,20 +216,22 @@ below n flow many h k = go (ltb flow n) refl
     go true e = ltb-true flow n e
     go false e = absurd (omega (arith, k (ltb-false flow n e)))
 
-found-old : (counts ds old : List ℕ) → Proper (lists [] old ds) → Finds counts (lists [] old ds) (foundOld counts ds old)
+found-old : (counts ds old : List ℕ) → Proper (lists [] old ds) → Finds counts (lists [] old ds) (lookOld counts ds old)
 found-old counts ds [] p = λ j. omega (arith, occurs-none j)
 found-old counts ds (flow ∷ rest) p =
     at-old counts flow rest ds p
-    (below (length ds) flow (listed flow (lists [] (flow ∷ rest) ds)) (omega (arith, occurs-head flow flow rest, occurs-self flow)) (p .numbered flow))
+    (below (length ds) flow (listed flow (lists [] (flow ∷ rest) ds)) (omega (arith, occurs-head flow flow rest, occurs-self flow))
+    (p .numbered flow))
 
-found-new : (counts ds old new : List ℕ) → Proper (lists new old ds) → Finds counts (lists new old ds) (foundNew counts ds old new)
+found-new : (counts ds old new : List ℕ) → Proper (lists new old ds) → Finds counts (lists new old ds) (lookNew counts ds old new)
 found-new counts ds old [] p = found-old counts ds old p
 found-new counts ds old (flow ∷ rest) p =
     at-new counts flow rest old ds p
-    (below (length ds) flow (listed flow (lists (flow ∷ rest) old ds)) (omega (arith, occurs-head flow flow rest, occurs-self flow)) (p .numbered flow))
+    (below (length ds) flow (listed flow (lists (flow ∷ rest) old ds)) (omega (arith, occurs-head flow flow rest, occurs-self flow))
+    (p .numbered flow))
 
-pub found-law : (counts : List ℕ) (l : TwoLists) → Proper l → Finds counts l (found counts l)
-unfolding found
+pub found-law : (counts : List ℕ) (l : TwoLists) → Proper l → Finds counts l (look counts l)
+unfolding look
 found-law counts l p = found-new counts (l .deficits) (l .old) (l .new) p
 
 -- ── well-formed lists ──

@@ -10,28 +10,28 @@ use lib.Seq.{getD-set-same, getD-set-other}
 use borrow.Author.Tests.{eqb-true, eqb-false}
 use Rattle.laws.proofs.Choice.{either}
 use Rattle.schedule.specs.Choosing.{Look, choose, chooseIn, look, mostLooks, moves, nobody, serves}
-use Rattle.schedule.specs.Choosing as choosing
 use Rattle.schedule.specs.Entering.{entered, isListed}
-use Rattle.schedule.specs.Ring.{Schedule, deficitOf, quantum, zeroDeficit}
+use Rattle.schedule.specs.TwoLists.{TwoLists, deficitOf, quantum, zeroDeficit}
+use Rattle.schedule.specs.Choosing as choosing
 use Rattle.schedule_guarantees.specs.Kept.{Sound}
 use Rattle.schedule_guarantees.specs.Owing.{OweAtMost, Owing}
 use Rattle.schedule_guarantees.specs.Stretch.{after, arrives, departs}
 use Rattle.schedule_guarantees.proofs.ChoosingEnds.{choosing-ends}
 use Rattle.schedule_guarantees.proofs.Kept.{Looked, choosing-keeps, look-law}
 
-chosen-no-less : (n : ℕ) (counts : List ℕ) (s : Schedule) → Sound counts s → (j : ℕ) →
-    deficitOf s j ≤ deficitOf (chooseIn n counts s .schedule) j
+chosen-no-less : (n : ℕ) (counts : List ℕ) (s : TwoLists) → Sound counts s → (j : ℕ) →
+    deficitOf s j ≤ deficitOf (chooseIn n counts s .lists) j
 unfolding chooseIn
 chosen-no-less zero counts s h j = omega arith
 chosen-no-less (suc n) counts s h j = go (look counts s) (look-law counts s h) (λ t k. chosen-no-less n counts t k j)
   where
-    go : (l : Look) → Looked counts s l → ((t : Schedule) → Sound counts t → deficitOf t j ≤ deficitOf (chooseIn n counts t .schedule) j) →
-        deficitOf s j ≤ deficitOf (choosing.after (chooseIn n counts) s l .schedule) j
+    go : (l : Look) → Looked counts s l → ((t : TwoLists) → Sound counts t → deficitOf t j ≤ deficitOf (chooseIn n counts t .lists) j) →
+        deficitOf s j ≤ deficitOf (choosing.after (chooseIn n counts) s l .lists) j
     go nobody k again = omega arith
     go (serves flow) k again = omega arith
-    go (moves t) k again = omega (arith, k .1 .no-less j, again t (k .0))
+    go (moves move t) k again = omega (arith, k .1 .no-less j, again t (k .0))
 
-no-less : (counts : List ℕ) (s : Schedule) → Sound counts s → (j : ℕ) → deficitOf s j ≤ deficitOf (choose counts s .schedule) j
+no-less : (counts : List ℕ) (s : TwoLists) → Sound counts s → (j : ℕ) → deficitOf s j ≤ deficitOf (choose counts s .lists) j
 unfolding choose
 no-less counts s h j = chosen-no-less mostLooks counts s h j
 
@@ -50,13 +50,13 @@ owing l (arrives x) most h fit some owed =
     either (OweAtMost most) (isListed s x) s (entered s x) owed
     (λ j low. replaced (s .deficits) most x (zeroDeficit + quantum) (omega (arith, h .deficits-long, fit)) (omega arith) j (owed j low))
   where
-    s : Schedule
-    s = l .schedule
+    s : TwoLists
+    s = l .lists
 owing l (departs size) most h fit (flow, has) owed =
     let counts = l .counts in
-    let s = l .schedule in
+    let s = l .lists in
     let c = choose counts s in
-    let t = c .schedule in
+    let t = c .lists in
     let m = choosing-ends counts s flow h has .0 in
     let k = choosing-keeps counts s h .0 in
     λ j low.

@@ -1,5 +1,5 @@
--- A flow f with packets, and any other, g: a level of g, from its deficit, its list and whether it stands before f, rises by at most twice what
--- the deficit of f gains.
+-- A flow f with packets, and any other, g: a level of g, from its deficit, its list and whether it stands before f, rises by at most
+-- twice what the deficit of f gains.
 use mathlib.Core.Path.{_≡_, refl, ap, sym, subst, _∙_}
 use mathlib.Core.Bool.{Bool, true, false, cond}
 use mathlib.Core.List.{List, [], _∷_, _++_, append-assoc, append-nil}
@@ -9,12 +9,28 @@ use lib.Dec.{eqb}
 use lib.ListN.{getD, length}
 use lib.Seq.{getD-set-same, getD-set-other}
 use borrow.Author.Tests.{eq-eqb, eqb-true, eqb-false, ltb-false, ne-eqb}
-use Rattle.schedule.specs.Ring.{occurs, quantum, zeroDeficit}
-use Rattle.schedule_guarantees.specs.TwoLists.{Found, TwoLists, atNewHead, atOldHead, found, foundNew, foundOld, goesOn, hasNone, listed, lists, none, owes, raised, takes}
+use Rattle.schedule.specs.Choosing.{
+  Look,
+  atNew,
+  atOld,
+  hasNone,
+  look,
+  lookNew,
+  lookOld,
+  moves,
+  newGoesOld,
+  nobody,
+  oldGoesLast,
+  oldLeaves,
+  owes,
+  raised,
+  serves,
+}
+use Rattle.schedule.specs.TwoLists.{TwoLists, listed, lists, occurs, quantum, zeroDeficit}
+use Rattle.schedule.proofs.Occurs.{occurs-append, occurs-end, occurs-head, occurs-none, occurs-other, occurs-self}
 use Rattle.schedule_guarantees.proofs.Before.{before, before-first, before-here, before-skip, before-there}
 use Rattle.schedule_guarantees.proofs.Levels.{orderOf}
 use Rattle.schedule_guarantees.proofs.Moves.{Proper, below}
-use Rattle.schedule_guarantees.proofs.Occurs.{occurs-append, occurs-end, occurs-head, occurs-none, occurs-other, occurs-self}
 
 -- ── the level of g ──
 
@@ -126,7 +142,8 @@ module _ (f g most : ℕ) (ne : f ≡ g → ⊥) where
       other-turns old ds′ a b =
           let o : before f g (rest ++ x ∷ []) ≡ before f g (x ∷ rest) =
           before-skip f g x rest [] p q ∙ ap (before f g) (append-nil rest) ∙ sym (before-skip f g x [] rest p q) in
-          no-change (levelIn f g old (x ∷ rest) ds) (levelIn f g old (rest ++ x ∷ []) ds′) ds ds′ (rw (occurs-last x g rest, o, b)) a b lf lg
+          no-change (levelIn f g old (x ∷ rest) ds) (levelIn f g old (rest ++ x ∷ []) ds′) ds ds′ (rw (occurs-last x g rest, o, b)) a b
+          lf lg
 
       other-leaves : (old : Bool) → Shared f g most (levelIn f g old (x ∷ rest) ds) (levelIn f g old rest ds) ds ds
       other-leaves old =
@@ -178,10 +195,10 @@ module _ (f g most : ℕ) (ne : f ≡ g → ⊥) where
             (sym (eqb-true x g q)) (λ u v. g-leaves rest ds lf lg u v true) b d
         go false q = other-leaves rest ds lf lg x p (eqb-false x g q) true
 
-  abbrev pub Shares : TwoLists → Found → Type 0
-  Shares l none = Unit {0}
-  Shares l (takes x) = Unit {0}
-  Shares l (goesOn m) = Shared f g most (level f g l) (level f g m) (l .deficits) (m .deficits)
+  abbrev pub Shares : TwoLists → Look → Type 0
+  Shares l nobody = Unit {0}
+  Shares l (serves x) = Unit {0}
+  Shares l (moves k m) = Shared f g most (level f g l) (level f g m) (l .deficits) (m .deficits)
 
   module _ (counts : List ℕ) (held : getD counts f 0 ≡ 0 → ⊥) where
     not-f : (x : ℕ) → getD counts x 0 ≡ 0 → x ≡ f → ⊥
@@ -194,7 +211,8 @@ module _ (f g most : ℕ) (ne : f ≡ g → ⊥) where
       pub low-f : zeroDeficit ≤ getD (l .deficits) f 0 + most
       pub low-g : zeroDeficit ≤ getD (l .deficits) g 0 + most
 
-    shares-new : (x : ℕ) (rest old ds : List ℕ) → Asked (lists (x ∷ rest) old ds) → Shares (lists (x ∷ rest) old ds) (atNewHead counts x rest old ds)
+    shares-new : (x : ℕ) (rest old ds : List ℕ) → Asked (lists (x ∷ rest) old ds) → Shares (lists (x ∷ rest) old ds)
+        (atNew counts x rest old ds)
     shares-new x rest old ds k = go (owes ds x) (hasNone counts x) refl
       where
         a : occurs f (x ∷ (rest ++ old)) ≡ 1
@@ -204,14 +222,17 @@ module _ (f g most : ℕ) (ne : f ≡ g → ⊥) where
         b = omega (arith, occurs-append g (x ∷ rest) old, k .proper .once g)
 
         h : x < length ds
-        h = below (length ds) x (listed x (lists (x ∷ rest) old ds)) (omega (arith, occurs-head x x rest, occurs-self x)) (k .proper .numbered x)
+        h = below (length ds) x (listed x (lists (x ∷ rest) old ds)) (omega (arith, occurs-head x x rest, occurs-self x))
+            (k .proper .numbered x)
 
         same : (x ≡ g → ⊥) → eqb (occurs g rest) 0 ≡ eqb (occurs g (x ∷ rest)) 0
-        same q = let e : occurs g (x ∷ rest) ≡ occurs g rest = omega (arith, occurs-head x g rest, occurs-other x g q) in ap (λ n. eqb n 0) (sym e)
+        same q = let e : occurs g (x ∷ rest) ≡ occurs g rest = omega (arith, occurs-head x g rest, occurs-other x g q) in ap
+            (λ n. eqb n 0) (sym e)
 
         go : (c d : Bool) → hasNone counts x ≡ d →
             Shares (lists (x ∷ rest) old ds)
-            (cond c (goesOn (lists rest (old ++ x ∷ []) (raised ds x))) (cond d (goesOn (lists rest (old ++ x ∷ []) ds)) (takes x)))
+            (cond c (moves newGoesOld (lists rest (old ++ x ∷ []) (raised ds x)))
+            (cond d (moves newGoesOld (lists rest (old ++ x ∷ []) ds)) (serves x)))
         go true d e =
             subst (λ o. Shared f g most (levelIn f g (eqb (occurs g (x ∷ rest)) 0) (x ∷ (rest ++ old)) ds)
             (levelIn f g (eqb (occurs g rest) 0) o (raised ds x)) ds (raised ds x)) (append-assoc rest old (x ∷ []))
@@ -223,7 +244,7 @@ module _ (f g most : ℕ) (ne : f ≡ g → ⊥) where
             (not-f x (eqb-true (getD counts x 0) 0 e)))
         go false false e = tt
 
-    shares-old : (x : ℕ) (rest ds : List ℕ) → Asked (lists [] (x ∷ rest) ds) → Shares (lists [] (x ∷ rest) ds) (atOldHead counts x rest ds)
+    shares-old : (x : ℕ) (rest ds : List ℕ) → Asked (lists [] (x ∷ rest) ds) → Shares (lists [] (x ∷ rest) ds) (atOld counts x rest ds)
     shares-old x rest ds k = go (owes ds x) refl (hasNone counts x) refl
       where
         none-new : eqb (occurs g []) 0 ≡ true
@@ -236,10 +257,13 @@ module _ (f g most : ℕ) (ne : f ≡ g → ⊥) where
         b = omega (arith, occurs-none g, k .proper .once g)
 
         h : x < length ds
-        h = below (length ds) x (listed x (lists [] (x ∷ rest) ds)) (omega (arith, occurs-head x x rest, occurs-self x)) (k .proper .numbered x)
+        h = below (length ds) x (listed x (lists [] (x ∷ rest) ds)) (omega (arith, occurs-head x x rest, occurs-self x))
+            (k .proper .numbered x)
 
         go : (c : Bool) → owes ds x ≡ c → (d : Bool) → hasNone counts x ≡ d →
-            Shares (lists [] (x ∷ rest) ds) (cond c (goesOn (lists [] (rest ++ x ∷ []) (raised ds x))) (cond d (goesOn (lists [] rest ds)) (takes x)))
+            Shares (lists [] (x ∷ rest) ds)
+            (cond c (moves oldGoesLast (lists [] (rest ++ x ∷ []) (raised ds x)))
+            (cond d (moves oldLeaves (lists [] rest ds)) (serves x)))
         go true q d e =
             gain-last x rest ds (k .low-f) (k .low-g) a b (eqb (occurs g []) 0) (eqb (occurs g []) 0) (λ n. refl) h
         go false q true e =
@@ -247,14 +271,14 @@ module _ (f g most : ℕ) (ne : f ≡ g → ⊥) where
             (leave x rest ds (k .low-f) (k .low-g) a b (not-f x (eqb-true (getD counts x 0) 0 e)) (ltb-false (getD ds x 0) zeroDeficit q))
         go false q false e = tt
 
-    by-old : (old ds : List ℕ) → Asked (lists [] old ds) → Shares (lists [] old ds) (foundOld counts ds old)
+    by-old : (old ds : List ℕ) → Asked (lists [] old ds) → Shares (lists [] old ds) (lookOld counts ds old)
     by-old [] ds k = tt
     by-old (x ∷ rest) ds k = shares-old x rest ds k
 
-    by-new : (new old ds : List ℕ) → Asked (lists new old ds) → Shares (lists new old ds) (foundNew counts ds old new)
+    by-new : (new old ds : List ℕ) → Asked (lists new old ds) → Shares (lists new old ds) (lookNew counts ds old new)
     by-new [] old ds k = by-old old ds k
     by-new (x ∷ rest) old ds k = shares-new x rest old ds k
 
-    pub shares-law : (l : TwoLists) → Asked l → Shares l (found counts l)
-    unfolding found
+    pub shares-law : (l : TwoLists) → Asked l → Shares l (look counts l)
+    unfolding look
     shares-law l k = by-new (l .new) (l .old) (l .deficits) k

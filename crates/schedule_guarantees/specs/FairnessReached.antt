@@ -4,13 +4,13 @@ use mathlib.Core.Path.{_≡_}
 use mathlib.Core.List.{List, [], _∷_, _++_, foldl}
 use Prim.Native.Nat.{_+_}
 use lib.ListN.{replicate}
-use Rattle.schedule.specs.Ring.{emptyLists, scheduleOf, zeroDeficit}
+use Rattle.schedule.specs.TwoLists.{lists, zeroDeficit}
 use Rattle.schedule_guarantees.specs.Stretch.{AllFit, Event, Line, Waits, after, arrives, departs, served}
 use Rattle.schedule_guarantees.specs.Kept.{Sound}
 
 -- as at fresh: no packets, both lists empty, each deficit 0
 abbrev pub noFlows : Line
-noFlows = record { counts = replicate 64 0; schedule = scheduleOf emptyLists (replicate 64 0) (replicate 64 zeroDeficit) }
+noFlows = record { counts = replicate 64 0; lists = lists [] [] (replicate 64 zeroDeficit) }
 
 -- flow 1 enters with 1,514 and is served to −1; it goes to the old list with 1,513, is served to 0, and from 0 to −65,535; flow 0 enters
 abbrev pub earlier : List Event
@@ -21,7 +21,7 @@ abbrev pub twoFlows : Line
 twoFlows =
     record {
       counts = 100 ∷ 100 ∷ replicate 62 0;
-      schedule = scheduleOf (record { first = 0; old = 1; listed = 2 }) (1 ∷ 0 ∷ replicate 62 0) (67049 ∷ 0 ∷ replicate 62 65535);
+      lists = lists (0 ∷ []) (1 ∷ []) (67049 ∷ 0 ∷ replicate 62 65535);
     }
 
 -- flow 0 is served the first 45 and the last two, flow 1 the one between
@@ -31,7 +31,7 @@ departures = departs 1515 ∷ replicate 44 (departs 1514) ++ departs 1082 ∷ de
 abbrev pub FairnessReached : Type 0
 FairnessReached =
     (foldl after noFlows earlier ≡ twoFlows)
-    × Sound (twoFlows .counts) (twoFlows .schedule)
+    × Sound (twoFlows .counts) (twoFlows .lists)
     × AllFit 65535 departures
     × Waits 0 65535 twoFlows departures
     × Waits 1 65535 twoFlows departures

@@ -3,10 +3,9 @@
 use mathlib.Core.Path.{_≡_}
 use mathlib.Core.List.{List, [], _∷_, _++_}
 use Prim.Native.Nat.{ℕ, zero, suc}
-use lib.ListN.{replicate}
-use Rattle.schedule.specs.Choosing.{choose, chooseIn, mostLooks}
-use Rattle.schedule.specs.Ring.{Schedule, scheduleOf}
-use Rattle.schedule_guarantees.specs.ChoosingEnds.{movesIn}
+use lib.ListN.{length, replicate}
+use Rattle.schedule.specs.Choosing.{choose, chooseIn}
+use Rattle.schedule.specs.TwoLists.{TwoLists, lists}
 use Rattle.schedule_guarantees.specs.Kept.{Sound}
 
 -- 0, 1, .., n − 1
@@ -14,8 +13,8 @@ abbrev upTo : (n : ℕ) → List ℕ
 upTo zero = []
 upTo (suc n) = upTo n ++ n ∷ []
 
-abbrev pub longest : Schedule
-longest = scheduleOf (record { first = 0; old = 0; listed = 64 }) (upTo 64) (replicate 64 0)
+abbrev pub longest : TwoLists
+longest = lists (upTo 64) [] (replicate 64 0)
 
 abbrev pub lastOnly : List ℕ
 lastOnly = replicate 63 0 ++ 1 ∷ []
@@ -24,6 +23,6 @@ lastOnly = replicate 63 0 ++ 1 ∷ []
 abbrev pub LongestChoice : Type 0
 LongestChoice =
     Sound lastOnly longest
-    × (movesIn mostLooks lastOnly longest ≡ 2879)
+    × (length (choose lastOnly longest .moved) ≡ 2879)
     × (chooseIn 2879 lastOnly longest .flow ≡ 0)
     × (choose lastOnly longest .flow ≡ 63)

@@ -4,10 +4,10 @@ use mathlib.Core.List.{List}
 use Prim.Native.Nat.{ℕ, _≤_}
 use lib.ListN.{getD}
 use Rattle.schedule.specs.Choosing.{choose}
-use Rattle.schedule.specs.Ring.{Schedule, entries, occurs}
+use Rattle.schedule.specs.TwoLists.{TwoLists, listed}
 use Rattle.schedule_guarantees.specs.Kept.{Sound}
 
 abbrev pub NeverUnlists : Type 0
 NeverUnlists =
-    (counts : List ℕ) (s : Schedule) (flow : ℕ) → Sound counts s → 1 ≤ getD counts flow 0 →
-    (occurs flow (entries s) ≡ 1) × (occurs flow (entries (choose counts s .schedule)) ≡ 1)
+    (counts : List ℕ) (l : TwoLists) (flow : ℕ) → Sound counts l → 1 ≤ getD counts flow 0 →
+    (listed flow l ≡ 1) × (listed flow (choose counts l .lists) ≡ 1)

@@ -5,13 +5,13 @@ use Prim.Native.Nat.{ℕ, _+_, _-_, _≤_, _<_}
 use lib.Dec.{eqb}
 use lib.ListN.{getD, set}
 use Rattle.schedule.specs.Choosing.{charged, choose}
-use Rattle.schedule.specs.Ring.{Schedule, deficitOf, zeroDeficit}
-use Rattle.schedule_guarantees.specs.Kept.{arrived}
+use Rattle.schedule.specs.Entering.{arrived}
+use Rattle.schedule.specs.TwoLists.{TwoLists, deficitOf, zeroDeficit}
 
 -- the packets of each flow, and the lists and deficits
 pub record Line : Type 0 where
   pub counts : List ℕ
-  pub schedule : Schedule
+  pub lists : TwoLists
 
 -- a packet is admitted to a flow (25), or a packet of this size leaves the flow that is chosen (27)
 pub data Event : Type 0 where
@@ -20,15 +20,15 @@ pub data Event : Type 0 where
 
 -- the flow that a departure serves
 abbrev pub next : Line → ℕ
-next l = choose (l .counts) (l .schedule) .flow
+next l = choose (l .counts) (l .lists) .flow
 
 unfoldable pub after : Line → Event → Line
 after l (arrives flow) =
-    record { counts = set (l .counts) flow (getD (l .counts) flow 0 + 1); schedule = arrived (l .schedule) flow }
+    record { counts = set (l .counts) flow (getD (l .counts) flow 0 + 1); lists = arrived (l .lists) flow }
 after l (departs size) =
     record {
       counts = set (l .counts) (next l) (getD (l .counts) (next l) 0 - 1);
-      schedule = charged (choose (l .counts) (l .schedule) .schedule) (next l) size;
+      lists = charged (choose (l .counts) (l .lists) .lists) (next l) size;
     }
 
 abbrev pub bytes : (flow : ℕ) → Line → Event → ℕ
@@ -62,4 +62,4 @@ AtEach flow l (e ∷ events) = HasPackets flow l e × AtEach flow (after l e) ev
 pub record Waits (flow most : ℕ) (l : Line) (events : List Event) : Type 0 where
   pub at-start : 1 ≤ getD (l .counts) flow 0
   pub at-each : AtEach flow l events
-  pub deficit : zeroDeficit ≤ deficitOf (l .schedule) flow + most
+  pub deficit : zeroDeficit ≤ deficitOf (l .lists) flow + most

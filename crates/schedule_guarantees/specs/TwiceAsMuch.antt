@@ -4,7 +4,7 @@ use mathlib.Core.Path.{_≡_}
 use mathlib.Core.List.{List, [], _∷_}
 use Prim.Native.Nat.{ℕ, zero, suc}
 use lib.ListN.{replicate}
-use Rattle.schedule.specs.Ring.{scheduleOf}
+use Rattle.schedule.specs.TwoLists.{lists}
 use Rattle.schedule_guarantees.specs.Stretch.{Event, Line, arrives, departs, served}
 use Rattle.schedule_guarantees.specs.Kept.{Sound}
 
@@ -13,7 +13,7 @@ abbrev pub oneListed : Line
 oneListed =
     record {
       counts = 200 ∷ replicate 63 0;
-      schedule = scheduleOf (record { first = 0; old = 1; listed = 1 }) (replicate 64 0) (65534 ∷ replicate 63 65535);
+      lists = lists [] (0 ∷ []) (65534 ∷ replicate 63 65535);
     }
 
 -- a packet of flow 1 arrives and leaves, and one of flow 0 leaves
@@ -23,6 +23,6 @@ rounds (suc n) = arrives 1 ∷ departs 3028 ∷ departs 1514 ∷ rounds n
 
 abbrev pub TwiceAsMuch : Type 0
 TwiceAsMuch =
-    Sound (oneListed .counts) (oneListed .schedule)
+    Sound (oneListed .counts) (oneListed .lists)
     × (served 0 oneListed (rounds 100) ≡ 151400)
     × (served 1 oneListed (rounds 100) ≡ 302800)

@@ -3,13 +3,13 @@ use borrow.Author.Needs.{needs}
 use mathlib.Core.Path.{_≡_, sym, _∙_}
 use mathlib.Core.Bool.{Bool, true, false}
 use Rattle.schedule.specs.Entering.{isListed}
-use Rattle.schedule.specs.Ring.{scheduleOf}
+use Rattle.schedule.specs.Ring.{scheduleOf, twoLists}
 use Rattle.fq_rules.proofs.arriving.list.Statement.{statement}
 use Rattle.fq_rules.proofs.arriving.list.Tie as tie
 
 -- whether the flow is listed
 abbrev listed : tie.Start → Bool
-listed c = isListed (scheduleOf (c .args .lists) (c .args .order .now) (c .args .deficits .now)) (c .args .flow)
+listed c = isListed (twoLists (scheduleOf (c .args .lists) (c .args .order .now) (c .args .deficits .now))) (c .args .flow)
 
 returns : tie.Need-returns
 returns c = rw (c .before .pre .1 (c .if1 .taken))

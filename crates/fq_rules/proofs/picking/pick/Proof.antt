@@ -4,8 +4,7 @@ use mathlib.Core.Path.{_≡_, ap, refl, sym, _∙_}
 use mathlib.Core.Bool.{true, false, false≢true}
 use lib.ListN.{length}
 use denote.Ref.{now}
-use Rattle.schedule.specs.Choosing.{Choice, choose, chooseIn, chosen}
-use Rattle.schedule.specs.Ring.{Schedule, scheduleOf}
+use Rattle.schedule.specs.Passing.{Found}
 use Rattle.fq_state.specs.declared.Flow.{Flow}
 use Rattle.fq_rules.specs.Departure.{headWordRefused}
 use Rattle.fq_rules.proofs.picking.pick.Statement.{statement}
@@ -28,10 +27,10 @@ returns c =
     let i = f .before in
     let p = i .before .before in
     let all = rw (i .if1 .taken) at (p .pass .ensures .0) in (
-      sym (ap (λ (k : Choice). k .flow) all),
+      sym (ap (λ (k : Found). k .flow) all),
       (
         (p .pass .ensures .1 .0, rw (← (f .flow-at .ensures)) (c .wrong-word .ensures)),
-        (λ e. (refl, refl), λ e. sym (ap (λ (k : Choice). k .schedule) all)),
+        (λ e. (refl, refl), λ e. sym (ap (λ (k : Found). k .schedule) all)),
       ),
     )
 
@@ -56,7 +55,7 @@ returns-2 c =
     let o = f .before .before in
     let i = o .before .before .before .before .before in
     let all = rw (i .if1 .left) at (i .before .before .pass .ensures .0) in (
-      o .choose .ensures .0 .0 ∙ sym (ap (λ (k : Choice). k .flow) all),
+      o .choose .ensures .0 .0 ∙ sym (ap (λ (k : Found). k .flow) all),
       (
         (o .choose .ensures .1, rw (← (f .flow-at2 .ensures)) (w .wrong-word2 .ensures)),
         (λ e. (refl, refl), λ e. absurd (false≢true (sym e ∙ c .if2 .taken))),
@@ -70,12 +69,12 @@ returns-3 c =
     let o = f .before .before in
     let i = o .before .before .before .before .before in
     let all = rw (i .if1 .left) at (i .before .before .pass .ensures .0) in (
-      o .choose .ensures .0 .0 ∙ sym (ap (λ (k : Choice). k .flow) all),
+      o .choose .ensures .0 .0 ∙ sym (ap (λ (k : Found). k .flow) all),
       (
         (o .choose .ensures .1, rw (← (f .flow-at2 .ensures)) (w .wrong-word2 .ensures)),
         (
           λ e. absurd (false≢true (sym (c .if2 .left) ∙ e)),
-          λ e. o .choose .ensures .0 .1 ∙ sym (ap (λ (k : Choice). k .schedule) all),
+          λ e. o .choose .ensures .0 .2 ∙ sym (ap (λ (k : Found). k .schedule) all),
         ),
       ),
     )

@@ -8,7 +8,8 @@ use lib.Dec.{leb}
 use lib.ListN.{replicate}
 use Rattle.laws.specs.Tests.{all}
 use Rattle.pie.specs.Constants.{fullAllowance, latest}
-use Rattle.schedule.specs.Ring.{emptyLists, zeroDeficit}
+use Rattle.schedule.specs.Ring.{emptyLists}
+use Rattle.schedule.specs.TwoLists.{zeroDeficit}
 use Rattle.fq_state.specs.Flow.{emptyFlow}
 use Rattle.fq_state.specs.Fresh.{emptyCommon, fresh, freshRefusal, settingsOf}
 use Rattle.fq_state.specs.WellFormed.{settingsConditions}

@@ -5,7 +5,7 @@ use borrow.Author.Needs.{needs}
 use borrow.Author.Tests.{ltb-true}
 use lib.Dec.{ltb}
 use lib.ListN.{getD}
-use Rattle.schedule.specs.Ring.{zeroDeficit}
+use Rattle.schedule.specs.TwoLists.{zeroDeficit}
 use Rattle.schedule.proofs.Facts.{facts}
 use Rattle.schedule.proofs.choosing.look_new.Statement.{statement}
 use Rattle.schedule.proofs.choosing.look_new.Tie as tie
@@ -42,7 +42,7 @@ returns c =
     let s = c .before .before .before .before in
     let a = s .args in
     let negative : ltb (getD (a .deficits .now) (a .flow) 0) zeroDeficit ≡ true = sym (c .before .is-negative .ensures) ∙ c .if1 .taken in
-    (λ order again. simp negative refl, (s .pre .2, refl, omega (arith, s .pre .1), refl))
+    (λ order rest old again. simp negative refl, (s .pre .2, refl, omega (arith, s .pre .1), refl))
 
 mul-empty : tie.Need-mul-empty
 mul-empty c = search needs
@@ -54,15 +54,17 @@ returns-2 : tie.Need-returns-2
 returns-2 c =
     let s = c .before .before .before .before .before .before in
     let a = s .args in
-    let negative : ltb (getD (a .deficits .now) (a .flow) 0) zeroDeficit ≡ false = sym (c .before .before .before .is-negative .ensures) ∙ c .before .before .if1 .left in
-    (λ order again. simp (negative, c .if2 .taken) refl, (s .pre .2, refl, omega (arith, s .pre .1), refl))
+    let negative : ltb (getD (a .deficits .now) (a .flow) 0) zeroDeficit ≡ false = sym (c .before .before .before .is-negative .ensures)
+    ∙ c .before .before .if1 .left in
+    (λ order rest old again. simp (negative, c .if2 .taken) refl, (s .pre .2, refl, omega (arith, s .pre .1), refl))
 
 returns-3 : tie.Need-returns-3
 returns-3 c =
     let s = c .before .before .before .before .before .before in
     let a = s .args in
-    let negative : ltb (getD (a .deficits .now) (a .flow) 0) zeroDeficit ≡ false = sym (c .before .before .before .is-negative .ensures) ∙ c .before .before .if1 .left in
-    (λ order again. simp (negative, c .if2 .left) refl, (s .pre .2, refl, omega (arith, s .pre .1), refl))
+    let negative : ltb (getD (a .deficits .now) (a .flow) 0) zeroDeficit ≡ false = sym (c .before .before .before .is-negative .ensures)
+    ∙ c .before .before .if1 .left in
+    (λ order rest old again. simp (negative, c .if2 .left) refl, (s .pre .2, refl, omega (arith, s .pre .1), refl))
 
 pub look-new-spec : {M : Type 1} → statement M
 look-new-spec =

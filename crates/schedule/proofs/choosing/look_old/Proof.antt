@@ -4,10 +4,12 @@ use native.Mathlib.Omega.{arith}
 use borrow.Author.Needs.{needs}
 use borrow.Author.Tests.{ltb-true}
 use lib.Dec.{ltb}
-use lib.ListN.{getD}
-use Rattle.schedule.specs.Ring.{zeroDeficit}
+use lib.ListN.{getD, length-set}
+use Rattle.schedule.specs.Ring.{scheduleOf}
+use Rattle.schedule.specs.TwoLists.{zeroDeficit}
 use Rattle.schedule.proofs.Facts.{facts, lists-fit}
 use Rattle.schedule.proofs.Flows.{flows-first}
+use Rattle.schedule.proofs.Looks.{last-written}
 use Rattle.schedule.proofs.Moves.{leftLists, rotated, rotatedLists}
 use Rattle.schedule.proofs.Ring.{place-lt}
 use Rattle.schedule.proofs.choosing.look_old.Statement.{statement}
@@ -58,12 +60,15 @@ returns c =
     let a = s .args in
     let negative : ltb (getD (a .deficits .now) (a .flow) 0) zeroDeficit ≡ true = sym (c .before .is-negative .ensures) ∙ c .if1 .taken in
     let f = facts (a .lists) (s .pre .0 .0) in (
-      λ again. simp negative refl,
+      λ rest again.
+          last-written (a .counts .now) (scheduleOf (a .lists) (a .order .now) (a .deficits .now)) (a .flow) rest again (s .pre .1 .1)
+          negative,
       (
         s .pre .0 .3,
         lists-fit (rotatedLists (a .lists)) (place-lt (a .lists .first) 1) (f .old-le) (f .listed-le),
         rotated (a .order .now) (a .lists .first) (a .lists .listed) (a .flow) (f .first-lt) (s .pre .0 .2) (f .listed-le) (s .pre .0 .3)
-            (s .pre .1),
+            (s .pre .1 .0),
+        length-set (a .order .now) _ _,
       ),
     )
 
@@ -83,13 +88,15 @@ returns-2 : tie.Need-returns-2
 returns-2 c =
     let s = c .before .before .before .before .before .before in
     let a = s .args in
-    let negative : ltb (getD (a .deficits .now) (a .flow) 0) zeroDeficit ≡ false = sym (c .before .before .before .before .is-negative .ensures) ∙ c .before .before .before .if1 .left in
+    let negative : ltb (getD (a .deficits .now) (a .flow) 0) zeroDeficit ≡ false = sym
+    (c .before .before .before .before .is-negative .ensures) ∙ c .before .before .before .if1 .left in
     let f = facts (a .lists) (s .pre .0 .0) in (
-      λ again. simp (negative, c .before .if2 .taken) refl,
+      λ rest again. simp (negative, c .before .if2 .taken) refl,
       (
         s .pre .0 .3,
         lists-fit (leftLists (a .lists)) (place-lt (a .lists .first) 1) (omega (arith, f .old-le)) (omega (arith, f .listed-le)),
-        flows-first (a .order .now) (a .lists .first) (a .lists .listed) (f .first-lt) (s .pre .0 .2) (s .pre .1) .1,
+        flows-first (a .order .now) (a .lists .first) (a .lists .listed) (f .first-lt) (s .pre .0 .2) (s .pre .1 .0) .1,
+        refl,
       ),
     )
 
@@ -97,8 +104,9 @@ returns-3 : tie.Need-returns-3
 returns-3 c =
     let s = c .before .before .before .before .before in
     let a = s .args in
-    let negative : ltb (getD (a .deficits .now) (a .flow) 0) zeroDeficit ≡ false = sym (c .before .before .before .is-negative .ensures) ∙ c .before .before .if1 .left in
-    (λ again. simp (negative, c .if2 .left) refl, (s .pre .0 .3, s .pre .0 .0, s .pre .1))
+    let negative : ltb (getD (a .deficits .now) (a .flow) 0) zeroDeficit ≡ false = sym (c .before .before .before .is-negative .ensures)
+    ∙ c .before .before .if1 .left in
+    (λ rest again. simp (negative, c .if2 .left) refl, (s .pre .0 .3, s .pre .0 .0, s .pre .1 .0, refl))
 
 pub look-old-spec : {M : Type 1} → statement M
 look-old-spec =

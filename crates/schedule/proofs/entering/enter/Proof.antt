@@ -2,6 +2,7 @@ use mathlib.Core.Path.{refl}
 use native.Mathlib.Omega.{arith}
 use borrow.Author.Needs.{needs}
 use Rattle.schedule.specs.Entering.{entered}
+use Rattle.schedule.specs.Ring.{enteredIn}
 use Rattle.schedule.proofs.Facts.{facts}
 use Rattle.schedule.proofs.entering.enter.Statement.{statement}
 use Rattle.schedule.proofs.entering.enter.Tie as tie
@@ -27,7 +28,7 @@ add-t6 : tie.Need-add-t6
 add-t6 c = let f = facts (c .before .before .args .lists) (c .before .before .pre .0) in omega (arith, f .listed-le)
 
 returns : tie.Need-returns
-unfolding entered
+unfolding enteredIn entered
 returns c = refl
 
 pub enter-spec : {M : Type 1} → statement M

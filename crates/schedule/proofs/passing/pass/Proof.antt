@@ -7,11 +7,13 @@ use Prim.Native.Nat.{_<_}
 use native.Mathlib.Omega.{arith}
 use lib.Dec.{ltb}
 use lib.ListN.{getD}
-use Rattle.schedule.specs.Choosing.{choose, chooseIn}
-use Rattle.schedule.specs.Ring.{Schedule, ringOf, scheduleOf, zeroDeficit}
+use Rattle.schedule.specs.Choosing.{choose}
+use Rattle.schedule.specs.Passing.{foundBy, foundIn}
+use Rattle.schedule.specs.Ring.{Schedule, ringOf, scheduleOf, twoLists}
+use Rattle.schedule.specs.TwoLists.{zeroDeficit}
 use Rattle.schedule.specs.WellFormed.{areFlows, listsFit}
 use Rattle.schedule.specs.declared.Lists.{Lists}
-use Rattle.schedule.proofs.Chosen.{chosen-all, used-up}
+use Rattle.schedule.proofs.Chosen.{chosen-all}
 use Rattle.schedule.proofs.Facts.{facts}
 use Rattle.schedule.proofs.HeadPassed.{head-passed, head-served, none-listed, still-fit}
 use Rattle.schedule.proofs.Moves.{above-zero}
@@ -22,7 +24,8 @@ abbrev Inv-loop : tie.InvT-loop
 Inv-loop order deficits counts at₀ looks₀ at looks =
     (listsFit at ≡ true)
     × ((areFlows (ringOf order (at .first) (at .listed)) ≡ true)
-    × (chooseIn looks counts (scheduleOf at order deficits) ≡ choose counts (scheduleOf at₀ order deficits)))
+    × (foundIn looks counts (scheduleOf at order deficits) ≡ foundBy (choose counts (twoLists (scheduleOf at₀ order deficits)))
+    (scheduleOf at₀ order deficits)))
 
 abbrev μ-loop : tie.MeasureT-loop
 μ-loop order deficits counts at₀ looks₀ at looks = looks
@@ -30,7 +33,8 @@ abbrev μ-loop : tie.MeasureT-loop
 loop-holds : tie.Need-loop-holds Inv-loop μ-loop
 loop-holds c =
     let a = c .args in
-    (c .pre .0, (c .pre .1, sym (chosen-all (a .counts .now) (scheduleOf (a .lists) (a .order .now) (a .deficits .now)))))
+    let s = scheduleOf (a .lists) (a .order .now) (a .deficits .now) in
+    (c .pre .0, (c .pre .1, ap (λ k. foundBy k s) (sym (chosen-all (a .counts .now) (twoLists s)))))
 
 returns : tie.Need-returns Inv-loop μ-loop
 returns c =
@@ -39,7 +43,7 @@ returns c =
     let a = test .before .before .args in
     let f = facts (l .at) (l .inv .0) in
     let s = scheduleOf (l .at) (a .order .now) (a .deficits .now) in (
-      sym (l .inv .1 .1) ∙ none-listed (a .counts .now) s (l .looks) (test .loop-test .taken) (f .old-le) (c .if1 .taken),
+      sym (l .inv .1 .1) ∙ none-listed (a .counts .now) s (l .looks) (test .loop-test .taken) f (c .if1 .taken),
       (omega arith, l .inv .0, l .inv .1 .0),
     )
 
@@ -79,7 +83,8 @@ returns-3 c =
     let a = test .before .before .args in
     let s = scheduleOf (l .at) (a .order .now) (a .deficits .now) in (
       sym (l .inv .1 .1)
-          ∙ head-served (a .counts .now) s (l .looks) (test .loop-test .taken) (h .head .result) (h .head .ensures .0) (i .if1 .left)
+          ∙ head-served (a .counts .now) s (l .looks) (test .loop-test .taken) (facts (l .at) (l .inv .0)) (h .head .result)
+          (h .head .ensures .0) (i .if1 .left)
           (sym (n .before .is-negative .ensures) ∙ n .if2 .left)
           (not-true _ (c .if3 .taken)),
       (h .head .ensures .1, l .inv .0, l .inv .1 .0),
@@ -109,7 +114,8 @@ loop-again c =
     let s = scheduleOf (l .at) (a .order .now) (a .deficits .now) in
     let some = above-zero (l .at .listed) (eqb-false (l .at .listed) 0 (i .if1 .left)) in
     let k = still-fit (a .order .now) (l .at) (l .inv .0) some (l .inv .1 .0) in
-    let on = head-passed (a .counts .now) s (l .looks) (test .loop-test .taken) (h .head .result) (h .head .ensures .0) (i .if1 .left)
+    let on = head-passed (a .counts .now) s (l .looks) (test .loop-test .taken) (facts (l .at) (l .inv .0)) (h .head .result)
+    (h .head .ensures .0) (i .if1 .left)
     (sym (n .before .is-negative .ensures) ∙ n .if2 .left)
     (not-false _ (e .if3 .left)) in
     rw (c .without-head .ensures) (k .0, (k .1, sym on ∙ l .inv .1 .1))
@@ -120,7 +126,7 @@ returns-4 c =
     let a = c .before .before .args in
     let s = scheduleOf (l .at) (a .order .now) (a .deficits .now) in
     let none : l .looks ≡ 0 = omega (arith, c .loop-test .left) in
-    (sym (l .inv .1 .1) ∙ ap (λ n. chooseIn n (a .counts .now) s) none, (omega arith, l .inv .0, l .inv .1 .0))
+    (sym (l .inv .1 .1) ∙ ap (λ n. foundIn n (a .counts .now) s) none, (omega arith, l .inv .0, l .inv .1 .0))
 
 pub pass-spec : {M : Type 1} → statement M
 pass-spec =

@@ -2,19 +2,14 @@
 use mathlib.Core.Path.{_≡_, refl, ap, sym, _∙_}
 use mathlib.Core.Bool.{Bool, true, false, _&&_, _||_}
 use mathlib.Core.List.{List, [], _∷_}
-use Prim.Native.Nat.{ℕ, zero, suc, _-_, _≤_, _<_}
+use Prim.Native.Nat.{ℕ, zero, suc, _≤_, _<_}
 use native.Mathlib.Omega.{arith}
 use lib.Dec.{eqb, leb, ltb}
 use lib.ListN.{getD, length, List·getD-eq-default}
-use borrow.Author.Tests.{eq-eqb, ne-eqb, eqb-true, eqb-false, leb-true, le-leb, ltb-true, ltb-false, lt-ltb}
+use borrow.Author.Tests.{eq-eqb, ne-eqb, eqb-true, eqb-false, leb-true, le-leb, ltb-true, ltb-false}
 use Rattle.laws.proofs.Tests.{and-left, and-right}
-use Rattle.schedule.specs.Ring.{Schedule, deficitOf, entries, newList, occurs, oldList}
-use Rattle.schedule.specs.WellFormed.{areFlows, every, flowFits, listsFit, wellListed}
-use Rattle.schedule_guarantees.specs.AsTwoLists.{twoLists}
-use Rattle.schedule_guarantees.specs.TwoLists.{TwoLists, listed}
-use Rattle.schedule_guarantees.proofs.Looks.{Fits}
-use Rattle.schedule_guarantees.proofs.Occurs.{occurs-append}
-use Rattle.schedule_guarantees.proofs.Rings.{ring-both}
+use Rattle.schedule.specs.TwoLists.{TwoLists, deficitOf, listed, occurs}
+use Rattle.schedule.specs.WellFormed.{areFlows, every, flowFits, listsWell}
 
 abbrev pub highest : ℕ
 highest = 67049
@@ -85,56 +80,35 @@ flows-of (x ∷ l) h = go (ltb x 64) refl (flows-of l (λ j k. omega (arith, h j
 
 -- ── the whole test ──
 
-pub listed-entries : (j : ℕ) (s : Schedule) → s .lists .old ≤ s .lists .listed → occurs j (entries s) ≡ listed j (twoLists s)
-listed-entries j s h =
-    ap (occurs j) (ring-both (s .order) (s .lists .first) (s .lists .old) (s .lists .listed) h)
-    ∙ omega (arith, occurs-append j (oldList s) (newList s))
-
-module _ (counts : List ℕ) (s : Schedule) where
+module _ (counts : List ℕ) (l : TwoLists) where
   abbrev tests : ℕ → Bool
-  tests flow = flowFits (occurs flow (entries s)) (getD counts flow 0) (deficitOf s flow)
+  tests flow = flowFits (listed flow l) (getD counts flow 0) (deficitOf l flow)
 
-  parts : wellListed counts s ≡ true → (listsFit (s .lists) ≡ true) × (areFlows (entries s) ≡ true) × (every 64 tests ≡ true)
-  unfolding wellListed
-  parts h = all-three (listsFit (s .lists)) (areFlows (entries s)) (every 64 tests) h
+  pub parts : listsWell counts l ≡ true → (areFlows (l .new) ≡ true) × (areFlows (l .old) ≡ true) × (every 64 tests ≡ true)
+  unfolding listsWell
+  parts h = all-three (areFlows (l .new)) (areFlows (l .old)) (every 64 tests) h
 
-  pub fits-of : wellListed counts s ≡ true → Fits (s .lists)
-  fits-of h =
-      let l = s .lists in
-      let t = all-three (ltb (l .first) 64) (leb (l .old) (l .listed)) (leb (l .listed) 64) (parts h .0) in
-      record { first-lt = ltb-true (l .first) 64 (t .0); old-le = leb-true (l .old) (l .listed) (t .1); listed-le = leb-true (l .listed) 64 (t .2) }
-
-  pub flows-of-well : wellListed counts s ≡ true → areFlows (entries s) ≡ true
-  flows-of-well h = parts h .1
-
-  pub facts-of : wellListed counts s ≡ true → Facts counts (twoLists s)
+  pub facts-of : listsWell counts l ≡ true → Facts counts l
   facts-of h =
-      let f = fits-of h in
       let p = parts h in
-      let each : (j : ℕ) → j < 64 → (occurs j (entries s) ≤ 1) × ((getD counts j 0 ≡ 0 → ⊥) → 1 ≤ occurs j (entries s)) × (deficitOf s j ≤ highest) =
-      λ j q. fits-facts (occurs j (entries s)) (getD counts j 0) (deficitOf s j) (every-at 64 tests (p .2) j q) in
+      let each : (j : ℕ) → j < 64 → (listed j l ≤ 1) × ((getD counts j 0 ≡ 0 → ⊥) → 1 ≤ listed j l) × (deficitOf l j ≤ highest) =
+      λ j q. fits-facts (listed j l) (getD counts j 0) (deficitOf l j) (every-at 64 tests (p .2) j q) in
       record {
-        flows-only = λ j k. sym (listed-entries j s (f .old-le)) ∙ flows-high j (entries s) (p .1) k;
-        once = λ j q. omega (arith, listed-entries j s (f .old-le), each j q .0);
-        held = λ j q k. omega (arith, listed-entries j s (f .old-le), each j q .1 k);
+        flows-only = λ j k. omega (arith, flows-high j (l .new) (p .0) k, flows-high j (l .old) (p .1) k);
+        once = λ j q. each j q .0;
+        held = λ j q k. each j q .1 k;
         range = λ j q. each j q .2;
       }
 
-  pub well-of : Fits (s .lists) → Facts counts (twoLists s) → wellListed counts s ≡ true
-  unfolding wellListed
-  well-of f k =
-      let l = s .lists in
-      let same : (j : ℕ) → occurs j (entries s) ≡ listed j (twoLists s) = λ j. listed-entries j s (f .old-le) in
+  pub well-of : Facts counts l → listsWell counts l ≡ true
+  unfolding listsWell
+  well-of k =
       rw (
-        lt-ltb (l .first) 64 (f .first-lt),
-        le-leb (l .old) (l .listed) (f .old-le),
-        le-leb (l .listed) 64 (f .listed-le),
-        flows-of (entries s) (λ j h. same j ∙ k .flows-only j h),
+        flows-of (l .new) (λ j h. omega (arith, k .flows-only j h)),
+        flows-of (l .old) (λ j h. omega (arith, k .flows-only j h)),
       )
       (every-of 64 tests
-      (λ j p.
-      facts-fits (occurs j (entries s)) (getD counts j 0) (deficitOf s j) (omega (arith, same j, k .once j p))
-      (λ h. omega (arith, same j, k .held j p h)) (k .range j p)))
+      (λ j p. facts-fits (listed j l) (getD counts j 0) (deficitOf l j) (k .once j p) (k .held j p) (k .range j p)))
 
 -- a flow beyond the deficits has none
 pub range-at : (ds : List ℕ) → length ds ≡ 64 → ((j : ℕ) → j < 64 → getD ds j 0 ≤ highest) → (j : ℕ) → getD ds j 0 ≤ highest

@@ -1,4 +1,4 @@
--- A list of different flows that lacks one has room: the occurrences of all 64 flows sum to its length.
+-- Lists of different flows have at most 64, and fewer where they lack one: the occurrences of all 64 flows sum to their lengths.
 use mathlib.Core.Path.{_≡_, refl, ap, sym, _∙_}
 use mathlib.Core.Bool.{Bool, true, false, cond}
 use mathlib.Core.List.{List, [], _∷_}
@@ -8,12 +8,9 @@ use lib.Dec.{eqb, ltb}
 use lib.ListN.{length}
 use borrow.Author.Tests.{ne-eqb, eqb-true, eqb-false, ltb-true}
 use Rattle.laws.proofs.Tests.{and-left, and-right}
-use Rattle.schedule.specs.Ring.{Schedule, entries, occurs}
-use Rattle.schedule.specs.WellFormed.{areFlows, wellListed}
-use Rattle.schedule_guarantees.specs.AsTwoLists.{twoLists}
-use Rattle.schedule_guarantees.specs.TwoLists.{listed}
-use Rattle.schedule_guarantees.proofs.Facts.{facts-of, fits-of, flows-of-well, less, listed-entries}
-use Rattle.schedule_guarantees.proofs.Rings.{length-ring}
+use Rattle.schedule.specs.TwoLists.{TwoLists, listed, occurs}
+use Rattle.schedule.specs.WellFormed.{areFlows, listsWell}
+use Rattle.schedule.proofs.Well.{facts-of, less, parts}
 
 -- f 0 + .. + f (n − 1)
 unfoldable sum : (n : ℕ) (f : ℕ → ℕ) → ℕ
@@ -68,11 +65,15 @@ sum-listed (x ∷ l) h =
     sum-add 64 (λ j. cond (eqb x j) 1 0) (λ j. occurs j l)
     ∙ omega (arith, sum-one 64 x low, sum-listed l (and-right (ltb x 64) (areFlows l) h))
 
--- where a flow is in neither list, fewer than 64 are listed
-pub room : (counts : List ℕ) (s : Schedule) → wellListed counts s ≡ true → (i : ℕ) → i < 64 → listed i (twoLists s) ≡ 0 → s .lists .listed < 64
-room counts s h i p z =
-    let f = facts-of counts s h in
-    let same : (j : ℕ) → occurs j (entries s) ≡ listed j (twoLists s) = λ j. listed-entries j s (fits-of counts s h .old-le) in
-    let lt : sum 64 (λ j. occurs j (entries s)) < 64 =
-    sum-lt 64 (λ j. occurs j (entries s)) (λ j q. omega (arith, same j, f .once j q)) i p (same i ∙ z) in
-    omega (arith, lt, sum-listed (entries s) (flows-of-well counts s h), length-ring (s .order) (s .lists .first) (s .lists .listed))
+module _ (counts : List ℕ) (l : TwoLists) (h : listsWell counts l ≡ true) where
+  sum-both : sum 64 (λ j. listed j l) ≡ length (l .new) + length (l .old)
+  sum-both =
+      sum-add 64 (λ j. occurs j (l .new)) (λ j. occurs j (l .old))
+      ∙ omega (arith, sum-listed (l .new) (parts counts l h .0), sum-listed (l .old) (parts counts l h .1))
+
+  pub at-most-all : length (l .new) + length (l .old) ≤ 64
+  at-most-all = omega (arith, sum-both, sum-le 64 (λ j. listed j l) (facts-of counts l h .once))
+
+  -- where a flow is in neither list, fewer than 64 are listed
+  pub room : (i : ℕ) → i < 64 → listed i l ≡ 0 → length (l .new) + length (l .old) < 64
+  room i p z = omega (arith, sum-both, sum-lt 64 (λ j. listed j l) (facts-of counts l h .once) i p z)
