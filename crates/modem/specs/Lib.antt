@@ -2,3 +2,4 @@
 pub mod Counts
 pub mod Answer
 pub mod Calls
+pub mod Asked

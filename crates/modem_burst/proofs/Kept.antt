@@ -17,18 +17,18 @@ use Rattle.modem_flow.specs.Tick.{tickedState}
 use Rattle.modem_flow.specs.State.{formed}
 use Rattle.modem_flow.specs.declared.Settings.{Settings}
 use Rattle.modem_flow.specs.declared.State.{State}
+use Rattle.modem.specs.Asked.{Request, ask, askArrival, askDeparture, askTick, flowAfter}
 use Rattle.modem.specs.Answer.{ModemReply}
 use Rattle.modem.specs.Calls.{arrival, departure, forFlow, tick}
 use Rattle.modem.specs.Counts.{countsAfter, rowOf}
 use Rattle.modem_guarantees.specs.Calls as flow-calls
 use Rattle.modem_guarantees.specs.Calls.{reply}
-use Rattle.modem_guarantees.specs.Handed.{Queue, Request, askArrival, askDeparture, askTick, callOf}
-use Rattle.modem_guarantees.specs.Modem.{ask, flowAfter}
+use Rattle.modem_guarantees.specs.Handed.{Queue, callOf}
 use Rattle.modem_guarantees.proofs.Replies.{acceptance, at-one-reply, reply-formed}
 use Rattle.modem_words.specs.Words.{stateOf, stateWords}
 use Rattle.modem_burst.specs.Calls as calls
-use Rattle.modem_words.specs.Lent.{Lent}
-use Rattle.modem_burst.specs.Burst.{after, flowOf, replyTo}
+use Rattle.modem_words.specs.Lent.{Lent, flowOf, replyTo}
+use Rattle.modem_burst.specs.Burst.{after}
 use Rattle.modem_steps.specs.Fitting.{Ready}
 
 -- ── the flow's own reply, with its row ──
@@ -48,7 +48,7 @@ abbrev own : (flow : ℕ) → Lent → Reply → ModemReply
 own flow q a = record { answer = a .answer; state = a .state; counts = countsAfter (q .counts) flow (a .answer) }
 
 own-reply : (flow : ℕ) (q : Lent) (r : Request) → flow ≤ 15 →
-    replyTo flow q r ≡ own flow q (reply (stateOf (q .words)) (callFor flow q r))
+    replyTo flow q (ask r) ≡ own flow q (reply (stateOf (q .words)) (callFor flow q r))
 unfolding arrival departure tick
 own-reply flow q (askArrival clock handle size u) h = within flow _ _ _ h
 own-reply flow q (askDeparture clock) h = within flow _ _ _ h
@@ -100,7 +100,7 @@ Long q next = (length (next .handles) ≡ length (q .handles)) × (length (next 
 
 pub after-long : (flow : ℕ) (q : Lent) (c : calls.Call) → Long q (after flow q c)
 after-long flow q (calls.asked (askArrival clock handle size u)) =
-    let a = (replyTo flow q (askArrival clock handle size u)) .answer in
+    let a = (replyTo flow q (ask (askArrival clock handle size u))) .answer in
     (stored-long (stateOf (q .words)) a (q .handles) handle, stored-long (stateOf (q .words)) a (q .sizes) size)
 after-long flow q (calls.asked (askDeparture clock)) = (refl, refl)
 after-long flow q (calls.asked (askTick clock credits)) = (refl, refl)
@@ -121,7 +121,7 @@ ready-kept flow q (calls.asked r) n (f, (l, good, h, z), room) =
     let k = reply-keeps flow (q .counts) s c in
     let own = own-reply flow q r f in
     let left : stateOf (after flow q (calls.asked r) .words) ≡ a .state =
-    back _ ∙ state-left flow q r (replyTo flow q r) ∙ ap (λ (m : ModemReply). m .state) own in
+    back _ ∙ state-left flow q r (replyTo flow q (ask r)) ∙ ap (λ (m : ModemReply). m .state) own in
     let counted : after flow q (calls.asked r) .counts ≡ countsAfter (q .counts) flow (a .answer) = ap (λ (m : ModemReply). m .counts) own in
     let slots : a .state .settings .slots ≡ s .settings .slots = ap (λ (x : Settings). x .slots) (k .0) in
     let long = after-long flow q (calls.asked r) in (

@@ -6,7 +6,7 @@ use Prim.Native.Nat.{ℕ, _+_}
 use lib.Dec.{eqb}
 use lib.ListN.{getD}
 use Rattle.bursts.specs.Numbers.{clockAt}
-use Rattle.modem_guarantees.specs.Handed.{Request, askArrival, askDeparture, askTick}
+use Rattle.modem.specs.Asked.{Request, askArrival, askDeparture, askTick}
 
 pub data Call : Type 0 where
   asked : Request → Call

@@ -9,6 +9,8 @@ use modem_steps::lent_arrival;
 use modem_steps::lent_departure;
 use modem_steps::lent_tick;
 use modem_steps::tick;
+use modem_words::Code;
+use modem_words::Word;
 use modem_words::record_fits;
 ghost use mathlib.Core.Path.{_≡_};
 ghost use mathlib.Core.Bool.{cond, true};
@@ -59,7 +61,7 @@ fn known(
     if ticks {
         return tick(w, clock, wide(calls[at + 3]));
     }
-    120
+    Code::UNKNOWN
 }
 
 // A tick, as the single entry answers it. Since this calls `tick` too, the compiler leaves it out of the loop over the calls
@@ -126,7 +128,7 @@ fn single(
     if ticks {
         return single_tick(w, counts, flow, clock, calls[at + 3]);
     }
-    120
+    Code::UNKNOWN
 }
 
 // Whether the flow is one of sixteen, state and row are well formed, the tables fit and the row has room for `n` arrivals. It decides only
@@ -150,10 +152,10 @@ fn ready(
     if !formed {
         return false;
     }
-    if handles != w[2] {
+    if handles != w[Word::SLOTS] {
         return false;
     }
-    if sizes != w[2] {
+    if sizes != w[Word::SLOTS] {
         return false;
     }
     has_room(counts[flow as usize], n)
@@ -228,7 +230,7 @@ pub extern "C" fn obikuteru_modem_calls(
     let n = answers.len();
     let fit = (calls.len() % 6 == 0) & (calls.len() / 6 == n);
     if !fit {
-        return 120;
+        return Code::MISFIT;
     }
     let ahead = ready(
         words,

@@ -4,6 +4,7 @@ use modem_flow::State;
 use modem_steps::lent_arrival;
 use modem_steps::lent_departure;
 use modem_steps::lent_tick;
+use modem_words::Code;
 use modem_words::LAST_FLOW;
 use modem_words::clear;
 use modem_words::encode;
@@ -39,7 +40,7 @@ pub extern "C" fn obikuteru_modem_fresh(
     let unknown = LAST_FLOW < flow;
     if unknown {
         encode(words, State::zero());
-        return 110;
+        return Code::NO_FLOW;
     }
     let settings = Settings {
         target: Micros(target),
@@ -55,7 +56,7 @@ pub extern "C" fn obikuteru_modem_fresh(
     let refusal = outcome.refusal();
     let refused = 0 < refusal;
     if refused {
-        return 100 + refusal;
+        return Code::REFUSED + refusal;
     }
     clear(counts, flow);
     0

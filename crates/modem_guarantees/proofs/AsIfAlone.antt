@@ -16,13 +16,14 @@ use Rattle.pie.specs.Verdicts.{raised}
 use Rattle.ring.specs.Answer.{Answer, departed, made, refused, ticked, verdict}
 use Rattle.modem_flow.specs.declared.State.{State}
 use Rattle.modem_flow.specs.Answer.{Reply}
+use Rattle.modem.specs.Asked.{Asked, Flow, ask, askArrival, askDeparture, askTick, flowAfter, start}
 use Rattle.modem.specs.Answer.{ModemReply}
 use Rattle.modem.specs.Calls.{arrival, departure, flowRefused, forFlow, fresh, tick}
 use Rattle.modem.specs.Counts.{countsAfter, rowOf, zeroRow}
 use Rattle.modem_guarantees.specs.AsIfAlone.{AsIfAlone}
-use Rattle.modem_guarantees.specs.Handed.{Queue, askArrival, askDeparture, askTick, rowAfter}
-use Rattle.modem_guarantees.specs.Modem.{Asked, Call, Flow, Modem, alone, aloneAfter, aloneReply, ask, flowAfter, modem, modemAfter}
-use Rattle.modem_guarantees.specs.Modem.{flowPart, replyTo, start, view}
+use Rattle.modem_guarantees.specs.Handed.{Queue, rowAfter}
+use Rattle.modem_guarantees.specs.Modem.{Call, Modem, alone, aloneAfter, aloneReply, modem, modemAfter}
+use Rattle.modem_guarantees.specs.Modem.{flowPart, replyTo, view}
 
 -- ── the table of counts ──
 

@@ -21,9 +21,10 @@ use Rattle.modem_flow.specs.Fresh.{fresh}
 use Rattle.modem_flow.specs.State.{formed, wellFormed}
 use Rattle.modem_flow.proofs.Facts.{well-formed}
 use Rattle.modem_flow.proofs.Kept.{fresh-formed, made-accepted}
+use Rattle.modem.specs.Asked.{Request, askArrival, askDeparture, askTick}
 use Rattle.modem_guarantees.specs.Calls.{Call, arrive, depart, reply, update}
 use Rattle.modem_guarantees.specs.Conservation.{isVerdict}
-use Rattle.modem_guarantees.specs.Handed.{Queue, Request, after, answerOf, askArrival, askDeparture, askTick, callOf, flowQueue}
+use Rattle.modem_guarantees.specs.Handed.{Queue, after, answerOf, callOf, flowQueue}
 use Rattle.modem_guarantees.specs.Handed.{freshQueue, rowAfter}
 use Rattle.modem_guarantees.proofs.Answers.{call-answer, counted-at, never-marked, row-five}
 use Rattle.modem_guarantees.proofs.Moves.{moved}

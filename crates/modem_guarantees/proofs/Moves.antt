@@ -18,8 +18,8 @@ use Rattle.modem_flow.proofs.WhenAccepted.{ArrivalAccepted, DepartureAccepted}
 use Rattle.calls.specs.Packets.{Packet, Sized, bytesOf}
 use Rattle.calls.specs.Ring.{slot}
 use Rattle.calls.proofs.Ring.{enters, leaves}
-use Rattle.modem_guarantees.specs.Handed.{Queue, Request, admittedBy, after, answerOf, callOf, departedBy, queued, returned}
-use Rattle.modem_guarantees.specs.Handed.{askArrival, askDeparture, askTick}
+use Rattle.modem.specs.Asked.{Request, askArrival, askDeparture, askTick}
+use Rattle.modem_guarantees.specs.Handed.{Queue, admittedBy, after, answerOf, callOf, departedBy, queued, returned}
 use Rattle.modem_guarantees.proofs.Replies.{Accepted, acceptance, at-one-reply, refusalOf}
 
 -- the packets that enter come after those queued, and those that leave come before those that stay; the bytes move alike

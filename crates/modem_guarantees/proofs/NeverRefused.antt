@@ -15,12 +15,13 @@ use Rattle.refusals.proofs.Ordered.{afterFirst, firstTest, past-first, test-fai
 use Rattle.modem_flow.specs.Refusals.{emptyRefused}
 use Rattle.modem_flow.specs.State.{formed, wellFormed}
 use Rattle.modem_flow.proofs.Facts.{facts}
+use Rattle.modem.specs.Asked.{Request, askArrival, askDeparture, askTick}
 use Rattle.modem_guarantees.specs.Calls.{Call, arrive, depart, update, reply}
 use Rattle.calls.specs.Packets.{Packet, Sized, bytesOf}
 use Rattle.calls.specs.Ring.{ring, slot}
 use Rattle.calls.proofs.Packets.{sized-bytes}
 use Rattle.calls.proofs.Ring.{leaves, length-listed}
-use Rattle.modem_guarantees.specs.Handed.{Queue, Request, askArrival, askDeparture, askTick, queued}
+use Rattle.modem_guarantees.specs.Handed.{Queue, queued}
 use Rattle.modem_guarantees.specs.Refusals.{Applies, rowsOf}
 use Rattle.modem_guarantees.proofs.Refusals.{calls-refused}
 

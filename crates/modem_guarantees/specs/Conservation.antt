@@ -15,7 +15,8 @@ use Rattle.pie.specs.declared.Verdict.the-variants.{Marked}
 use Rattle.ring.specs.Answer.{Answer, departed, made, refused, ticked, verdict}
 use Rattle.modem_flow.specs.declared.Settings.{Settings}
 use Rattle.modem_flow.specs.Fresh.{fresh}
-use Rattle.modem_guarantees.specs.Handed.{Request, Run, answerOf, queued, run}
+use Rattle.modem.specs.Asked.{Request}
+use Rattle.modem_guarantees.specs.Handed.{Run, answerOf, queued, run}
 
 abbrev pub isVerdict : Verdict → Answer → Bool
 isVerdict v (refused number) = false

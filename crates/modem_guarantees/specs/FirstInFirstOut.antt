@@ -6,7 +6,8 @@ use Prim.Native.Nat.{ℕ}
 use Rattle.ring.specs.Answer.{made}
 use Rattle.modem_flow.specs.declared.Settings.{Settings}
 use Rattle.modem_flow.specs.Fresh.{fresh}
-use Rattle.modem_guarantees.specs.Handed.{Request, Run, queued, run}
+use Rattle.modem.specs.Asked.{Request}
+use Rattle.modem_guarantees.specs.Handed.{Run, queued, run}
 
 abbrev pub InOrder : Run → Type 0
 InOrder r = r .admitted ≡ r .departed ++ queued (r .queue)

@@ -14,6 +14,7 @@ use Rattle.modem_flow.specs.declared.State.{State}
 use Rattle.modem_flow.specs.Answer.{Reply}
 use Rattle.modem_flow.specs.Arrival.{stored}
 use Rattle.modem_flow.specs.Fresh.{fresh}
+use Rattle.modem.specs.Asked.{Request, askArrival, askDeparture, askTick}
 use Rattle.modem.specs.Counts.{zeroRow}
 use Rattle.modem_guarantees.specs.Calls.{Call, arrive, depart, reply, update}
 
@@ -27,12 +28,6 @@ pub record Queue : Type 0 where
 -- the queued packets, head first
 abbrev pub queued : Queue → List Packet
 queued q = ring (q .state .first) (q .state .settings .slots) (q .handles) (q .sizes) (q .state .backlog .count)
-
--- a call as it is asked for: the flow's own row and tables are lent to it
-pub data Request : Type 0 where
-  askArrival : (clock handle size u : ℕ) → Request
-  askDeparture : (clock : ℕ) → Request
-  askTick : (clock credits : ℕ) → Request
 
 abbrev pub callOf : Queue → Request → Call
 callOf q (askArrival clock handle size u) = arrive (q .row) (q .handles) (q .sizes) clock handle size u

@@ -7,55 +7,23 @@ use lib.Dec.{eqb}
 use Rattle.calls.specs.Kind.{Kind}
 use Rattle.calls.specs.Parts.{Part, another, own}
 use Rattle.ring.specs.Answer.{Answer}
-use Rattle.modem_flow.specs.declared.Settings.{Settings}
-use Rattle.modem_flow.specs.declared.State.{State}
 use Rattle.modem_flow.specs.Answer.{Reply}
-use Rattle.modem_flow.specs.Arrival.{stored}
 use Rattle.modem_flow.specs.Fresh as one-flow
 use Rattle.modem.specs.Answer.{ModemReply}
-use Rattle.modem.specs.Calls.{arrival, departure, fresh, tick}
+use Rattle.modem.specs.Asked.{Asked, Flow, ask, flowAfter, modemReply, start}
 use Rattle.modem.specs.Counts.{rowOf}
-use Rattle.modem_guarantees.specs.Handed.{Queue, Request, askArrival, askDeparture, askTick, callOf, returned, rowAfter}
+use Rattle.modem_guarantees.specs.Handed.{Queue, callOf, returned, rowAfter}
 use Rattle.modem_guarantees.specs.Calls as flow-calls
-
--- the state of a flow, and its tables
-pub record Flow : Type 0 where
-  pub state : State
-  pub handles : List ℕ
-  pub sizes : List ℕ
 
 pub record Modem : Type 0 where
   pub flows : (flow : ℕ) → Flow
   pub counts : List (List ℕ)
-
--- what a flow is asked: to begin afresh, or anything else
-pub data Asked : Type 0 where
-  start : Settings → (clock : ℕ) → Asked
-  ask : Request → Asked
 
 pub record Call : Type 0 where
   pub flow : ℕ
   pub asked : Asked
 
 -- ── a call to the modem ──
-
-abbrev pub modemReply : Flow → (counts : List (List ℕ)) (flow : ℕ) → Asked → ModemReply
-modemReply f counts flow (start settings clock) = fresh counts flow settings clock
-modemReply f counts flow (ask (askArrival clock handle size u)) = arrival (f .state) counts flow (f .handles) (f .sizes) clock size u
-modemReply f counts flow (ask (askDeparture clock)) = departure (f .state) counts flow (f .handles) (f .sizes) clock
-modemReply f counts flow (ask (askTick clock credits)) = tick (f .state) counts flow clock credits
-
--- the flow that is returned: an admitted arrival writes to its tables
-abbrev pub flowAfter : Flow → Asked → ModemReply → Flow
-flowAfter f (start settings clock) r = record { state = r .state; handles = f .handles; sizes = f .sizes }
-flowAfter f (ask (askArrival clock handle size u)) r =
-    record {
-      state = r .state;
-      handles = stored (f .state) (r .answer) (f .handles) handle;
-      sizes = stored (f .state) (r .answer) (f .sizes) size;
-    }
-flowAfter f (ask (askDeparture clock)) r = record { state = r .state; handles = f .handles; sizes = f .sizes }
-flowAfter f (ask (askTick clock credits)) r = record { state = r .state; handles = f .handles; sizes = f .sizes }
 
 abbrev pub replyTo : Modem → Call → ModemReply
 replyTo m c = modemReply (m .flows (c .flow)) (m .counts) (c .flow) (c .asked)

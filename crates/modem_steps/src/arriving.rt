@@ -6,6 +6,8 @@ use docsis_pie::HIGH;
 use docsis_pie::LOW;
 use docsis_pie::SMALL_QUEUE;
 use docsis_pie::scaled;
+use modem_words::Code;
+use modem_words::Word;
 use modem_words::raise;
 use pie::LARGEST;
 use pie::LATEST;
@@ -36,13 +38,13 @@ fn stays_inactive(w: &mut [u64; 16], bytes: u64) -> bool
     ensures { λ r. ⌜ now (w .exit)
         ≡ pieWords (now (w .entry)) (cond r (pieOf (now (w .entry))) (noLongerInactive (pieOf (now (w .entry))))) ⌝ }
 {
-    let inactive = w[12] == Activity::INACTIVE.0;
+    let inactive = w[Word::ACTIVITY] == Activity::INACTIVE.0;
     if inactive {
-        let stays = 3 * bytes < w[1];
+        let stays = 3 * bytes < w[Word::BUFFER];
         if stays {
             return true;
         }
-        w[12] = Activity::QUIESCENT.0;
+        w[Word::ACTIVITY] = Activity::QUIESCENT.0;
     }
     false
 }
@@ -62,11 +64,11 @@ fn drop_early(w: &mut [u64; 16])
     requires { ⌜ length (now w) ≡ 16 ⌝ }
     ensures { λ _. ⌜ now (w .exit) ≡ pieWords (now (w .entry)) (afterDrop (pieOf (now (w .entry)))) ⌝ }
 {
-    let quiescent = w[12] == Activity::QUIESCENT.0;
-    w[8] = 0;
+    let quiescent = w[Word::ACTIVITY] == Activity::QUIESCENT.0;
+    w[Word::ACCUMULATED] = 0;
     if quiescent {
-        w[10] = FULL_ALLOWANCE;
-        w[12] = Activity::ACTIVE.0;
+        w[Word::ALLOWANCE] = FULL_ALLOWANCE;
+        w[Word::ACTIVITY] = Activity::ACTIVE.0;
     }
 }
 
@@ -80,22 +82,22 @@ fn draw(w: &mut [u64; 16], bytes: u64, size: u64, calls: &[u32], at: usize) -> u
         let d = drawnWith (summed pie part) (getD (now (w .entry)) 0 0) bytes part (getD (now (calls .entry)) (at + 4) 0) in
         (r ≡ placeOf (d .verdict)) × (now (w .exit) ≡ pieWords (now (w .entry)) (d .pie))) ⌝ }
 {
-    let p = w[7];
+    let p = w[Word::PROB];
     let part = scaled(Prob(p), Bytes(size)).0;
-    let sum = w[8] + part;
-    let lightly_loaded = (2 * w[9] < w[0]) & (5 * p < Prob::WHOLE.0);
+    let sum = w[Word::ACCUMULATED] + part;
+    let lightly_loaded = (2 * w[Word::OLD] < w[Word::TARGET]) & (5 * p < Prob::WHOLE.0);
     if lightly_loaded {
-        w[8] = limit(sum);
+        w[Word::ACCUMULATED] = limit(sum);
         return 0;
     }
     let low = sum < LOW;
     if low {
-        w[8] = sum;
+        w[Word::ACCUMULATED] = sum;
         return 0;
     }
     let small = bytes <= SMALL_QUEUE;
     if small {
-        w[8] = limit(sum);
+        w[Word::ACCUMULATED] = limit(sum);
         return 0;
     }
     let early = (HIGH <= sum) | (wide(calls[at + 4]) < part);
@@ -103,7 +105,7 @@ fn draw(w: &mut [u64; 16], bytes: u64, size: u64, calls: &[u32], at: usize) -> u
         drop_early(w);
         return 4;
     }
-    w[8] = sum;
+    w[Word::ACCUMULATED] = sum;
     0
 }
 
@@ -113,24 +115,24 @@ fn decide(w: &mut [u64; 16], size: u64, calls: &[u32], at: usize) -> usize
     ensures { λ r. ⌜ (let d = decisionOf (stateOf (now (w .entry))) size (getD (now (calls .entry)) (at + 4) 0) in
         (r ≡ placeOf (d .verdict)) × (now (w .exit) ≡ pieWords (now (w .entry)) (d .pie))) ⌝ }
 {
-    let bytes = w[15];
-    let bytes_full = w[1] < bytes + size;
+    let bytes = w[Word::BYTES];
+    let bytes_full = w[Word::BUFFER] < bytes + size;
     if bytes_full {
-        w[8] = 0;
+        w[Word::ACCUMULATED] = 0;
         return 2;
     }
-    let slots_full = w[14] == w[2];
+    let slots_full = w[Word::COUNT] == w[Word::SLOTS];
     if slots_full {
-        w[8] = 0;
+        w[Word::ACCUMULATED] = 0;
         return 3;
     }
-    let in_allowance = 0 < w[10];
+    let in_allowance = 0 < w[Word::ALLOWANCE];
     if in_allowance {
         return 0;
     }
-    let none = w[7] == 0;
+    let none = w[Word::PROB] == 0;
     if none {
-        w[8] = 0;
+        w[Word::ACCUMULATED] = 0;
         stays_inactive(w, bytes);
         return 0;
     }
@@ -164,24 +166,24 @@ pub fn arrive(
         × (now (handles .exit) ≡ stored s (a .answer) (now (handles .entry)) (getD (now (calls .entry)) (at + 2) 0))
         × (now (sizes .exit) ≡ stored s (a .answer) (now (sizes .entry)) size)) ⌝ }
 {
-    let wrong_clock = (clock < w[5]) | (LATEST < clock);
+    let wrong_clock = (clock < w[Word::CLOCK]) | (LATEST < clock);
     if wrong_clock {
-        return 104;
+        return Code::CLOCK;
     }
     let size = calls[at + 3];
     let bytes = wide(size);
     let wrong_size = (bytes == 0) | (LARGEST < bytes);
     if wrong_size {
-        return 107;
+        return Code::SIZE;
     }
     let v = decide(w, bytes, calls, at);
-    w[5] = clock;
+    w[Word::CLOCK] = clock;
     raise(counts, flow, v);
     let admits = v < 2;
     if admits {
-        let tail = tail_place(w[13], w[14], w[2]) as usize;
-        w[14] = w[14] + 1;
-        w[15] = w[15] + bytes;
+        let tail = tail_place(w[Word::FIRST], w[Word::COUNT], w[Word::SLOTS]) as usize;
+        w[Word::COUNT] = w[Word::COUNT] + 1;
+        w[Word::BYTES] = w[Word::BYTES] + bytes;
         handles[tail] = calls[at + 2];
         sizes[tail] = size;
     }

@@ -1,6 +1,8 @@
 // A departure of a flow whose record and tables fit.
 use bursts::wide;
 use bursts::word;
+use modem_words::Code;
+use modem_words::Word;
 use pie::Backlog;
 use pie::LATEST;
 use places::following;
@@ -23,17 +25,17 @@ pub fn depart(w: &mut [u64; 16], handles: &[u32], sizes: &[u32], clock: u64) -> 
         let a = departure (stateOf (now (w .entry))) row (now (handles .entry)) (now (sizes .entry)) clock in
         (r ≡ answerWord (a .answer)) × (now (w .exit) ≡ stateWords (a .state))) ⌝ }
 {
-    let wrong_clock = (clock < w[5]) | (LATEST < clock);
+    let wrong_clock = (clock < w[Word::CLOCK]) | (LATEST < clock);
     if wrong_clock {
-        return 104;
+        return Code::CLOCK;
     }
-    let count = w[14];
-    let bytes = w[15];
+    let count = w[Word::COUNT];
+    let bytes = w[Word::BYTES];
     let empty = count == 0;
     if empty {
-        return 106;
+        return Code::EMPTY;
     }
-    let first = w[13];
+    let first = w[Word::FIRST];
     let at = first as usize;
     let head = sizes[at];
     let size = wide(head);
@@ -43,13 +45,13 @@ pub fn depart(w: &mut [u64; 16], handles: &[u32], sizes: &[u32], clock: u64) -> 
     };
     let wrong = wrong_head(backlog, size);
     if wrong {
-        return 109;
+        return Code::HEAD;
     }
     let handle = handles[at];
-    let next = following(first, w[2]);
-    w[5] = clock;
-    w[13] = next;
-    w[14] = count - 1;
-    w[15] = bytes - size;
+    let next = following(first, w[Word::SLOTS]);
+    w[Word::CLOCK] = clock;
+    w[Word::FIRST] = next;
+    w[Word::COUNT] = count - 1;
+    w[Word::BYTES] = bytes - size;
     word(0, head, handle)
 }

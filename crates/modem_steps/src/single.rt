@@ -1,5 +1,6 @@
 // The calls over words as they are lent, tested or not: decoded, called and written back. Each is what its C entry does.
 use modem_flow::Outcome;
+use modem_words::Code;
 use modem_words::LAST_FLOW;
 use modem_words::decode;
 use modem_words::encode;
@@ -52,7 +53,7 @@ pub fn lent_arrival(
     let s = decode(*words);
     let unknown = LAST_FLOW < flow;
     if unknown {
-        return 110;
+        return Code::NO_FLOW;
     }
     let row = counts[flow as usize];
     let r = s.arrival(
@@ -69,7 +70,7 @@ pub fn lent_arrival(
     let refusal = outcome.refusal();
     let refused = 0 < refusal;
     if refused {
-        return 100 + refusal;
+        return Code::REFUSED + refusal;
     }
     write_arrival(words, state);
     let place = place_in(outcome);
@@ -97,7 +98,7 @@ pub fn lent_departure(
     let unknown = LAST_FLOW < flow;
     if unknown {
         *packet = [0, 0];
-        return 110;
+        return Code::NO_FLOW;
     }
     let row = counts[flow as usize];
     let r = s.departure(row, handles, sizes, Micros(clock));
@@ -109,7 +110,7 @@ pub fn lent_departure(
     let refusal = outcome.refusal();
     let refused = 0 < refusal;
     if refused {
-        return 100 + refusal;
+        return Code::REFUSED + refusal;
     }
     write_departure(words, state);
     0
@@ -130,7 +131,7 @@ pub fn lent_tick(
     let s = decode(*words);
     let unknown = LAST_FLOW < flow;
     if unknown {
-        return 110;
+        return Code::NO_FLOW;
     }
     let row = counts[flow as usize];
     let r = s.tick(row, Micros(clock), Bytes(credits as u64));
@@ -139,7 +140,7 @@ pub fn lent_tick(
     let refusal = outcome.refusal();
     let refused = 0 < refusal;
     if refused {
-        return 100 + refusal;
+        return Code::REFUSED + refusal;
     }
     encode(words, state);
     0

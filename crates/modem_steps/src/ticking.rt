@@ -6,6 +6,8 @@ use docsis_pie::delay;
 use docsis_pie::next_allowance;
 use docsis_pie::next_prob;
 use docsis_pie::quiet;
+use modem_words::Code;
+use modem_words::Word;
 use pie::LATEST;
 use units::Bytes;
 use units::BytesPerSecond;
@@ -33,11 +35,11 @@ fn wait(w: &mut [u64; 16], reset: u64)
 {
     let over = RESET_TIMEOUT < reset;
     if over {
-        w[11] = 0;
-        w[12] = Activity::INACTIVE.0;
+        w[Word::RESET] = 0;
+        w[Word::ACTIVITY] = Activity::INACTIVE.0;
         return;
     }
-    w[11] = reset;
+    w[Word::RESET] = reset;
 }
 
 // Rules 10 and 11.
@@ -45,22 +47,22 @@ fn follow(w: &mut [u64; 16], quiet: bool)
     requires { ⌜ (length (now w) ≡ 16) × (getD (now w) 11 0 ≤ resetTimeout) ⌝ }
     ensures { λ _. ⌜ now (w .exit) ≡ phaseWords (now (w .entry)) (phaseAfter quiet (pieOf (now (w .entry)) .phase)) ⌝ }
 {
-    let was_active = w[12] == Activity::ACTIVE.0;
+    let was_active = w[Word::ACTIVITY] == Activity::ACTIVE.0;
     if was_active {
         if quiet {
-            w[11] = 0;
-            w[12] = Activity::QUIESCENT.0;
+            w[Word::RESET] = 0;
+            w[Word::ACTIVITY] = Activity::QUIESCENT.0;
         }
         return;
     }
-    let was_quiescent = w[12] == Activity::QUIESCENT.0;
+    let was_quiescent = w[Word::ACTIVITY] == Activity::QUIESCENT.0;
     if was_quiescent {
         if quiet {
-            let reset = w[11] + PERIOD;
+            let reset = w[Word::RESET] + PERIOD;
             wait(w, reset);
             return;
         }
-        w[11] = 0;
+        w[Word::RESET] = 0;
     }
 }
 
@@ -72,30 +74,30 @@ pub fn tick(w: &mut [u64; 16], clock: u64, credits: u64) -> u64
         let a = tick (stateOf (now (w .entry))) row clock credits in
         (r ≡ codeOf (a .answer)) × (now (w .exit) ≡ stateWords (a .state))) ⌝ }
 {
-    let wrong_clock = (clock < w[5]) | (LATEST < clock);
+    let wrong_clock = (clock < w[Word::CLOCK]) | (LATEST < clock);
     if wrong_clock {
-        return 104;
+        return Code::CLOCK;
     }
-    let too_soon = clock < w[6] + PERIOD;
+    let too_soon = clock < w[Word::LAST] + PERIOD;
     if too_soon {
-        return 105;
+        return Code::TOO_SOON;
     }
-    let target = Micros(w[0]);
-    let old = Micros(w[9]);
-    let before = Micros(w[10]);
+    let target = Micros(w[Word::TARGET]);
+    let old = Micros(w[Word::OLD]);
+    let before = Micros(w[Word::ALLOWANCE]);
     let now = delay(
-        Bytes(w[15]),
+        Bytes(w[Word::BYTES]),
         Bytes(credits),
-        BytesPerSecond(w[3]),
-        BytesPerSecond(w[4]),
+        BytesPerSecond(w[Word::PEAK]),
+        BytesPerSecond(w[Word::SUSTAINED]),
     );
-    let prob = next_prob(Prob(w[7]), before, now, old, target);
+    let prob = next_prob(Prob(w[Word::PROB]), before, now, old, target);
     let allowance = next_allowance(before);
-    w[5] = clock;
-    w[6] = clock;
-    w[7] = prob.0;
-    w[9] = now.0;
-    w[10] = allowance.0;
+    w[Word::CLOCK] = clock;
+    w[Word::LAST] = clock;
+    w[Word::PROB] = prob.0;
+    w[Word::OLD] = now.0;
+    w[Word::ALLOWANCE] = allowance.0;
     follow(w, quiet(prob, allowance, now, old, target));
     0
 }

@@ -1,4 +1,5 @@
 // A flow's record as sixteen words, in the order of struct obikuteru_modem_state.
+use crate::numbering::Word;
 use docsis_pie::Activity;
 use docsis_pie::DocsisPie;
 use docsis_pie::Phase;
@@ -18,34 +19,34 @@ pub fn decode(w: [u64; 16]) -> State
     ensures { λ r. ⌜ (r ≡ stateOf w) × (length w ≡ 16) ⌝ }
 {
     let settings = Settings {
-        target: Micros(w[0]),
-        buffer: Bytes(w[1]),
-        slots: w[2],
-        peak: BytesPerSecond(w[3]),
-        sustained: BytesPerSecond(w[4]),
+        target: Micros(w[Word::TARGET]),
+        buffer: Bytes(w[Word::BUFFER]),
+        slots: w[Word::SLOTS],
+        peak: BytesPerSecond(w[Word::PEAK]),
+        sustained: BytesPerSecond(w[Word::SUSTAINED]),
     };
     let phase = Phase {
-        activity: Activity(w[12]),
-        reset: Micros(w[11]),
+        activity: Activity(w[Word::ACTIVITY]),
+        reset: Micros(w[Word::RESET]),
     };
     let pie = DocsisPie {
-        prob: Prob(w[7]),
-        accumulated: Prob(w[8]),
-        old: Micros(w[9]),
-        allowance: Micros(w[10]),
+        prob: Prob(w[Word::PROB]),
+        accumulated: Prob(w[Word::ACCUMULATED]),
+        old: Micros(w[Word::OLD]),
+        allowance: Micros(w[Word::ALLOWANCE]),
         phase,
     };
     let backlog = Backlog {
-        count: w[14],
-        bytes: Bytes(w[15]),
+        count: w[Word::COUNT],
+        bytes: Bytes(w[Word::BYTES]),
     };
     State {
         settings,
-        clock: Micros(w[5]),
-        last: Micros(w[6]),
+        clock: Micros(w[Word::CLOCK]),
+        last: Micros(w[Word::LAST]),
         pie,
         backlog,
-        first: w[13],
+        first: w[Word::FIRST],
     }
 }
 
@@ -77,20 +78,20 @@ pub fn encode(w: &mut [u64; 16], s: State)
 pub fn write_arrival(w: &mut [u64; 16], s: State)
     ensures { λ _. ⌜ now (w .exit) ≡ arrivalWords (now (w .entry)) s ⌝ }
 {
-    w[5] = s.clock.0;
-    w[8] = s.pie.accumulated.0;
-    w[10] = s.pie.allowance.0;
-    w[12] = s.pie.phase.activity.0;
-    w[14] = s.backlog.count;
-    w[15] = s.backlog.bytes.0;
+    w[Word::CLOCK] = s.clock.0;
+    w[Word::ACCUMULATED] = s.pie.accumulated.0;
+    w[Word::ALLOWANCE] = s.pie.allowance.0;
+    w[Word::ACTIVITY] = s.pie.phase.activity.0;
+    w[Word::COUNT] = s.backlog.count;
+    w[Word::BYTES] = s.backlog.bytes.0;
 }
 
 // The words that a departure changes.
 pub fn write_departure(w: &mut [u64; 16], s: State)
     ensures { λ _. ⌜ now (w .exit) ≡ departureWords (now (w .entry)) s ⌝ }
 {
-    w[5] = s.clock.0;
-    w[13] = s.first;
-    w[14] = s.backlog.count;
-    w[15] = s.backlog.bytes.0;
+    w[Word::CLOCK] = s.clock.0;
+    w[Word::FIRST] = s.first;
+    w[Word::COUNT] = s.backlog.count;
+    w[Word::BYTES] = s.backlog.bytes.0;
 }
