@@ -2,7 +2,7 @@
 use mathlib.Core.Path.{_≡_, refl, ap, sym, _∙_}
 use mathlib.Core.Bool.{Bool, true, false, cond}
 use mathlib.Core.List.{List, [], _∷_, _++_}
-use Prim.Native.Nat.{ℕ, _+_, _-_, _≤_, _<_}
+use Prim.Native.Nat.{ℕ, _+_, _-_, _<_}
 use native.Mathlib.Omega.{arith}
 use lib.Dec.{eqb, ltb}
 use lib.ListN.{getD}
@@ -13,7 +13,7 @@ use Rattle.schedule.specs.Ring.{Schedule, deficitOf, oldList, ringOf, sc
 use Rattle.schedule.specs.TwoLists.{lists, zeroDeficit}
 use Rattle.schedule.specs.WellFormed.{areFlows, listsFit}
 use Rattle.schedule.specs.declared.Lists.{Lists}
-use Rattle.schedule.proofs.Chosen.{GoesTo, ends-at, goes-on}
+use Rattle.schedule.proofs.Chosen.{ends-at, goes-on}
 use Rattle.schedule.proofs.Facts.{ListFacts, facts, lists-fit}
 use Rattle.schedule.proofs.Flows.{flows-first}
 use Rattle.schedule.proofs.Looks.{look-new, look-none, look-old, othersOf, read-left, read-new, restOf}

@@ -2,14 +2,13 @@
 use mathlib.Core.Path.{_≡_, refl, ap, sym, _∙_}
 use mathlib.Core.Bool.{Bool, true, false, cond}
 use mathlib.Core.List.{List, [], _∷_, _++_}
-use Prim.Native.Nat.{ℕ, zero, suc, _+_, _-_, _≤_, _<_}
+use Prim.Native.Nat.{ℕ, suc, _+_, _-_, _≤_, _<_}
 use native.Mathlib.Omega.{arith}
 use lib.Dec.{eqb, ltb}
-use lib.ListN.{getD, length, length-set, set}
+use lib.ListN.{length, length-set, set}
 use borrow.Author.Tests.{eqb-true, eqb-false, ltb-true, ltb-false}
 use Rattle.schedule.specs.Choosing.{
   Look,
-  Move,
   atNew,
   atOld,
   hasNone,
@@ -28,8 +27,7 @@ use Rattle.schedule.specs.Choosing.{
 use Rattle.schedule.specs.InRing.{Holds, Ring64}
 use Rattle.schedule.specs.Passing.{Found, afterLook, newHead, oldHead}
 use Rattle.schedule.specs.Ring.{Schedule, movedIn, newList, oldList, place, ringOf, scheduleOf, turned, twoLists}
-use Rattle.schedule.specs.TwoLists.{TwoLists, lists}
-use Rattle.schedule.specs.WellFormed.{listsFit}
+use Rattle.schedule.specs.TwoLists.{lists}
 use Rattle.schedule.proofs.Facts.{ListFacts, facts, lists-fit}
 use Rattle.schedule.proofs.Moves.{above-zero}
 use Rattle.schedule.proofs.Ring.{place-lt, place-next, ring-end, ring-head, ring-more, ring-none}

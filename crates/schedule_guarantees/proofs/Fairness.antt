@@ -11,7 +11,7 @@ use lib.Seq.{getD-set-same, getD-set-other}
 use borrow.Author.Tests.{eqb-true, eqb-false, not-false}
 use Rattle.schedule.specs.Choosing.{Choice, Look, choose, chooseIn, look, mostLooks, moves, nobody, serves}
 use Rattle.schedule.specs.Entering.{entered, isListed}
-use Rattle.schedule.specs.TwoLists.{TwoLists, deficitOf, listed, lists, occurs, quantum, zeroDeficit}
+use Rattle.schedule.specs.TwoLists.{TwoLists, deficitOf, listed, lists, quantum, zeroDeficit}
 use Rattle.schedule.proofs.Occurs.{occurs-end, occurs-other}
 use Rattle.schedule.specs.Choosing as choosing
 use Rattle.schedule_guarantees.specs.ChoosingEnds.{MayBeServed}

@@ -1,6 +1,6 @@
 -- Choosing, an arrival and a departure keep the lists well formed.
 use mathlib.Core.Path.{_≡_, refl, ap, sym, _∙_}
-use mathlib.Core.Bool.{Bool, true, false, cond, not}
+use mathlib.Core.Bool.{Bool, true, false, cond}
 use mathlib.Core.List.{List, [], _∷_, _++_}
 use Prim.Native.Nat.{ℕ, zero, suc, _+_, _-_, _≤_, _<_}
 use native.Mathlib.Omega.{arith}
@@ -9,7 +9,7 @@ use lib.ListN.{getD, length-set, set}
 use lib.Seq.{getD-set-same, getD-set-other}
 use borrow.Author.Tests.{eqb-true, eqb-false, ltb-true, ltb-false, not-true, not-false}
 use Rattle.schedule.specs.Choosing.{Look, after, charged, choose, chooseIn, look, mostLooks, moves, nobody, serves}
-use Rattle.schedule.specs.Entering.{arrived, entered, isListed}
+use Rattle.schedule.specs.Entering.{entered, isListed}
 use Rattle.schedule.specs.TwoLists.{TwoLists, deficitOf, listed, lists, occurs, quantum, zeroDeficit}
 use Rattle.schedule.proofs.Occurs.{occurs-end, occurs-other, occurs-self}
 use Rattle.schedule.proofs.Well.{Facts, facts-of, highest, less, well-of}

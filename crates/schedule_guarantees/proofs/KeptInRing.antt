@@ -1,9 +1,9 @@
 -- What keeps the lists well formed keeps the ring so, since it stands for them.
-use mathlib.Core.Path.{_≡_, refl, ap, sym, _∙_}
+use mathlib.Core.Path.{_≡_, refl}
 use mathlib.Core.Bool.{Bool, true, false, cond, not}
 use mathlib.Core.List.{List}
-use Prim.Native.Nat.{ℕ, _+_, _-_, _<_}
-use lib.ListN.{getD, length, length-set, set}
+use Prim.Native.Nat.{ℕ, _+_, _-_}
+use lib.ListN.{getD, set}
 use Rattle.schedule.specs.Choosing.{choose, mostLooks}
 use Rattle.schedule.specs.Entering.{entered, isListed}
 use Rattle.schedule.specs.InRing.{Holds, Ring64}

@@ -8,9 +8,8 @@ use lib.Dec.{eqb}
 use lib.ListN.{getD, length, set}
 use lib.Seq.{getD-set-same, getD-set-other}
 use borrow.Author.Tests.{eq-eqb, eqb-true, eqb-false, le-ltb, lt-ltb, ltb-false, ne-eqb}
-use Rattle.schedule.specs.Choosing.{hasNone, moves, owes, raised}
+use Rattle.schedule.specs.Choosing.{hasNone, owes, raised}
 use Rattle.schedule.specs.TwoLists.{TwoLists, listed, occurs, quantum, zeroDeficit}
-use Rattle.schedule.proofs.Well.{less}
 
 -- ── a weight for each flow of a list ──
 

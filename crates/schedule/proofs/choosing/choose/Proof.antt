@@ -6,7 +6,6 @@ use native.Mathlib.Omega.{arith}
 use borrow.Author.Needs.{needs}
 use lib.ListN.{length}
 use Rattle.schedule.specs.Choosing.{chooseIn, look}
-use Rattle.schedule.specs.InRing.{Ring64}
 use Rattle.schedule.specs.Passing.{Found, found, foundIn}
 use Rattle.schedule.specs.Ring.{Schedule, chosenIn, ringOf, scheduleOf, twoLists}
 use Rattle.schedule.specs.WellFormed.{areFlows, listsFit}

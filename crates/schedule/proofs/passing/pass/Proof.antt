@@ -10,7 +10,6 @@ use lib.ListN.{getD}
 use Rattle.schedule.specs.Choosing.{choose}
 use Rattle.schedule.specs.Passing.{foundBy, foundIn}
 use Rattle.schedule.specs.Ring.{Schedule, ringOf, scheduleOf, twoLists}
-use Rattle.schedule.specs.TwoLists.{zeroDeficit}
 use Rattle.schedule.specs.WellFormed.{areFlows, listsFit}
 use Rattle.schedule.specs.declared.Lists.{Lists}
 use Rattle.schedule.proofs.Chosen.{chosen-all}
