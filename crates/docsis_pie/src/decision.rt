@@ -13,11 +13,28 @@ use units::Bytes;
 use units::Micros;
 use units::Prob;
 ghost use mathlib.Core.Path.{_≡_};
-ghost use Prim.Native.Nat.{_≤_, _^_};
-ghost use Rattle.units.specs.Kinds.{prob};
+ghost use mathlib.Core.Bool.{_&&_};
+ghost use Prim.Native.Nat.{_+_, _*_, _≤_, _^_, min};
+ghost use lib.Dec.{ltb};
+ghost use Rattle.units.specs.Kinds.{prob, whole};
 ghost use Rattle.pie.specs.Constants.{largest, longest};
 ghost use Rattle.docsis_pie.specs.Constants.{high, low, mostProb};
-ghost use Rattle.docsis_pie.specs.DropDecision.{afterDrop, cleared, decided, drawnWith, scaledOf, summed, noLongerInactive};
+ghost use Rattle.docsis_pie.specs.DropDecision.{afterDrop, cleared, decided, drawnWith, early, isSmall, scaledOf, summed, noLongerInactive};
+
+// Rule 3.
+pub fn in_allowance(allowance: Micros) -> bool
+    ensures { λ r. ⌜ r ≡ ltb 0 (allowance .0) ⌝ }
+{
+    0 < allowance.0
+}
+
+// Rule 5, of the bytes: less than a third of the buffer.
+pub fn below_third(bytes: Bytes, buffer: Bytes) -> bool
+    requires { ⌜ bytes .0 ≤ 2 ^ 24 ⌝ }
+    ensures { λ r. ⌜ r ≡ ltb (3 * bytes .0) (buffer .0) ⌝ }
+{
+    3 * bytes.0 < buffer.0
+}
 
 // Rule 7.
 pub fn scaled(p: Prob, size: Bytes) -> Prob
@@ -29,6 +46,53 @@ pub fn scaled(p: Prob, size: Bytes) -> Prob
         return Prob(n);
     }
     Prob(LOW)
+}
+
+// Rule 8: the sum, before its limit.
+pub fn sum(accumulated: Prob, scaled: Prob) -> Prob
+    requires { ⌜ (accumulated .0 ≤ high) × (scaled .0 ≤ low) ⌝ }
+    ensures { λ r. ⌜ r ≡ prob (accumulated .0 + scaled .0) ⌝ }
+{
+    Prob(accumulated.0 + scaled.0)
+}
+
+// Rule 8: the limit of the sum.
+pub fn limit_sum(sum: Prob) -> Prob
+    ensures { λ r. ⌜ r ≡ prob (min (sum .0) high) ⌝ }
+{
+    if sum.0 < HIGH {
+        return sum;
+    }
+    Prob(HIGH)
+}
+
+// Rule 9.
+pub fn lightly_loaded(p: Prob, old: Micros, target: Micros) -> bool
+    requires { ⌜ (p .0 ≤ mostProb) × (old .0 ≤ longest) ⌝ }
+    ensures { λ r. ⌜ r ≡ (ltb (2 * old .0) (target .0) && ltb (5 * p .0) whole) ⌝ }
+{
+    (2 * old.0 < target.0) & (5 * p.0 < Prob::WHOLE.0)
+}
+
+// Rule 10.
+pub fn small(bytes: Bytes) -> bool
+    ensures { λ r. ⌜ r ≡ isSmall (bytes .0) ⌝ }
+{
+    bytes.0 <= SMALL_QUEUE
+}
+
+// Rule 11.
+pub fn is_low(sum: Prob) -> bool
+    ensures { λ r. ⌜ r ≡ ltb (sum .0) low ⌝ }
+{
+    sum.0 < LOW
+}
+
+// Rule 13.
+pub fn early(scaled: Prob, u: u32) -> bool
+    ensures { λ r. ⌜ r ≡ early (scaled .0) u ⌝ }
+{
+    (u as u64) < scaled.0
 }
 
 impl DocsisPie {
@@ -67,15 +131,9 @@ impl DocsisPie {
         requires { ⌜ (self .accumulated .0 ≤ high) × (scaled .0 ≤ low) ⌝ }
         ensures { λ r. ⌜ r ≡ summed self (scaled .0) ⌝ }
     {
-        let sum = self.accumulated.0 + scaled.0;
-        if sum < HIGH {
-            return DocsisPie {
-                accumulated: Prob(sum),
-                ..self
-            };
-        }
+        let accumulated = limit_sum(sum(self.accumulated, scaled));
         DocsisPie {
-            accumulated: Prob(HIGH),
+            accumulated,
             ..self
         }
     }
@@ -113,20 +171,20 @@ impl DocsisPie {
             verdict: Verdict::Enqueued,
             pie: self,
         };
-        let lightly_loaded = (2 * self.old.0 < target.0) & (5 * self.prob.0 < Prob::WHOLE.0);
-        if lightly_loaded {
+        let light = lightly_loaded(self.prob, self.old, target);
+        if light {
             return spared;
         }
-        let small = bytes.0 <= SMALL_QUEUE;
-        if small {
+        let little = small(bytes);
+        if little {
             return spared;
         }
-        let low = self.accumulated.0 < LOW;
+        let low = is_low(self.accumulated);
         if low {
             return spared;
         }
-        let early = (self.accumulated.0 == HIGH) | ((u as u64) < scaled.0);
-        if early {
+        let drops = (self.accumulated.0 == HIGH) | early(scaled, u);
+        if drops {
             let pie = self.drop_early();
             return Decided {
                 verdict: Verdict::DroppedEarly,
@@ -142,15 +200,15 @@ impl DocsisPie {
         requires { ⌜ (bytes .0 ≤ 2 ^ 24) × (size .0 ≤ largest) ⌝ }
         ensures { λ r. ⌜ r ≡ decided self (target .0) (buffer .0) (bytes .0) (size .0) u ⌝ }
     {
-        let in_allowance = 0 < self.allowance.0;
-        if in_allowance {
+        let burst = in_allowance(self.allowance);
+        if burst {
             return Decided {
                 verdict: Verdict::Enqueued,
                 pie: self,
             };
         }
         let start = self.clear();
-        let stays = (self.phase.activity.0 == Activity::INACTIVE.0) & (3 * bytes.0 < buffer.0);
+        let stays = (self.phase.activity.0 == Activity::INACTIVE.0) & below_third(bytes, buffer);
         if stays {
             return Decided {
                 verdict: Verdict::Enqueued,
@@ -159,7 +217,7 @@ impl DocsisPie {
         }
         let part = scaled(self.prob, size);
         let started = start.become_quiescent();
-        let sum = started.add(part);
-        sum.draw(target, bytes, part, u)
+        let added = started.add(part);
+        added.draw(target, bytes, part, u)
     }
 }

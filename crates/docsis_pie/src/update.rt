@@ -12,6 +12,7 @@ use units::Micros;
 use units::Prob;
 ghost use mathlib.Core.Path.{_≡_};
 ghost use Prim.Native.Nat.{_≤_, _^_};
+ghost use lib.Dec.{ltb};
 ghost use Rattle.units.specs.Kinds.{micros};
 ghost use Rattle.pie.specs.Constants.{longest};
 ghost use Rattle.docsis_pie.specs.Constants.{mostProb, resetTimeout};
@@ -35,11 +36,18 @@ pub fn quiet(p: Prob, allowance: Micros, delay: Micros, old: Micros, target: Mic
     (p.0 == 0) & (allowance.0 == 0) & (2 * delay.0 < target.0) & (2 * old.0 < target.0)
 }
 
+// Rule 11: a flow that has been quiet for so long becomes inactive.
+pub fn timed_out(reset: Micros) -> bool
+    ensures { λ r. ⌜ r ≡ ltb resetTimeout (reset .0) ⌝ }
+{
+    RESET_TIMEOUT < reset.0
+}
+
 // Rule 11: a quiescent flow that has been quiet for so long.
 fn wait(reset: u64) -> Phase
     ensures { λ r. ⌜ r ≡ waited reset ⌝ }
 {
-    let over = RESET_TIMEOUT < reset;
+    let over = timed_out(Micros(reset));
     if over {
         return Phase {
             activity: Activity::INACTIVE,

@@ -3,9 +3,15 @@ use bursts::wide;
 use docsis_pie::Activity;
 use docsis_pie::FULL_ALLOWANCE;
 use docsis_pie::HIGH;
-use docsis_pie::LOW;
-use docsis_pie::SMALL_QUEUE;
+use docsis_pie::below_third;
+use docsis_pie::early;
+use docsis_pie::in_allowance;
+use docsis_pie::is_low;
+use docsis_pie::lightly_loaded;
+use docsis_pie::limit_sum;
 use docsis_pie::scaled;
+use docsis_pie::small;
+use docsis_pie::sum;
 use modem_words::Code;
 use modem_words::Word;
 use modem_words::raise;
@@ -13,10 +19,11 @@ use pie::LARGEST;
 use pie::LATEST;
 use places::tail_place;
 use units::Bytes;
+use units::Micros;
 use units::Prob;
 ghost use mathlib.Core.Path.{_≡_};
 ghost use mathlib.Core.Bool.{cond, true};
-ghost use Prim.Native.Nat.{_+_, _≤_, _<_, _^_, min};
+ghost use Prim.Native.Nat.{_+_, _≤_, _<_, _^_};
 ghost use lib.ListN.{getD, length};
 ghost use Rattle.pie.specs.Constants.{largest, longest};
 ghost use Rattle.pie.specs.Verdicts.{placeOf};
@@ -40,23 +47,13 @@ fn stays_inactive(w: &mut [u64; 16], bytes: u64) -> bool
 {
     let inactive = w[Word::ACTIVITY] == Activity::INACTIVE.0;
     if inactive {
-        let stays = 3 * bytes < w[Word::BUFFER];
+        let stays = below_third(Bytes(bytes), Bytes(w[Word::BUFFER]));
         if stays {
             return true;
         }
         w[Word::ACTIVITY] = Activity::QUIESCENT.0;
     }
     false
-}
-
-// Rule 8.
-fn limit(sum: u64) -> u64
-    ensures { λ r. ⌜ r ≡ min sum high ⌝ }
-{
-    if sum < HIGH {
-        return sum;
-    }
-    HIGH
 }
 
 // Rule 15.
@@ -82,30 +79,30 @@ fn draw(w: &mut [u64; 16], bytes: u64, size: u64, calls: &[u32], at: usize) -> u
         let d = drawnWith (summed pie part) (getD (now (w .entry)) 0 0) bytes part (getD (now (calls .entry)) (at + 4) 0) in
         (r ≡ placeOf (d .verdict)) × (now (w .exit) ≡ pieWords (now (w .entry)) (d .pie))) ⌝ }
 {
-    let p = w[Word::PROB];
-    let part = scaled(Prob(p), Bytes(size)).0;
-    let sum = w[Word::ACCUMULATED] + part;
-    let lightly_loaded = (2 * w[Word::OLD] < w[Word::TARGET]) & (5 * p < Prob::WHOLE.0);
-    if lightly_loaded {
-        w[Word::ACCUMULATED] = limit(sum);
+    let p = Prob(w[Word::PROB]);
+    let part = scaled(p, Bytes(size));
+    let total = sum(Prob(w[Word::ACCUMULATED]), part);
+    let light = lightly_loaded(p, Micros(w[Word::OLD]), Micros(w[Word::TARGET]));
+    if light {
+        w[Word::ACCUMULATED] = limit_sum(total).0;
         return 0;
     }
-    let low = sum < LOW;
+    let low = is_low(total);
     if low {
-        w[Word::ACCUMULATED] = sum;
+        w[Word::ACCUMULATED] = total.0;
         return 0;
     }
-    let small = bytes <= SMALL_QUEUE;
-    if small {
-        w[Word::ACCUMULATED] = limit(sum);
+    let little = small(Bytes(bytes));
+    if little {
+        w[Word::ACCUMULATED] = limit_sum(total).0;
         return 0;
     }
-    let early = (HIGH <= sum) | (wide(calls[at + 4]) < part);
-    if early {
+    let drops = (HIGH <= total.0) | early(part, calls[at + 4]);
+    if drops {
         drop_early(w);
         return 4;
     }
-    w[Word::ACCUMULATED] = sum;
+    w[Word::ACCUMULATED] = total.0;
     0
 }
 
@@ -126,8 +123,8 @@ fn decide(w: &mut [u64; 16], size: u64, calls: &[u32], at: usize) -> usize
         w[Word::ACCUMULATED] = 0;
         return 3;
     }
-    let in_allowance = 0 < w[Word::ALLOWANCE];
-    if in_allowance {
+    let burst = in_allowance(Micros(w[Word::ALLOWANCE]));
+    if burst {
         return 0;
     }
     let none = w[Word::PROB] == 0;

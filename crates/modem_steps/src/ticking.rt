@@ -1,11 +1,11 @@
 // A tick of a flow whose record is formed.
 use docsis_pie::Activity;
 use docsis_pie::PERIOD;
-use docsis_pie::RESET_TIMEOUT;
 use docsis_pie::delay;
 use docsis_pie::next_allowance;
 use docsis_pie::next_prob;
 use docsis_pie::quiet;
+use docsis_pie::timed_out;
 use modem_words::Code;
 use modem_words::Word;
 use pie::LATEST;
@@ -33,7 +33,7 @@ fn wait(w: &mut [u64; 16], reset: u64)
     requires { ⌜ (length (now w) ≡ 16) × (getD (now w) 12 0 ≡ quiescent) ⌝ }
     ensures { λ _. ⌜ now (w .exit) ≡ phaseWords (now (w .entry)) (waited reset) ⌝ }
 {
-    let over = RESET_TIMEOUT < reset;
+    let over = timed_out(Micros(reset));
     if over {
         w[Word::RESET] = 0;
         w[Word::ACTIVITY] = Activity::INACTIVE.0;

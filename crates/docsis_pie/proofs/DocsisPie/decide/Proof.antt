@@ -1,6 +1,7 @@
 -- `DocsisPie::decide`: the rules one after the other.
 use borrow.Author.Needs.{needs}
-use mathlib.Core.Path.{_≡_, refl}
+use mathlib.Core.Path.{_≡_, refl, sym, _∙_}
+use mathlib.Core.Bool.{false}
 use Prim.Native.Nat.{_≤_}
 use native.Mathlib.Omega.{arith}
 use lib.Dec.{eqb}
@@ -9,7 +10,7 @@ use Rattle.units.specs.declared.Prob.{Prob}
 use Rattle.laws.proofs.Choice.{either}
 use Rattle.pie.specs.Constants.{longest}
 use Rattle.docsis_pie.specs.Constants.{high, low, mostProb, quiescent}
-use Rattle.docsis_pie.specs.DropDecision.{cleared, decided, isInactive, scaledOf, summed, withAccumulated, withActivity, noLongerInactive}
+use Rattle.docsis_pie.specs.DropDecision.{cleared, decided, inAllowance, isInactive, scaledOf, summed, withAccumulated, withActivity, noLongerInactive}
 use Rattle.docsis_pie.specs.declared.DocsisPie.{DocsisPie}
 use Rattle.docsis_pie.proofs.Ranges.{scaled-le}
 use Rattle.docsis_pie.proofs.DocsisPie.decide.Statement.{statement}
@@ -38,28 +39,36 @@ start-fits c = record { prob-high = c .pre .0 .0; old-high = c .pre .0 .1; accum
 
 started-fits : (c : tie.After-become-quiescent) → Fits (c .become-quiescent .result)
 started-fits c =
-    let k = c .before .before .before .before .before .before .before in
+    let k = c .before .before .before .before .before .before in
     let s = k .before .before .before in
     rw (c .become-quiescent .ensures, k .clear .ensures) (noLongerInactive-fits _ (cleared-fits _ (start-fits s)))
 
 part-le : (c : tie.After-scaled) → c .scaled .result .0 ≤ low
 part-le c = rw (c .scaled .ensures) (scaled-le _ _)
 
+in-allowance-requires : tie.Need-in-allowance-requires
+in-allowance-requires c κs = search needs
+
 returns : tie.Need-returns
 unfolding decided
-returns c = rw (c .if1 .taken)
+returns c = rw (sym (c .before .in-allowance .ensures) ∙ c .if1 .taken)
 
 clear-requires : tie.Need-clear-requires
 clear-requires c κs = search needs
 
-mul-stays : tie.Need-mul-stays
-mul-stays c = search needs
+below-third-requires : tie.Need-below-third-requires
+below-third-requires c κs = search needs
+
+-- past rule 3
+past : (c : tie.After-clear) → inAllowance (c .before .before .before .args .self) ≡ false
+past c = sym (c .before .before .in-allowance .ensures) ∙ c .before .if1 .left
 
 returns-2 : tie.Need-returns-2
 unfolding decided
 returns-2 c =
-    let k = c .before .before .before .before .before in
-    rw (k .before .if1 .left, c .if2 .taken, k .clear .ensures)
+    let k = c .before .before .before .before in
+    let stays = rw (c .before .below-third .ensures) at (c .if2 .taken) in
+    rw (past k, stays, k .clear .ensures)
 
 scaled-requires : tie.Need-scaled-requires
 scaled-requires c κs = search needs
@@ -81,16 +90,18 @@ returns-3 c =
     let w = a .before in
     let p = w .before in
     let e2 = p .before in
-    let k = e2 .before .before .before .before .before in
-    rw (k .before .if1 .left, e2 .if2 .left, c .draw .ensures, a .add .ensures, w .become-quiescent .ensures, p .scaled .ensures, k .clear .ensures)
+    let k = e2 .before .before .before .before in
+    let goes = rw (e2 .before .below-third .ensures) at (e2 .if2 .left) in
+    rw (past k, goes, c .draw .ensures, a .add .ensures, w .become-quiescent .ensures, p .scaled .ensures, k .clear .ensures)
 
 pub decide-spec : {M : Type 1} → statement M
 decide-spec =
     tie.close
     (tie.spec
+    in-allowance-requires
     returns
     clear-requires
-    mul-stays
+    below-third-requires
     returns-2
     scaled-requires
     become-quiescent-requires

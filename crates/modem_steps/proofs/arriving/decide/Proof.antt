@@ -2,9 +2,11 @@
 use borrow.Author.Needs.{needs}
 use Rattle.modem_steps.proofs.arriving.decide.Statement.{statement}
 use Rattle.modem_steps.proofs.arriving.decide.Tie as tie
-use mathlib.Core.Path.{_∙_}
+use mathlib.Core.Path.{_≡_, sym, _∙_}
+use mathlib.Core.Bool.{false}
 use Prim.Native.Nat.{ℕ, _+_}
 use native.Mathlib.Omega.{arith}
+use lib.Dec.{ltb}
 use lib.ListN.{getD, length-set}
 use denote.Ref.{now}
 use Rattle.modem_flow.proofs.Facts.{Facts, facts}
@@ -45,13 +47,20 @@ element-write-w-2 c = search needs
 returns-2 : tie.Need-returns-2
 returns-2 c = let a = c .before .before .before .before .before .before .before in slots-decide (now (a .args .w)) (a .pre .0) (a .args .size) (uAt a) (c .before .before .before .if1 .left) (c .if2 .taken)
 
-element-copy-out-in-allowance : tie.Need-element-copy-out-in-allowance
-element-copy-out-in-allowance c = search needs
+element-copy-out-t16 : tie.Need-element-copy-out-t16
+element-copy-out-t16 c = search needs
+
+in-allowance-requires : tie.Need-in-allowance-requires
+in-allowance-requires c κs = search needs
+
+-- past rule 3
+spent : (c : tie.Else3) → ltb 0 (getD (now (c .before .before .before .before .before .before .before .before .before .before .args .w)) 10 0) ≡ false
+spent c = sym (c .before .in-allowance .ensures) ∙ c .if3 .left
 
 returns-3 : tie.Need-returns-3
 returns-3 c =
-    let a = c .before .before .before .before .before .before .before .before .before in
-    allowance-decides (now (a .args .w)) (a .pre .0) (a .args .size) (uAt a) (c .before .before .before .before .before .if1 .left) (c .before .before .if2 .left) (c .if3 .taken)
+    let a = c .before .before .before .before .before .before .before .before .before .before in
+    allowance-decides (now (a .args .w)) (a .pre .0) (a .args .size) (uAt a) (c .before .before .before .before .before .before .if1 .left) (c .before .before .before .if2 .left) (sym (c .before .in-allowance .ensures) ∙ c .if3 .taken)
 
 element-copy-out-none : tie.Need-element-copy-out-none
 element-copy-out-none c = search needs
@@ -62,52 +71,52 @@ element-write-w-3 c = search needs
 stays-inactive-requires : tie.Need-stays-inactive-requires
 unfolding stateOf
 stays-inactive-requires c κs =
-    let a = c .before .before .before .before .before .before .before .before .before .before .before .before in
+    let a = c .before .before .before .before .before .before .before .before .before .before .before .before .before in
     let f = known a in (length-set (now (a .args .w)) 8 0 ∙ a .pre .0, omega (arith, f .bytes-fit, f .buffer-high))
 
 returns-4 : tie.Need-returns-4
 returns-4 c =
-    let a = c .before .before .before .before .before .before .before .before .before .before .before .before .before in
+    let a = c .before .before .before .before .before .before .before .before .before .before .before .before .before .before in
     let w = now (a .args .w) in
     let r = c .stays-inactive .ensures in
     let none = c .before .before .if4 .taken in
-    none-decides w (a .pre .0) (a .args .size) (uAt a) (c .before .before .before .before .before .before .before .before .before .if1 .left) (c .before .before .before .before .before .before .if2 .left) (c .before .before .before .before .if3 .left) _ _ _ (none-cleared w (a .pre .0) none) (r .0) (r .1) none
+    none-decides w (a .pre .0) (a .args .size) (uAt a) (c .before .before .before .before .before .before .before .before .before .before .if1 .left) (c .before .before .before .before .before .before .before .if2 .left) (spent (c .before .before .before .before)) _ _ _ (none-cleared w (a .pre .0) none) (r .0) (r .1) none
 
 stays-inactive-requires-2 : tie.Need-stays-inactive-requires-2
 unfolding stateOf
-stays-inactive-requires-2 c κs = let a = c .before .before .before .before .before .before .before .before .before .before .before .before in let f = known a in (a .pre .0, omega (arith, f .bytes-fit, f .buffer-high))
+stays-inactive-requires-2 c κs = let a = c .before .before .before .before .before .before .before .before .before .before .before .before .before in let f = known a in (a .pre .0, omega (arith, f .bytes-fit, f .buffer-high))
 
 returns-5 : tie.Need-returns-5
 returns-5 c =
-    let a = c .before .before .before .before .before .before .before .before .before .before .before .before .before .before in
+    let a = c .before .before .before .before .before .before .before .before .before .before .before .before .before .before .before in
     let w = now (a .args .w) in
     let r = c .before .stays-inactive2 .ensures in
     let some = some-cleared w (a .pre .0) (c .before .before .before .if4 .left) in
-    stays-decide w (a .pre .0) (a .args .size) (uAt a) (c .before .before .before .before .before .before .before .before .before .before .if1 .left) (c .before .before .before .before .before .before .before .if2 .left) (c .before .before .before .before .before .if3 .left) _ _ _ some (r .0) (r .1) (c .if5 .taken)
+    stays-decide w (a .pre .0) (a .args .size) (uAt a) (c .before .before .before .before .before .before .before .before .before .before .before .if1 .left) (c .before .before .before .before .before .before .before .before .if2 .left) (spent (c .before .before .before .before .before)) _ _ _ some (r .0) (r .1) (c .if5 .taken)
 
 draw-requires : tie.Need-draw-requires
 unfolding stateOf
 draw-requires c κs =
-    let a = c .before .before .before .before .before .before .before .before .before .before .before .before .before .before .before in
+    let a = c .before .before .before .before .before .before .before .before .before .before .before .before .before .before .before .before in
     let f = known a in
     let w = now (a .args .w) in
     let r = c .before .before .stays-inactive2 .ensures in
     let some = some-cleared w (a .pre .0) (c .before .before .before .before .if4 .left) in (
       (
-        started-long w (a .pre .0) (a .args .size) (uAt a) (c .before .before .before .before .before .before .before .before .before .before .before .if1 .left) (c .before .before .before .before .before .before .before .before .if2 .left) (c .before .before .before .before .before .before .if3 .left) _ _ _ some (r .0) (r .1) (c .before .if5 .left),
+        started-long w (a .pre .0) (a .args .size) (uAt a) (c .before .before .before .before .before .before .before .before .before .before .before .before .if1 .left) (c .before .before .before .before .before .before .before .before .before .if2 .left) (spent (c .before .before .before .before .before .before)) _ _ _ some (r .0) (r .1) (c .before .if5 .left),
         a .pre .2,
         a .pre .3,
       ),
-      started-fits w (a .pre .0) (a .args .size) (uAt a) (c .before .before .before .before .before .before .before .before .before .before .before .if1 .left) (c .before .before .before .before .before .before .before .before .if2 .left) (c .before .before .before .before .before .before .if3 .left) _ _ _ some (r .0) (r .1) (c .before .if5 .left) (f .prob-high) (f .accumulated-high) (f .old-high),
+      started-fits w (a .pre .0) (a .args .size) (uAt a) (c .before .before .before .before .before .before .before .before .before .before .before .before .if1 .left) (c .before .before .before .before .before .before .before .before .before .if2 .left) (spent (c .before .before .before .before .before .before)) _ _ _ some (r .0) (r .1) (c .before .if5 .left) (f .prob-high) (f .accumulated-high) (f .old-high),
     )
 
 returns-6 : tie.Need-returns-6
 returns-6 c =
-    let a = c .before .before .before .before .before .before .before .before .before .before .before .before .before .before .before .before in
+    let a = c .before .before .before .before .before .before .before .before .before .before .before .before .before .before .before .before .before in
     let w = now (a .args .w) in
     let r = c .before .before .before .stays-inactive2 .ensures in
     let some = some-cleared w (a .pre .0) (c .before .before .before .before .before .if4 .left) in
-    drawn-decides w (a .pre .0) (a .args .size) (uAt a) (c .before .before .before .before .before .before .before .before .before .before .before .before .if1 .left) (c .before .before .before .before .before .before .before .before .before .if2 .left) (c .before .before .before .before .before .before .before .if3 .left) _ _ _ some (r .0) (r .1) (c .before .before .if5 .left) _ _ (c .draw .ensures)
+    drawn-decides w (a .pre .0) (a .args .size) (uAt a) (c .before .before .before .before .before .before .before .before .before .before .before .before .before .if1 .left) (c .before .before .before .before .before .before .before .before .before .before .if2 .left) (spent (c .before .before .before .before .before .before .before)) _ _ _ some (r .0) (r .1) (c .before .before .if5 .left) _ _ (c .draw .ensures)
 
 pub decide-spec : {M : Type 1} → statement M
 decide-spec =
@@ -122,7 +131,8 @@ decide-spec =
     element-copy-out-slots-full-2
     element-write-w-2
     returns-2
-    element-copy-out-in-allowance
+    element-copy-out-t16
+    in-allowance-requires
     returns-3
     element-copy-out-none
     element-write-w-3
