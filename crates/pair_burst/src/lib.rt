@@ -1,6 +1,12 @@
 // One entry for a list of calls on two queues: the records are tested once, and each call is answered as the single entries would.
 use crate::one::answer;
 use bursts::has_room;
+use pair_words::DROPPED_BYTES;
+use pair_words::DROPPED_EARLY;
+use pair_words::DROPPED_SLOTS;
+use pair_words::ENQUEUED;
+use pair_words::MARKED;
+use pair_words::SLOTS;
 use pair_words::records_fit;
 ghost use mathlib.Core.Path.{_≡_};
 ghost use mathlib.Core.Bool.{cond, false, true};
@@ -39,18 +45,18 @@ fn ready(
     if !formed {
         return false;
     }
-    let slots = shared[0];
+    let slots = shared[SLOTS];
     let fit = (handles == slots) & (sizes == slots);
     if !fit {
         return false;
     }
     let first = has_room(
         [
-            intercom[16],
-            intercom[17],
-            intercom[18],
-            intercom[19],
-            intercom[20],
+            intercom[ENQUEUED],
+            intercom[MARKED],
+            intercom[DROPPED_BYTES],
+            intercom[DROPPED_SLOTS],
+            intercom[DROPPED_EARLY],
         ],
         n,
     );
@@ -59,11 +65,11 @@ fn ready(
     }
     has_room(
         [
-            passengers[16],
-            passengers[17],
-            passengers[18],
-            passengers[19],
-            passengers[20],
+            passengers[ENQUEUED],
+            passengers[MARKED],
+            passengers[DROPPED_BYTES],
+            passengers[DROPPED_SLOTS],
+            passengers[DROPPED_EARLY],
         ],
         n,
     )

@@ -5,10 +5,22 @@ use bursts::word;
 use pair_steps::arrive;
 use pair_steps::depart;
 use pair_steps::tick;
+use pair_words::CLOCK;
+use pair_words::DROPPED_BYTES;
+use pair_words::DROPPED_EARLY;
+use pair_words::DROPPED_SLOTS;
+use pair_words::ENQUEUED;
+use pair_words::MARKED;
+use pair_words::SLOTS;
 use pair_words::records_fit;
 use pie::LARGEST;
 use pie::LATEST;
 use refusals::counts_full;
+use ring_words::REFUSED_CLOCK;
+use ring_words::REFUSED_COUNTS;
+use ring_words::REFUSED_MALFORMED;
+use ring_words::REFUSED_SIZE;
+use ring_words::REFUSED_TABLES;
 ghost use mathlib.Core.Path.{_≡_};
 ghost use mathlib.Core.Bool.{false, true};
 ghost use mathlib.Core.List.{[]};
@@ -45,36 +57,42 @@ fn refusal_of(
 {
     let fit = records_fit(shared, own, other, second);
     if !fit {
-        return 102;
+        return REFUSED_MALFORMED;
     }
     let ticks = 2 < kind;
     if ticks {
         return 0;
     }
-    let slots = shared[0];
+    let slots = shared[SLOTS];
     let tables_fit = (handles.len() as u64 == slots) & (sizes.len() as u64 == slots);
     if !tables_fit {
-        return 103;
+        return REFUSED_TABLES;
     }
     let arrives = kind < 2;
     if !arrives {
         return 0;
     }
-    let full = counts_full([own[16], own[17], own[18], own[19], own[20]]);
+    let full = counts_full([
+        own[ENQUEUED],
+        own[MARKED],
+        own[DROPPED_BYTES],
+        own[DROPPED_SLOTS],
+        own[DROPPED_EARLY],
+    ]);
     if !full {
         return 0;
     }
     let clock = clock_of(calls[at], calls[at + 1]);
-    let wrong_clock = (clock < own[2]) | (LATEST < clock);
+    let wrong_clock = (clock < own[CLOCK]) | (LATEST < clock);
     if wrong_clock {
-        return 104;
+        return REFUSED_CLOCK;
     }
     let bytes = wide(calls[at + 3]);
     let wrong_size = (bytes == 0) | (LARGEST < bytes);
     if wrong_size {
-        return 107;
+        return REFUSED_SIZE;
     }
-    108
+    REFUSED_COUNTS
 }
 
 // The same for a call on the queue 0, the intercom, or 1, the passengers; 0 where all were tested before.

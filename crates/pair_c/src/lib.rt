@@ -7,6 +7,13 @@ use pair_rules::fresh;
 use pair_steps::arrive;
 use pair_steps::depart;
 use pair_steps::tick;
+use pair_words::CLOCK;
+use pair_words::DROPPED_BYTES;
+use pair_words::DROPPED_EARLY;
+use pair_words::DROPPED_SLOTS;
+use pair_words::ENQUEUED;
+use pair_words::MARKED;
+use pair_words::SLOTS;
 use pair_words::encode;
 use pair_words::encode_shared;
 use pair_words::records_fit;
@@ -14,6 +21,11 @@ use pie::LARGEST;
 use pie::LATEST;
 use refusals::Accepted;
 use refusals::counts_full;
+use ring_words::REFUSED_CLOCK;
+use ring_words::REFUSED_COUNTS;
+use ring_words::REFUSED_MALFORMED;
+use ring_words::REFUSED_SIZE;
+use ring_words::REFUSED_TABLES;
 use ring_words::refused;
 use units::Bytes;
 use units::Micros;
@@ -112,25 +124,31 @@ pub extern "C" fn obikuteru_pair_arrival_of(
 {
     let fit = records_fit(shared, own, other, second);
     if !fit {
-        return 102;
+        return REFUSED_MALFORMED;
     }
-    let slots = shared[0];
+    let slots = shared[SLOTS];
     let tables_fit = (handles.len() as u64 == slots) & (sizes.len() as u64 == slots);
     if !tables_fit {
-        return 103;
+        return REFUSED_TABLES;
     }
-    let full = counts_full([own[16], own[17], own[18], own[19], own[20]]);
+    let full = counts_full([
+        own[ENQUEUED],
+        own[MARKED],
+        own[DROPPED_BYTES],
+        own[DROPPED_SLOTS],
+        own[DROPPED_EARLY],
+    ]);
     if full {
-        let wrong_clock = (clock < own[2]) | (LATEST < clock);
+        let wrong_clock = (clock < own[CLOCK]) | (LATEST < clock);
         if wrong_clock {
-            return 104;
+            return REFUSED_CLOCK;
         }
         let bytes = size as u64;
         let wrong_size = (bytes == 0) | (LARGEST < bytes);
         if wrong_size {
-            return 107;
+            return REFUSED_SIZE;
         }
-        return 108;
+        return REFUSED_COUNTS;
     }
     let queue = queue_of(second);
     arrive(
@@ -170,12 +188,12 @@ pub extern "C" fn obikuteru_pair_departure_of(
     *packet = [0, 0];
     let fit = records_fit(shared, own, other, second);
     if !fit {
-        return 102;
+        return REFUSED_MALFORMED;
     }
-    let slots = shared[0];
+    let slots = shared[SLOTS];
     let tables_fit = (handles.len() as u64 == slots) & (sizes.len() as u64 == slots);
     if !tables_fit {
-        return 103;
+        return REFUSED_TABLES;
     }
     depart(shared, own, other, second, handles, sizes, clock, packet)
 }
@@ -194,7 +212,7 @@ pub extern "C" fn obikuteru_pair_tick_of(
 {
     let fit = records_fit(shared, own, other, second);
     if !fit {
-        return 102;
+        return REFUSED_MALFORMED;
     }
     tick(shared, own, other, second, clock)
 }

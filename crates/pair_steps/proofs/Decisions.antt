@@ -23,7 +23,8 @@ use Rattle.pair_rules.specs.declared.Which.the-variants.{Intercom}
 use Rattle.pair_rules.proofs.Facts.{QueueFits, facts}
 use Rattle.pair_rules.specs.Arrival.{arrivedPie, verdictOf}
 use Rattle.pair_rules.proofs.Seen.{verdict-seen}
-use Rattle.pair_words.specs.Words.{pairOf, pieOf, sharedOf, stateOf, whichOf}
+use Rattle.pie_words.specs.Words.{pieAt}
+use Rattle.pair_words.specs.Words.{pairOf, sharedOf, stateOf, whichOf}
 
 -- ── rule 2 ──
 
@@ -148,15 +149,15 @@ module _ (second : Bool) (sh ow ot : List ℕ) (size : ℕ) (ecn : Bool) (u : �
     module _ (free : full seen (getD ow 12 0) (getD ot 12 0) ≡ false) where
       -- rules 3 to 5
       pub spared-rule : (v : Verdict) (a : Prob) → v ≡ Enqueued → a ≡ prob (getD ow 7 0) →
-          spared (pieOf ow) (getD ow 0 0) (getD ow 13 0) ≡ true → Ruled v a
+          spared (pieAt ow 4) (getD ow 0 0) (getD ow 13 0) ≡ true → Ruled v a
       unfolding stateOf verdictOf dropDecision accumulatedAfter
       spared-rule v a ev ea e = rw ev (found Enqueued (rw (fit, free, e)), rw e ea)
 
       -- rules 6 and 7
-      pub drawn-rule : (v : Verdict) (a : Prob) → v ≡ drawn (pieOf ow) ecn u → a ≡ prob (cond (isEarly v) none (sumOf (pieOf ow))) →
-          spared (pieOf ow) (getD ow 0 0) (getD ow 13 0) ≡ false → Ruled v a
+      pub drawn-rule : (v : Verdict) (a : Prob) → v ≡ drawn (pieAt ow 4) ecn u → a ≡ prob (cond (isEarly v) none (sumOf (pieAt ow 4))) →
+          spared (pieAt ow 4) (getD ow 0 0) (getD ow 13 0) ≡ false → Ruled v a
       unfolding stateOf verdictOf dropDecision
       drawn-rule v a ev ea e = (
-        ev ∙ found (drawn (pieOf ow) ecn u) (rw (fit, free, e)),
-        ea ∙ rw ev (ap prob (drawn-sum (pieOf ow) (getD ow 0 0) (getD ow 13 0) ecn u e)),
+        ev ∙ found (drawn (pieAt ow 4) ecn u) (rw (fit, free, e)),
+        ea ∙ rw ev (ap prob (drawn-sum (pieAt ow 4) (getD ow 0 0) (getD ow 13 0) ecn u e)),
       )

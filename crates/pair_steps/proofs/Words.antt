@@ -25,10 +25,10 @@ use Rattle.pair_rules.specs.Arrival.{arrivedPie, arrivedState}
 use Rattle.pair_rules.specs.Departure.{departedState}
 use Rattle.pair_rules.specs.Tick.{tickedState}
 use Rattle.pie_words.specs.Flags.{isSet}
-use Rattle.pair_words.specs.Words.{pieOf, rateOf, sharedOf, sharedWords, stateOf, stateWords, storeOf}
+use Rattle.pair_words.specs.Words.{sharedOf, sharedWords, stateOf, stateWords, storeOf}
 use Rattle.pie_words.proofs.Flags.{flag-kept}
 use Rattle.ring_words.proofs.Written.{listed, written-out}
-use Rattle.pie_words.specs.Words.{rateAt, rateWords}
+use Rattle.pie_words.specs.Words.{pieAt, rateAt, rateWords, updatedWords}
 use Rattle.pair_steps.specs.Written.{enteredWords, settledWords}
 
 -- what holds of any twenty-one words written out holds of twenty-one words
@@ -55,8 +55,8 @@ unfolding stateOf stateWords rateWords departedState
 departed-words sizes clock size =
     for-words (λ w. departureWritten w sizes clock size ≡ stateWords w (departedState (stateOf w) sizes clock size)) (λ f. refl)
 
-pub left-rate : (clock size head : ℕ) (w : List ℕ) → length w ≡ 21 → rateOf (leftWords w clock size head) ≡ rateOf w
-left-rate clock size head = for-words (λ w. rateOf (leftWords w clock size head) ≡ rateOf w) (λ f. refl)
+pub left-rate : (clock size head : ℕ) (w : List ℕ) → length w ≡ 21 → rateAt (leftWords w clock size head) 4 ≡ rateAt w 4
+left-rate clock size head = for-words (λ w. rateAt (leftWords w clock size head) 4 ≡ rateAt w 4) (λ f. refl)
 
 pub left-long : (clock size head : ℕ) (w : List ℕ) → length w ≡ 21 → length (leftWords w clock size head) ≡ 21
 left-long clock size head = for-words (λ w. length (leftWords w clock size head) ≡ 21) (λ f. refl)
@@ -186,10 +186,13 @@ same-shared = for-shared (λ w. w ≡ sharedWords (sharedOf w)) (λ f. refl)
 
 -- ── a tick ──
 
+abbrev pub clockedWords : List ℕ → (clock : ℕ) → List ℕ
+clockedWords w clock = set (set w 2 clock) 3 clock
+
 abbrev tickWritten : List ℕ → (clock : ℕ) → List ℕ
 tickWritten w clock =
-    let next = updated (pieOf w) false (getD w 0 0) (getD w 13 0) in
-    set (set (set (set (set w 2 clock) 3 clock) 4 (next .prob .0)) 5 (next .old .0)) 6 (next .allowance .0)
+    let next = updated (pieAt w 4) false (getD w 0 0) (getD w 13 0) in
+    clockedWords (updatedWords w 4 next) clock
 
 pub ticked-words : (clock : ℕ) (w : List ℕ) → length w ≡ 21 → tickWritten w clock ≡ stateWords w (tickedState (stateOf w) clock)
 unfolding stateOf stateWords tickedState updated

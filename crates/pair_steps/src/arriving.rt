@@ -1,99 +1,41 @@
 // An arrival at records that are well formed, with tables that fit and room in the counts.
-use pie::Decided;
+use crate::deciding::decided;
+use pair_words::ACCUMULATED;
+use pair_words::BYTES;
+use pair_words::CLOCK;
+use pair_words::COUNT;
+use pair_words::FREED;
+use pair_words::HEAD;
+use pair_words::SLOTS;
+use pair_words::SPARE;
+use pair_words::TAIL;
+use pair_words::USED;
+use pair_words::VERDICTS;
 use pie::LARGEST;
 use pie::LATEST;
 use pie::Verdict;
-use pie_words::pie_at;
-use pie_words::spares;
+use ring_words::REFUSED_CLOCK;
+use ring_words::REFUSED_HEAD;
+use ring_words::REFUSED_SIZE;
 use store::Ends;
 use store::follow;
 use store::write_packet;
-use units::Micros;
-use units::Prob;
 ghost use mathlib.Core.Path.{_≡_};
-ghost use mathlib.Core.Bool.{cond, true, false, _&&_};
-ghost use Prim.Native.Nat.{_+_, _-_, _≤_, _<_};
-ghost use lib.Dec.{eqb, leb};
+ghost use mathlib.Core.Bool.{cond, true, false};
+ghost use Prim.Native.Nat.{_+_, _≤_, _<_};
+ghost use lib.Dec.{eqb};
 ghost use lib.ListN.{getD, length, set};
-ghost use Rattle.units.specs.Kinds.{prob};
 ghost use Rattle.pie.specs.Constants.{largest, mostVerdicts};
 ghost use Rattle.pie.specs.Verdicts.{placeOf, total};
 ghost use Rattle.store.specs.Following.{linkRefused};
 ghost use Rattle.store.specs.Put.{freePlace, handlesAfterPut, sizesAfterPut, storeAfterPut};
-ghost use Rattle.pair_rules.specs.Facing.{facing};
-ghost use Rattle.pair_rules.specs.Queues.{commonSlots, storing};
+ghost use Rattle.pair_rules.specs.Queues.{storing};
 ghost use Rattle.pair_rules.specs.WellFormed.{wellFormed};
-ghost use Rattle.pair_rules.specs.Arrival.{arrival, arrivedHandles, arrivedPie, arrivedSizes, verdictOf};
+ghost use Rattle.pair_rules.specs.Arrival.{arrival, arrivedHandles, arrivedSizes};
 ghost use Rattle.ring_words.specs.Codes.{codeOf};
 ghost use Rattle.pair_words.specs.After.{ownAfter, sharedAfter};
 ghost use Rattle.pair_words.specs.Words.{endsOf, pairOf, sharedOf, sharedWords, stateOf, storeOf, whichOf};
 ghost use Rattle.pair_steps.specs.Written.{enteredWords, settledWords};
-
-// Rule 2, by the counts of the called queue (0, the intercom; 1, the passengers) and of the other one.
-fn slots_full(shared: &[u64; 6], queue: usize, own: u64, other: u64) -> bool
-    requires { ⌜ (queue < 2) × (own ≤ 65536) × (other ≤ 65536) ⌝ }
-    requires { ⌜ (getD (now shared) 1 0 + getD (now shared) 2 0 ≤ getD (now shared) 0 0) × (getD (now shared) 0 0 ≤ 65536) ⌝ }
-    ensures { λ r. ⌜ (let s = facing (whichOf (eqb queue 1)) (sharedOf (now (shared .entry))) in
-        r ≡ (leb (s .reserves .intercom) own
-        && eqb ((own - s .reserves .intercom) + (other - s .reserves .passengers)) (commonSlots s))) ⌝ }
-{
-    let mine = 1 + queue;
-    let within = own < shared[mine];
-    if within {
-        return false;
-    }
-    let last = 2 - queue;
-    let theirs = shared[last];
-    let beyond = theirs < other;
-    if beyond {
-        return own + other == shared[0];
-    }
-    own + theirs == shared[0]
-}
-
-// A verdict that leaves the accumulated probability.
-fn undrawn(w: &[u64; 21], verdict: Verdict) -> Decided
-    ensures { λ r. ⌜ (r .verdict ≡ verdict) × (r .accumulated ≡ prob (getD (now (w .entry)) 7 0)) ⌝ }
-{
-    let accumulated = Prob(w[7]);
-    Decided {
-        verdict,
-        accumulated,
-    }
-}
-
-// Rules 1 to 7.
-fn decided(
-    shared: &[u64; 6],
-    own: &[u64; 21],
-    other: &[u64; 21],
-    queue: usize,
-    size: u64,
-    ecn: bool,
-    u: u32,
-) -> Decided
-    requires { ⌜ (queue < 2) × (length (now own) ≡ 21) ⌝ }
-    requires { ⌜ wellFormed (pairOf (eqb queue 1) (now shared) (now own) (now other)) ≡ true ⌝ }
-    requires { ⌜ size ≤ largest ⌝ }
-    ensures { λ r. ⌜ r .verdict ≡ verdictOf (pairOf (eqb queue 1) (now (shared .entry)) (now (own .entry)) (now (other .entry)))
-        (whichOf (eqb queue 1)) size ecn u ⌝ }
-    ensures { λ r. ⌜ r .accumulated ≡ arrivedPie (stateOf (now (own .entry))) (r .verdict) .accumulated ⌝ }
-{
-    let bytes = own[13];
-    let bytes_full = own[1] < bytes + size;
-    if bytes_full {
-        return undrawn(own, Verdict::DroppedBytes);
-    }
-    let full = slots_full(shared, queue, own[12], other[12]);
-    if full {
-        return undrawn(own, Verdict::DroppedSlots);
-    }
-    let spared = spares(own, 4, Micros(own[0]));
-    if spared {
-        return undrawn(own, Verdict::Enqueued);
-    }
-    pie_at(own, 4).draw(ecn, u)
-}
 
 // Writes clock, accumulated probability and the verdict's count. Gives the place of the verdict.
 fn settle(w: &mut [u64; 21], clock: u64, accumulated: u64, v: Verdict) -> u32
@@ -102,9 +44,9 @@ fn settle(w: &mut [u64; 21], clock: u64, accumulated: u64, v: Verdict) -> u32
     ensures { λ _. ⌜ now (w .exit) ≡ settledWords (now (w .entry)) clock accumulated v ⌝ }
 {
     let place = v.place();
-    let at = 16 + place;
-    w[2] = clock;
-    w[7] = accumulated;
+    let at = VERDICTS + place;
+    w[CLOCK] = clock;
+    w[ACCUMULATED] = accumulated;
     w[at] = w[at] + 1;
     place as u32
 }
@@ -116,7 +58,7 @@ fn set_head(w: &mut [u64; 21], count: u64, place: u64)
 {
     let empty = count == 0;
     if empty {
-        w[14] = place;
+        w[HEAD] = place;
     }
 }
 
@@ -143,15 +85,15 @@ fn enter(
         ≡ sizesAfterPut (endsOf (now (own .entry))) (getD (now (own .entry)) 12 0) (now (sizes .entry)) place size ⌝ }
 {
     let ends = Ends {
-        head: own[14],
-        tail: own[15],
+        head: own[HEAD],
+        tail: own[TAIL],
     };
-    let count = own[12];
+    let count = own[COUNT];
     write_packet(handles, sizes, ends, count, place, handle, size);
     set_head(own, count, place);
-    own[12] = count + 1;
-    own[13] = own[13] + size as u64;
-    own[15] = place;
+    own[COUNT] = count + 1;
+    own[BYTES] = own[BYTES] + size as u64;
+    own[TAIL] = place;
     settle(own, clock, accumulated, v)
 }
 
@@ -189,11 +131,11 @@ fn admit(
         × (now (handles .exit) ≡ handlesAfterPut (now (handles .entry)) place handle)
         × (now (sizes .exit) ≡ sizesAfterPut (endsOf ow) (getD ow 12 0) z place size))) ⌝ }
 {
-    let spare = shared[5];
+    let spare = shared[SPARE];
     let fresh = spare == 0;
     if fresh {
-        let place = shared[3];
-        shared[3] = place + 1;
+        let place = shared[USED];
+        shared[USED] = place + 1;
         return enter(
             own,
             handles,
@@ -206,14 +148,14 @@ fn admit(
             v,
         );
     }
-    let place = shared[4];
+    let place = shared[FREED];
     let next = follow(sizes, place, spare);
-    let lost = shared[0] <= next;
+    let lost = shared[SLOTS] <= next;
     if lost {
-        return 109;
+        return REFUSED_HEAD;
     }
-    shared[4] = next;
-    shared[5] = spare - 1;
+    shared[FREED] = next;
+    shared[SPARE] = spare - 1;
     enter(
         own,
         handles,
@@ -253,14 +195,14 @@ pub fn arrive(
         × (now (handles .exit) ≡ arrivedHandles p (a .answer) (now (handles .entry)) handle)
         × (now (sizes .exit) ≡ arrivedSizes p (whichOf (eqb queue 1)) (a .answer) (now (sizes .entry)) size)) ⌝ }
 {
-    let wrong_clock = (clock < own[2]) | (LATEST < clock);
+    let wrong_clock = (clock < own[CLOCK]) | (LATEST < clock);
     if wrong_clock {
-        return 104;
+        return REFUSED_CLOCK;
     }
     let bytes = size as u64;
     let wrong_size = (bytes == 0) | (LARGEST < bytes);
     if wrong_size {
-        return 107;
+        return REFUSED_SIZE;
     }
     let found = decided(shared, own, other, queue, bytes, ecn, u);
     let v = found.verdict;

@@ -1,8 +1,19 @@
 // A departure from records that are well formed, with tables that fit.
+use pair_words::BYTES;
+use pair_words::CLOCK;
+use pair_words::COUNT;
+use pair_words::FREED;
+use pair_words::HEAD;
+use pair_words::PIE;
+use pair_words::SLOTS;
+use pair_words::SPARE;
 use pie::Backlog;
 use pie::LATEST;
 use pie_words::measure;
 use refusals::wrong_head;
+use ring_words::REFUSED_CLOCK;
+use ring_words::REFUSED_EMPTY;
+use ring_words::REFUSED_HEAD;
 use store::follow;
 use store::leads_nowhere;
 use store::size_at;
@@ -42,17 +53,17 @@ pub fn depart(
         × (now (sizes .exit) ≡ departedSizes p (whichOf second) (a .answer) (now (sizes .entry)))
         × (now (packet .exit) ≡ packetOf (a .answer))) ⌝ }
 {
-    let wrong_clock = (clock < own[2]) | (LATEST < clock);
+    let wrong_clock = (clock < own[CLOCK]) | (LATEST < clock);
     if wrong_clock {
-        return 104;
+        return REFUSED_CLOCK;
     }
-    let count = own[12];
+    let count = own[COUNT];
     let empty = count == 0;
     if empty {
-        return 106;
+        return REFUSED_EMPTY;
     }
-    let bytes = own[13];
-    let head = own[14];
+    let bytes = own[BYTES];
+    let head = own[HEAD];
     let size = size_at(sizes, head);
     let backlog = Backlog {
         count,
@@ -60,27 +71,27 @@ pub fn depart(
     };
     let wrong = wrong_head(backlog, size as u64);
     if wrong {
-        return 109;
+        return REFUSED_HEAD;
     }
-    let lost = leads_nowhere(sizes, head, count, shared[0]);
+    let lost = leads_nowhere(sizes, head, count, shared[SLOTS]);
     if lost {
-        return 109;
+        return REFUSED_HEAD;
     }
     let next = follow(sizes, head, count);
     *packet = [handles[head as usize], size];
-    write_freed(sizes, head, shared[4]);
-    shared[4] = head;
-    shared[5] = shared[5] + 1;
+    write_freed(sizes, head, shared[FREED]);
+    shared[FREED] = head;
+    shared[SPARE] = shared[SPARE] + 1;
     let others = count - 1;
     let left = bytes - size as u64;
-    own[2] = clock;
-    own[12] = others;
-    own[13] = left;
-    own[14] = next;
+    own[CLOCK] = clock;
+    own[COUNT] = others;
+    own[BYTES] = left;
+    own[HEAD] = next;
     let rest = Backlog {
         count: others,
         bytes: Bytes(left),
     };
-    measure(own, 4, Micros(clock), Bytes(size as u64), rest);
+    measure(own, PIE, Micros(clock), Bytes(size as u64), rest);
     0
 }

@@ -1,8 +1,13 @@
 // A tick of records that are well formed.
+use pair_words::CLOCK;
+use pair_words::LAST;
+use pair_words::PIE;
+use pair_words::TARGET;
 use pie::LATEST;
 use pie::PERIOD;
-use pie_words::pie_at;
-use units::Bytes;
+use pie_words::update;
+use ring_words::REFUSED_CLOCK;
+use ring_words::REFUSED_TOO_SOON;
 use units::Micros;
 ghost use mathlib.Core.Path.{_≡_};
 ghost use mathlib.Core.Bool.{true};
@@ -26,20 +31,17 @@ pub fn tick(
         let a = tick p (whichOf second) clock in
         (r ≡ codeOf (a .answer)) × (now (own .exit) ≡ ownAfter (whichOf second) a (now (own .entry)))) ⌝ }
 {
-    let wrong_clock = (clock < own[2]) | (LATEST < clock);
+    let wrong_clock = (clock < own[CLOCK]) | (LATEST < clock);
     if wrong_clock {
-        return 104;
+        return REFUSED_CLOCK;
     }
-    let too_soon = clock < own[3] + PERIOD;
+    let too_soon = clock < own[LAST] + PERIOD;
     if too_soon {
-        return 105;
+        return REFUSED_TOO_SOON;
     }
-    let pie = pie_at(own, 4);
-    let next = pie.update(false, Micros(own[0]), Bytes(own[13]));
-    own[2] = clock;
-    own[3] = clock;
-    own[4] = next.prob.0;
-    own[5] = next.old.0;
-    own[6] = next.allowance.0;
+    let target = Micros(own[TARGET]);
+    update(own, PIE, false, target);
+    own[CLOCK] = clock;
+    own[LAST] = clock;
     0
 }

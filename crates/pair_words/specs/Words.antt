@@ -3,11 +3,8 @@ use mathlib.Core.Bool.{Bool, true, false}
 use mathlib.Core.List.{List, [], _∷_}
 use Prim.Native.Nat.{ℕ}
 use lib.ListN.{getD}
-use Rattle.units.specs.Kinds.{bytes, micros, prob}
-use Rattle.pie.specs.declared.Backlog.{Backlog}
-use Rattle.pie.specs.declared.Pie.{Pie}
-use Rattle.pie.specs.declared.Rate.{Rate}
-use Rattle.pie_words.specs.Flags.{flagWord, isSet}
+use Rattle.units.specs.Kinds.{micros}
+use Rattle.pie_words.specs.Words.{backlogAt, pieAt, pieWords}
 use Rattle.store.specs.declared.Ends.{Ends}
 use Rattle.store.specs.declared.Store.{Store}
 use Rattle.pair_rules.specs.Fresh.{settingsOf}
@@ -50,28 +47,6 @@ sharedWords s =
 
 -- ── a queue ──
 
-abbrev pub rateOf : (words : List ℕ) → Rate
-rateOf w =
-    record {
-      average = micros (getD w 8 0);
-      measuring = isSet (getD w 9 0);
-      start = micros (getD w 10 0);
-      counted = bytes (getD w 11 0);
-    }
-
-abbrev pub pieOf : (words : List ℕ) → Pie
-pieOf w =
-    record {
-      prob = prob (getD w 4 0);
-      old = micros (getD w 5 0);
-      allowance = micros (getD w 6 0);
-      accumulated = prob (getD w 7 0);
-      rate = rateOf w;
-    }
-
-abbrev pub backlogOf : (words : List ℕ) → Backlog
-backlogOf w = record { count = getD w 12 0; bytes = bytes (getD w 13 0) }
-
 abbrev pub endsOf : (words : List ℕ) → Ends
 endsOf w = record { head = getD w 14 0; tail = getD w 15 0 }
 
@@ -82,8 +57,8 @@ stateOf w =
       settings = settingsOf (getD w 0 0) (getD w 1 0);
       clock = micros (getD w 2 0);
       last = micros (getD w 3 0);
-      pie = pieOf w;
-      backlog = backlogOf w;
+      pie = pieAt w 4;
+      backlog = backlogAt w 4;
       ends = endsOf w;
       verdicts = getD w 16 0 ∷ getD w 17 0 ∷ getD w 18 0 ∷ getD w 19 0 ∷ getD w 20 0 ∷ [];
     }
@@ -95,17 +70,8 @@ stateWords w s =
     ∷ s .settings .buffer .0
     ∷ s .clock .0
     ∷ s .last .0
-    ∷ s .pie .prob .0
-    ∷ s .pie .old .0
-    ∷ s .pie .allowance .0
-    ∷ s .pie .accumulated .0
-    ∷ s .pie .rate .average .0
-    ∷ flagWord (getD w 9 0) (s .pie .rate .measuring)
-    ∷ s .pie .rate .start .0
-    ∷ s .pie .rate .counted .0
-    ∷ s .backlog .count
-    ∷ s .backlog .bytes .0
-    ∷ s .ends .head
+    ∷ pieWords w 4 (s .pie) (s .backlog) (
+    s .ends .head
     ∷ s .ends .tail
     ∷ getD (s .verdicts) 0 0
     ∷ getD (s .verdicts) 1 0
@@ -113,6 +79,7 @@ stateWords w s =
     ∷ getD (s .verdicts) 3 0
     ∷ getD (s .verdicts) 4 0
     ∷ []
+    )
 
 -- ── all three ──
 

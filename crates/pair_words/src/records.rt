@@ -1,17 +1,35 @@
 // The records that words hold, and the words of fresh ones.
+use crate::layout::BUFFER;
+use crate::layout::BYTES;
+use crate::layout::CLOCK;
+use crate::layout::COUNT;
+use crate::layout::DROPPED_BYTES;
+use crate::layout::DROPPED_EARLY;
+use crate::layout::DROPPED_SLOTS;
+use crate::layout::ENQUEUED;
+use crate::layout::FREED;
+use crate::layout::HEAD;
+use crate::layout::INTERCOM;
+use crate::layout::LAST;
+use crate::layout::MARKED;
+use crate::layout::PASSENGERS;
+use crate::layout::PIE;
+use crate::layout::SLOTS;
+use crate::layout::SPARE;
+use crate::layout::TAIL;
+use crate::layout::TARGET;
+use crate::layout::USED;
 use pair_rules::Reserves;
 use pair_rules::Settings;
 use pair_rules::Shared;
 use pair_rules::State;
 use pair_rules::Which;
 use pie::Backlog;
-use pie::Pie;
-use pie::Rate;
+use pie_words::pie_at;
 use store::Ends;
 use store::Store;
 use units::Bytes;
 use units::Micros;
-use units::Prob;
 ghost use mathlib.Core.Path.{_≡_};
 ghost use mathlib.Core.List.{[], _∷_};
 ghost use lib.ListN.{length};
@@ -32,16 +50,16 @@ pub(crate) fn decode_shared(w: [u64; 6]) -> Shared
     ensures { λ r. ⌜ (r ≡ sharedOf w) × (length w ≡ 6) ⌝ }
 {
     let reserves = Reserves {
-        intercom: w[1],
-        passengers: w[2],
+        intercom: w[INTERCOM],
+        passengers: w[PASSENGERS],
     };
     let store = Store {
-        used: w[3],
-        freed: w[4],
-        spare: w[5],
+        used: w[USED],
+        freed: w[FREED],
+        spare: w[SPARE],
     };
     Shared {
-        slots: w[0],
+        slots: w[SLOTS],
         reserves,
         store,
     }
@@ -52,35 +70,29 @@ pub(crate) fn decode(w: [u64; 21]) -> State
     ensures { λ r. ⌜ (r ≡ stateOf w) × (length w ≡ 21) ⌝ }
 {
     let settings = Settings {
-        target: Micros(w[0]),
-        buffer: Bytes(w[1]),
+        target: Micros(w[TARGET]),
+        buffer: Bytes(w[BUFFER]),
     };
-    let rate = Rate {
-        average: Micros(w[8]),
-        measuring: w[9] != 0,
-        start: Micros(w[10]),
-        counted: Bytes(w[11]),
-    };
-    let pie = Pie {
-        prob: Prob(w[4]),
-        old: Micros(w[5]),
-        allowance: Micros(w[6]),
-        accumulated: Prob(w[7]),
-        rate,
-    };
+    let pie = pie_at(&w, PIE);
     let backlog = Backlog {
-        count: w[12],
-        bytes: Bytes(w[13]),
+        count: w[COUNT],
+        bytes: Bytes(w[BYTES]),
     };
     let ends = Ends {
-        head: w[14],
-        tail: w[15],
+        head: w[HEAD],
+        tail: w[TAIL],
     };
-    let verdicts = [w[16], w[17], w[18], w[19], w[20]];
+    let verdicts = [
+        w[ENQUEUED],
+        w[MARKED],
+        w[DROPPED_BYTES],
+        w[DROPPED_SLOTS],
+        w[DROPPED_EARLY],
+    ];
     State {
         settings,
-        clock: Micros(w[2]),
-        last: Micros(w[3]),
+        clock: Micros(w[CLOCK]),
+        last: Micros(w[LAST]),
         pie,
         backlog,
         ends,

@@ -1,5 +1,9 @@
 // The drop decision.
 use crate::measuring::rate_at;
+use crate::offsets::ACCUMULATED;
+use crate::offsets::ALLOWANCE;
+use crate::offsets::BYTES;
+use crate::offsets::OLD;
 use pie::Pie;
 use pie::in_allowance;
 use pie::light;
@@ -24,9 +28,9 @@ pub fn pie_at(w: &[u64], k: usize) -> Pie
     let rate = rate_at(w, k);
     Pie {
         prob: Prob(w[k]),
-        old: Micros(w[k + 1]),
-        allowance: Micros(w[k + 2]),
-        accumulated: Prob(w[k + 3]),
+        old: Micros(w[k + OLD]),
+        allowance: Micros(w[k + ALLOWANCE]),
+        accumulated: Prob(w[k + ACCUMULATED]),
         rate,
     }
 }
@@ -37,16 +41,16 @@ pub fn spares(w: &[u64], k: usize, target: Micros) -> bool
     requires { ⌜ (getD (now w) k 0 ≤ whole) × (getD (now w) (k + 1) 0 ≤ longest) ⌝ }
     ensures { λ r. ⌜ r ≡ spared (pieAt (now (w .entry)) k) (target .0) (getD (now (w .entry)) (k + 9) 0) ⌝ }
 {
-    let burst = in_allowance(Micros(w[k + 2]));
+    let burst = in_allowance(Micros(w[k + ALLOWANCE]));
     if burst {
         return true;
     }
-    let soon = short(Micros(w[k + 1]), target);
+    let soon = short(Micros(w[k + OLD]), target);
     if soon {
         let rare = light(Prob(w[k]));
         if rare {
             return true;
         }
     }
-    small(Bytes(w[k + 9]))
+    small(Bytes(w[k + BYTES]))
 }

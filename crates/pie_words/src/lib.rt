@@ -4,10 +4,22 @@ ghost use Rattle.pie_words.specs.Flags.{flagWord};
 
 mod deciding;
 mod measuring;
+mod offsets;
+mod updating;
 
 pub use deciding::pie_at;
 pub use deciding::spares;
 pub use measuring::measure;
+pub use offsets::ACCUMULATED;
+pub use offsets::ALLOWANCE;
+pub use offsets::AVERAGE;
+pub use offsets::BYTES;
+pub use offsets::COUNT;
+pub use offsets::COUNTED;
+pub use offsets::MEASURING;
+pub use offsets::OLD;
+pub use offsets::START;
+pub use updating::update;
 
 // The word of a flag, left as it is where it says so already.
 pub fn flag(word: u64, said: bool) -> u64

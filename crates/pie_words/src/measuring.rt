@@ -1,4 +1,8 @@
 // The departure rate.
+use crate::offsets::AVERAGE;
+use crate::offsets::COUNTED;
+use crate::offsets::MEASURING;
+use crate::offsets::START;
 use pie::Backlog;
 use pie::Rate;
 use units::Bytes;
@@ -16,10 +20,10 @@ pub fn rate_at(w: &[u64], k: usize) -> Rate
     ensures { λ r. ⌜ r ≡ rateAt (now (w .entry)) k ⌝ }
 {
     Rate {
-        average: Micros(w[k + 4]),
-        measuring: w[k + 5] != 0,
-        start: Micros(w[k + 6]),
-        counted: Bytes(w[k + 7]),
+        average: Micros(w[k + AVERAGE]),
+        measuring: w[k + MEASURING] != 0,
+        start: Micros(w[k + START]),
+        counted: Bytes(w[k + COUNTED]),
     }
 }
 
@@ -29,16 +33,16 @@ fn write_rate(w: &mut [u64], k: usize, ran: bool, next: Rate)
     requires { ⌜ ran ≡ isSet (getD (now w) (k + 5) 0) ⌝ }
     ensures { λ _. ⌜ now (w .exit) ≡ rateWords (now (w .entry)) k next ⌝ }
 {
-    w[k + 4] = next.average.0;
-    w[k + 6] = next.start.0;
-    w[k + 7] = next.counted.0;
+    w[k + AVERAGE] = next.average.0;
+    w[k + START] = next.start.0;
+    w[k + COUNTED] = next.counted.0;
     let runs = next.measuring;
     if !runs {
-        w[k + 5] = 0;
+        w[k + MEASURING] = 0;
         return;
     }
     if !ran {
-        w[k + 5] = 1;
+        w[k + MEASURING] = 1;
     }
 }
 
@@ -57,7 +61,7 @@ pub fn measure(w: &mut [u64], k: usize, clock: Micros, size: Bytes, left: Backlo
         let counted = rate.count(clock, size, left.count);
         let goes_on = counted.measuring;
         if goes_on {
-            w[k + 7] = counted.counted.0;
+            w[k + COUNTED] = counted.counted.0;
             return;
         }
         let next = counted.begin(clock, left.bytes);

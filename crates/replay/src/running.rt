@@ -2,6 +2,8 @@
 use crate::Replayed;
 use crate::calling::call;
 use crate::comparing::compare;
+use ring_words::BYTES;
+use ring_words::PROB;
 ghost use mathlib.Core.Path.{_≡_};
 ghost use Prim.Native.Nat.{_+_, _*_, _≤_};
 ghost use lib.ListN.{length};
@@ -33,7 +35,7 @@ pub(crate) fn run(
     while i < count {
         let r = log_codec::get(log, at);
         let c = call(w, r, handles, sizes);
-        let field = compare(r, c, w[5], w[14]);
+        let field = compare(r, c, w[PROB], w[BYTES]);
         if 0 < field {
             return Replayed {
                 refused: 0,
@@ -41,8 +43,8 @@ pub(crate) fn run(
                 number: i as u64,
                 refusal: c.refusal,
                 verdict: c.verdict,
-                prob: w[5],
-                bytes: w[14],
+                prob: w[PROB],
+                bytes: w[BYTES],
             };
         }
         at += 40;
@@ -54,7 +56,7 @@ pub(crate) fn run(
         number: count as u64,
         refusal: 0,
         verdict: 0,
-        prob: w[5],
-        bytes: w[14],
+        prob: w[PROB],
+        bytes: w[BYTES],
     }
 }

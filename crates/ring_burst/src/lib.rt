@@ -10,6 +10,12 @@ use ring_c::obikuteru_well_formed;
 use ring_steps::arrive;
 use ring_steps::depart;
 use ring_steps::tick;
+use ring_words::DROPPED_BYTES;
+use ring_words::DROPPED_EARLY;
+use ring_words::DROPPED_SLOTS;
+use ring_words::ENQUEUED;
+use ring_words::MARKED;
+use ring_words::SLOTS;
 ghost use mathlib.Core.Path.{_≡_};
 ghost use mathlib.Core.Bool.{cond, true};
 ghost use Prim.Native.Nat.{_+_, _*_, _≤_, _<_};
@@ -124,13 +130,22 @@ fn ready(w: &[u64; 23], handles: u64, sizes: u64, n: u64) -> bool
     if !formed {
         return false;
     }
-    if handles != w[2] {
+    if handles != w[SLOTS] {
         return false;
     }
-    if sizes != w[2] {
+    if sizes != w[SLOTS] {
         return false;
     }
-    has_room([w[16], w[17], w[18], w[19], w[20]], n)
+    has_room(
+        [
+            w[ENQUEUED],
+            w[MARKED],
+            w[DROPPED_BYTES],
+            w[DROPPED_SLOTS],
+            w[DROPPED_EARLY],
+        ],
+        n,
+    )
 }
 
 // All calls, of a queue that is ready for so many arrivals.

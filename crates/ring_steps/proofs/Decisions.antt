@@ -17,7 +17,8 @@ use Rattle.ring.specs.Arrival.{verdictOf}
 use Rattle.ring.proofs.Activation.{decided-alike, inactive-zero}
 use Rattle.ring.proofs.Facts.{Facts}
 use Rattle.pie_words.specs.Flags.{isSet}
-use Rattle.ring_words.specs.Words.{pieOf, stateOf}
+use Rattle.pie_words.specs.Words.{pieAt}
+use Rattle.ring_words.specs.Words.{stateOf}
 use Rattle.ring_steps.specs.Words.{decidedWords, drawnWords}
 use Rattle.ring_steps.proofs.Words.{undecided}
 
@@ -60,18 +61,18 @@ module _ (w : List ℕ) (long : length w ≡ 23) (size : ℕ) (ecn : Bool) (u : 
 
     module _ (free : eqb (getD w 13 0) (getD w 2 0) ≡ false) (known : Facts (stateOf w)) where
       abbrev sumAfter : Verdict → ℕ
-      sumAfter v = accumulatedAfter (pieOf w) (getD w 0 0) (getD w 14 0) v
+      sumAfter v = accumulatedAfter (pieAt w 5) (getD w 0 0) (getD w 14 0) v
 
       -- rules 3 to 7, in an inactive queue too
-      ruled : (v : Verdict) → v ≡ dropDecision (pieOf w) (getD w 0 0) (getD w 14 0) ecn u → Decided (placeOf v) (set w 8 (sumAfter v))
+      ruled : (v : Verdict) → v ≡ dropDecision (pieAt w 5) (getD w 0 0) (getD w 14 0) ecn u → Decided (placeOf v) (set w 8 (sumAfter v))
       unfolding stateOf verdictOf
       ruled v e =
-          let k = decided-alike (isSet (getD w 22 0)) (pieOf w) (getD w 0 0) (getD w 14 0) ecn u v (prob (sumAfter v))
+          let k = decided-alike (isSet (getD w 22 0)) (pieAt w 5) (getD w 0 0) (getD w 14 0) ecn u v (prob (sumAfter v))
           (inactive-zero (stateOf w) known) (known .accumulated-high) e refl in
           rw (fit, free, ← (k .0)) (refl, ap (λ (p : Prob). set w 8 (p .0)) (k .1))
 
       -- rules 3 to 5
-      pub spared-decide : spared (pieOf w) (getD w 0 0) (getD w 14 0) ≡ true → Decided 0 w
+      pub spared-decide : spared (pieAt w 5) (getD w 0 0) (getD w 14 0) ≡ true → Decided 0 w
       unfolding dropDecision accumulatedAfter
       spared-decide e =
           let r = ruled Enqueued (rw e) in
@@ -79,17 +80,17 @@ module _ (w : List ℕ) (long : length w ≡ 23) (size : ℕ) (ecn : Bool) (u : 
           (r .0, undecided w long ∙ ap (λ (x : ℕ). set w 8 x) (sym same) ∙ r .1)
 
       -- rules 6 and 7
-      pub drawn-decides : spared (pieOf w) (getD w 0 0) (getD w 14 0) ≡ false → (place : ℕ) (after : List ℕ) →
-          place ≡ placeOf (drawn (pieOf w) ecn u) → after ≡ drawnWords w (drawn (pieOf w) ecn u) → Decided place after
+      pub drawn-decides : spared (pieAt w 5) (getD w 0 0) (getD w 14 0) ≡ false → (place : ℕ) (after : List ℕ) →
+          place ≡ placeOf (drawn (pieAt w 5) ecn u) → after ≡ drawnWords w (drawn (pieAt w 5) ecn u) → Decided place after
       unfolding dropDecision
       drawn-decides e place after f g =
-          let r = ruled (drawn (pieOf w) ecn u) (rw e) in
-          (f ∙ r .0, g ∙ ap (λ (x : ℕ). set w 8 x) (drawn-sum (pieOf w) (getD w 0 0) (getD w 14 0) ecn u e) ∙ r .1)
+          let r = ruled (drawn (pieAt w 5) ecn u) (rw e) in
+          (f ∙ r .0, g ∙ ap (λ (x : ℕ). set w 8 x) (drawn-sum (pieAt w 5) (getD w 0 0) (getD w 14 0) ecn u e) ∙ r .1)
 
 -- past rule 5, from what was read and drawn
-pub drawn-written : (w : List ℕ) (ecn : Bool) (u : ℕ) (pie : Pie) (v : Verdict) (a : Prob) → pie ≡ pieOf w → v ≡ drawn pie ecn u →
+pub drawn-written : (w : List ℕ) (ecn : Bool) (u : ℕ) (pie : Pie) (v : Verdict) (a : Prob) → pie ≡ pieAt w 5 → v ≡ drawn pie ecn u →
     a ≡ prob (cond (isEarly v) none (sumOf pie)) → (x : Verdict) → v ≡ x →
-    (placeOf x ≡ placeOf (drawn (pieOf w) ecn u)) × (set w 8 (a .0) ≡ drawnWords w (drawn (pieOf w) ecn u))
+    (placeOf x ≡ placeOf (drawn (pieAt w 5) ecn u)) × (set w 8 (a .0) ≡ drawnWords w (drawn (pieAt w 5) ecn u))
 drawn-written w ecn u pie v a read ev ea x e =
     let found = rw read at ev in
     let sum = rw (read, found) at ea in (ap placeOf (sym e ∙ found), ap (λ (p : Prob). set w 8 (p .0)) sum)

@@ -1,5 +1,5 @@
 -- Twenty-three words, written out, and what the inner functions make of them.
-use mathlib.Core.Path.{_≡_, refl, subst⁻¹}
+use mathlib.Core.Path.{_≡_, refl, ap, subst⁻¹}
 use mathlib.Core.Bool.{Bool, true, false, cond, not, _&&_}
 use mathlib.Core.List.{List}
 use Prim.Native.Nat.{ℕ, _+_, _-_, _*_, _%_, _<_}
@@ -22,10 +22,10 @@ use Rattle.ring.specs.Arrival.{arrivedState}
 use Rattle.ring.specs.Departure.{departedState}
 use Rattle.ring.specs.Tick.{tickedState}
 use Rattle.pie_words.specs.Flags.{isSet}
-use Rattle.ring_words.specs.Words.{pieOf, rateOf, restartedWords, stateOf, stateWords}
+use Rattle.ring_words.specs.Words.{restartedWords, stateOf, stateWords}
 use Rattle.pie_words.proofs.Flags.{flag-kept, flag-off}
 use Rattle.ring_words.proofs.Written.{listed, written-out}
-use Rattle.pie_words.specs.Words.{rateAt, rateWords}
+use Rattle.pie_words.specs.Words.{pieAt, rateAt, rateWords, updatedWords}
 use Rattle.ring_steps.specs.Words.{decidedWords}
 
 -- what holds of any twenty-three words written out holds of twenty-three words
@@ -101,24 +101,23 @@ module _ (clock size : ℕ) (w : List ℕ) where
 abbrev pub clockedWords : List ℕ → (clock : ℕ) → List ℕ
 clockedWords w clock = set (set w 3 clock) 4 clock
 
--- probability, old delay and allowance
-abbrev pub updatedWords : List ℕ → Pie → List ℕ
-updatedWords w next = set (set (set w 5 (next .prob .0)) 6 (next .old .0)) 7 (next .allowance .0)
-
 -- the update by this profile
 abbrev pub nextPie : (calm : Bool) → List ℕ → Pie
-nextPie calm w = updated (pieOf w) calm (getD w 0 0) (getD w 14 0)
+nextPie calm w = updated (pieAt w 5) calm (getD w 0 0) (getD w 14 0)
+
+update-leaves-buffer : (next : Pie) (w : List ℕ) → length w ≡ 23 → getD (updatedWords w 5 next) 1 0 ≡ getD w 1 0
+update-leaves-buffer next = for-words (λ w. getD (updatedWords w 5 next) 1 0 ≡ getD w 1 0) (λ f. refl)
 
 module _ (clock : ℕ) where
   abbrev Ticked : (w after : List ℕ) → Type 0
   Ticked w after = after ≡ stateWords w (tickedState (stateOf w) clock)
 
   pub ticked-words : (w : List ℕ) → length w ≡ 23 → isSet (getD w 22 0) ≡ true → eqb (getD w 21 0) 1 ≡ false →
-      Ticked w (updatedWords (clockedWords w clock) (nextPie false w))
+      Ticked w (clockedWords (updatedWords w 5 (nextPie false w)) clock)
   unfolding stateOf stateWords tickedState updated
   ticked-words =
       for-words
-      (λ w. isSet (getD w 22 0) ≡ true → eqb (getD w 21 0) 1 ≡ false → Ticked w (updatedWords (clockedWords w clock) (nextPie false w)))
+      (λ w. isSet (getD w 22 0) ≡ true → eqb (getD w 21 0) 1 ≡ false → Ticked w (clockedWords (updatedWords w 5 (nextPie false w)) clock))
       (λ f e p. rw (e, p, flag-kept (f 10)))
 
   -- an inactive queue's
@@ -134,43 +133,47 @@ module _ (clock : ℕ) where
       refills (next .prob .0) (next .old .0) (getD w 6 0) (getD w 0 0) && not (ltb (getD w 1 0) (3 * getD w 14 0))
 
   calm-words : (w : List ℕ) → length w ≡ 23 → isSet (getD w 22 0) ≡ true → eqb (getD w 21 0) 1 ≡ true → quiet w ≡ false →
-      Ticked w (updatedWords (clockedWords w clock) (nextPie true w))
+      Ticked w (clockedWords (updatedWords w 5 (nextPie true w)) clock)
   unfolding stateOf stateWords tickedState updated
   calm-words =
       for-words
       (λ w. isSet (getD w 22 0) ≡ true → eqb (getD w 21 0) 1 ≡ true → quiet w ≡ false →
-      Ticked w (updatedWords (clockedWords w clock) (nextPie true w)))
+      Ticked w (clockedWords (updatedWords w 5 (nextPie true w)) clock))
       (λ f e p q. rw (e, p, q, flag-kept (f 10)))
 
   turned-words : (w : List ℕ) → length w ≡ 23 → isSet (getD w 22 0) ≡ true → eqb (getD w 21 0) 1 ≡ true → quiet w ≡ true →
-      Ticked w (set (updatedWords (clockedWords w clock) (nextPie true w)) 22 0)
+      Ticked w (set (clockedWords (updatedWords w 5 (nextPie true w)) clock) 22 0)
   unfolding stateOf stateWords tickedState updated
   turned-words =
       for-words
       (λ w. isSet (getD w 22 0) ≡ true → eqb (getD w 21 0) 1 ≡ true → quiet w ≡ true →
-      Ticked w (set (updatedWords (clockedWords w clock) (nextPie true w)) 22 0))
+      Ticked w (set (clockedWords (updatedWords w 5 (nextPie true w)) clock) 22 0))
       (λ f e p q. rw (e, p, q, flag-kept (f 10)))
 
   -- the same from what the code has found
   module _ (w : List ℕ) (long : length w ≡ 23) (active : isSet (getD w 22 0) ≡ true) (calm : eqb (getD w 21 0) 1 ≡ true)
       (next : Pie) (ruled : next ≡ nextPie true w) (refilled : Bool)
-      (found : refilled ≡ refills (next .prob .0) (next .old .0) (getD w 6 0) (getD w 0 0)) where
-    pub stays-active : refilled && not (ltb (getD w 1 0) (3 * getD w 14 0)) ≡ false → Ticked w (updatedWords (clockedWords w clock) next)
-    stays-active t = rw ruled (calm-words w long active calm (rw (found, ruled) at t))
+      (found : refilled ≡ refills (next .prob .0) (next .old .0) (getD w 6 0) (getD w 0 0))
+      (after : List ℕ) (written : after ≡ updatedWords w 5 next) where
+    -- the buffer is read past the update, which leaves it
+    same : ltb (getD after 1 0) (3 * getD w 14 0) ≡ ltb (getD w 1 0) (3 * getD w 14 0)
+    same = rw written (ap (λ (b : ℕ). ltb b (3 * getD w 14 0)) (update-leaves-buffer next w long))
 
-    pub turns-inactive : refilled && not (ltb (getD w 1 0) (3 * getD w 14 0)) ≡ true →
-        Ticked w (set (updatedWords (clockedWords w clock) next) 22 0)
-    turns-inactive t = rw ruled (turned-words w long active calm (rw (found, ruled) at t))
+    pub stays-active : refilled && not (ltb (getD after 1 0) (3 * getD w 14 0)) ≡ false → Ticked w (clockedWords after clock)
+    stays-active t = rw (written, ruled) (calm-words w long active calm (rw (found, ruled) at (rw same at t)))
+
+    pub turns-inactive : refilled && not (ltb (getD after 1 0) (3 * getD w 14 0)) ≡ true → Ticked w (set (clockedWords after clock) 22 0)
+    turns-inactive t = rw (written, ruled) (turned-words w long active calm (rw (found, ruled) at (rw same at t)))
 
 -- ── a departure ──
 
 -- clock, count, bytes and first place
-abbrev pub leftWords : List ℕ → (clock size first : ℕ) → List ℕ
-leftWords w clock size first = set (set (set (set w 3 clock) 13 (getD w 13 0 - 1)) 14 (getD w 14 0 - size)) 15 first
+abbrev pub leftWords : List ℕ → (clock count queued first : ℕ) → List ℕ
+leftWords w clock count queued first = set (set (set (set w 3 clock) 13 count) 14 queued) 15 first
 
 abbrev departureWritten : List ℕ → (clock size : ℕ) → List ℕ
 departureWritten w clock size =
-    let left = leftWords w clock size ((getD w 15 0 + 1) % getD w 2 0) in
+    let left = leftWords w clock (getD w 13 0 - 1) (getD w 14 0 - size) ((getD w 15 0 + 1) % getD w 2 0) in
     rateWords left 5 (rateAfter (rateAt left 5) clock size (getD w 13 0 - 1) (getD w 14 0 - size))
 
 pub departed-words : (clock size : ℕ) (w : List ℕ) → length w ≡ 23 →
@@ -179,8 +182,8 @@ unfolding stateOf stateWords rateWords departedState
 departed-words clock size =
     for-words (λ w. departureWritten w clock size ≡ stateWords w (departedState (stateOf w) clock size)) (λ f. rw (flag-kept (f 22)))
 
-pub left-rate : (clock size first : ℕ) (w : List ℕ) → length w ≡ 23 → rateOf (leftWords w clock size first) ≡ rateOf w
-left-rate clock size first = for-words (λ w. rateOf (leftWords w clock size first) ≡ rateOf w) (λ f. refl)
+pub left-rate : (clock count queued first : ℕ) (w : List ℕ) → length w ≡ 23 → rateAt (leftWords w clock count queued first) 5 ≡ rateAt w 5
+left-rate clock count queued first = for-words (λ w. rateAt (leftWords w clock count queued first) 5 ≡ rateAt w 5) (λ f. refl)
 
-pub left-long : (clock size first : ℕ) (w : List ℕ) → length w ≡ 23 → length (leftWords w clock size first) ≡ 23
-left-long clock size first = for-words (λ w. length (leftWords w clock size first) ≡ 23) (λ f. refl)
+pub left-long : (clock count queued first : ℕ) (w : List ℕ) → length w ≡ 23 → length (leftWords w clock count queued first) ≡ 23
+left-long clock count queued first = for-words (λ w. length (leftWords w clock count queued first) ≡ 23) (λ f. refl)

@@ -1,4 +1,6 @@
 // An arrival at a queue that is ready for it.
+use crate::codes::REFUSED_CLOCK;
+use crate::codes::REFUSED_SIZE;
 use bursts::wide;
 use pie::LARGEST;
 use pie::LATEST;
@@ -6,6 +8,17 @@ use pie::Verdict;
 use pie_words::pie_at;
 use pie_words::spares;
 use places::tail_place;
+use ring_words::ACCUMULATED;
+use ring_words::ACTIVE;
+use ring_words::BUFFER;
+use ring_words::BYTES;
+use ring_words::CLOCK;
+use ring_words::COUNT;
+use ring_words::FIRST;
+use ring_words::PIE;
+use ring_words::SLOTS;
+use ring_words::TARGET;
+use ring_words::VERDICTS;
 use ring_words::write_restart;
 use units::Micros;
 ghost use mathlib.Core.Path.{_≡_};
@@ -20,7 +33,8 @@ ghost use Rattle.ring.specs.Answer.{verdict};
 ghost use Rattle.ring.specs.Arrival.{arrival, arrivedState, stored, verdictOf};
 ghost use Rattle.ring.specs.State.{wellFormed};
 ghost use Rattle.ring_words.specs.Codes.{codeOf, wordsAfter};
-ghost use Rattle.ring_words.specs.Words.{pieOf, restartedWords, stateOf, stateWords};
+ghost use Rattle.pie_words.specs.Words.{pieAt};
+ghost use Rattle.ring_words.specs.Words.{restartedWords, stateOf, stateWords};
 ghost use Rattle.ring_steps.specs.Lent.{lent};
 ghost use Rattle.ring_steps.specs.Fitting.{Ready};
 ghost use Rattle.ring_steps.specs.Words.{decidedWords, drawnWords};
@@ -29,30 +43,30 @@ ghost use Rattle.ring_steps.specs.Words.{decidedWords, drawnWords};
 // the compiler tests the place again (docs/PERFORMANCE.md).
 fn draw(w: &mut [u64; 23], ecn: bool, u: u32) -> usize
     requires { ⌜ (length (now w) ≡ 23) × (getD (now w) 5 0 ≤ whole) × (getD (now w) 8 0 < mostAccumulated) ⌝ }
-    ensures { λ r. ⌜ r ≡ placeOf (drawn (pieOf (now (w .entry))) ecn u) ⌝ }
-    ensures { λ _. ⌜ now (w .exit) ≡ drawnWords (now (w .entry)) (drawn (pieOf (now (w .entry))) ecn u) ⌝ }
+    ensures { λ r. ⌜ r ≡ placeOf (drawn (pieAt (now (w .entry)) 5) ecn u) ⌝ }
+    ensures { λ _. ⌜ now (w .exit) ≡ drawnWords (now (w .entry)) (drawn (pieAt (now (w .entry)) 5) ecn u) ⌝ }
 {
-    let found = pie_at(w, 5).draw(ecn, u);
+    let found = pie_at(w, PIE).draw(ecn, u);
     let v = found.verdict;
     match v {
         Verdict::Enqueued => {
-            w[8] = found.accumulated.0;
+            w[ACCUMULATED] = found.accumulated.0;
             0
         }
         Verdict::Marked => {
-            w[8] = found.accumulated.0;
+            w[ACCUMULATED] = found.accumulated.0;
             1
         }
         Verdict::DroppedBytes => {
-            w[8] = found.accumulated.0;
+            w[ACCUMULATED] = found.accumulated.0;
             2
         }
         Verdict::DroppedSlots => {
-            w[8] = found.accumulated.0;
+            w[ACCUMULATED] = found.accumulated.0;
             3
         }
         Verdict::DroppedEarly => {
-            w[8] = found.accumulated.0;
+            w[ACCUMULATED] = found.accumulated.0;
             4
         }
     }
@@ -66,17 +80,17 @@ fn decide(w: &mut [u64; 23], size: u64, ecn: bool, u: u32) -> usize
     ensures { λ r. ⌜ r ≡ placeOf (verdictOf (stateOf (now (w .entry))) size ecn u) ⌝ }
     ensures { λ _. ⌜ now (w .exit) ≡ decidedWords (now (w .entry)) (verdictOf (stateOf (now (w .entry))) size ecn u) ⌝ }
 {
-    let bytes = w[14];
-    let bytes_full = w[1] < bytes + size;
+    let bytes = w[BYTES];
+    let bytes_full = w[BUFFER] < bytes + size;
     if bytes_full {
         return 2;
     }
-    let slots_full = w[13] == w[2];
+    let slots_full = w[COUNT] == w[SLOTS];
     if slots_full {
         return 3;
     }
-    let target = Micros(w[0]);
-    let spared = spares(w, 5, target);
+    let target = Micros(w[TARGET]);
+    let spared = spares(w, PIE, target);
     if spared {
         return 0;
     }
@@ -105,14 +119,14 @@ fn take(
 {
     let bytes = wide(size);
     let v = decide(w, bytes, ecn, u);
-    let row = 16 + v;
-    w[3] = clock;
+    let row = VERDICTS + v;
+    w[CLOCK] = clock;
     w[row] = w[row] + 1;
     let admits = v < 2;
     if admits {
-        let tail = tail_place(w[15], w[13], w[2]) as usize;
-        w[13] = w[13] + 1;
-        w[14] = w[14] + bytes;
+        let tail = tail_place(w[FIRST], w[COUNT], w[SLOTS]) as usize;
+        w[COUNT] = w[COUNT] + 1;
+        w[BYTES] = w[BYTES] + bytes;
         handles[tail] = handle;
         sizes[tail] = size;
     }
@@ -123,7 +137,7 @@ fn take(
 fn restart(w: &mut [u64; 23])
     ensures { λ _. ⌜ now (w .exit) ≡ restartedWords (set (now (w .entry)) 8 0) ⌝ }
 {
-    w[8] = 0;
+    w[ACCUMULATED] = 0;
     write_restart(w);
 }
 
@@ -146,22 +160,22 @@ pub fn arrive(
         × (now (handles .exit) ≡ stored s (a .answer) (now (handles .entry)) handle)
         × (now (sizes .exit) ≡ stored s (a .answer) (now (sizes .entry)) size)) ⌝ }
 {
-    let wrong_clock = (clock < w[3]) | (LATEST < clock);
+    let wrong_clock = (clock < w[CLOCK]) | (LATEST < clock);
     if wrong_clock {
-        return 104;
+        return REFUSED_CLOCK;
     }
     let bytes = wide(size);
     let wrong_size = (bytes == 0) | (LARGEST < bytes);
     if wrong_size {
-        return 107;
+        return REFUSED_SIZE;
     }
-    let found = w[14];
+    let found = w[BYTES];
     let v = take(w, handles, sizes, clock, handle, size, ecn, u);
-    let active = w[22] != 0;
+    let active = w[ACTIVE] != 0;
     if active {
         return v as u64;
     }
-    let loaded = w[1] < 3 * found;
+    let loaded = w[BUFFER] < 3 * found;
     if loaded {
         restart(w);
     }

@@ -1,4 +1,7 @@
 // A departure of a queue whose record and tables fit.
+use crate::codes::REFUSED_CLOCK;
+use crate::codes::REFUSED_EMPTY;
+use crate::codes::REFUSED_HEAD;
 use bursts::wide;
 use bursts::word;
 use pie::Backlog;
@@ -6,6 +9,12 @@ use pie::LATEST;
 use pie_words::measure;
 use places::following;
 use refusals::wrong_head;
+use ring_words::BYTES;
+use ring_words::CLOCK;
+use ring_words::COUNT;
+use ring_words::FIRST;
+use ring_words::PIE;
+use ring_words::SLOTS;
 use units::Bytes;
 use units::Micros;
 ghost use mathlib.Core.Path.{_≡_};
@@ -22,17 +31,17 @@ pub fn depart(w: &mut [u64; 23], handles: &[u32], sizes: &[u32], clock: u64) -> 
     ensures { λ r. ⌜ (let a = departure (stateOf (now (w .entry))) (now (handles .entry)) (now (sizes .entry)) clock in
         (r ≡ answerWord (a .answer)) × (now (w .exit) ≡ wordsAfter a (now (w .entry)))) ⌝ }
 {
-    let wrong_clock = (clock < w[3]) | (LATEST < clock);
+    let wrong_clock = (clock < w[CLOCK]) | (LATEST < clock);
     if wrong_clock {
-        return 104;
+        return REFUSED_CLOCK;
     }
-    let count = w[13];
-    let bytes = w[14];
+    let count = w[COUNT];
+    let bytes = w[BYTES];
     let empty = count == 0;
     if empty {
-        return 106;
+        return REFUSED_EMPTY;
     }
-    let first = w[15];
+    let first = w[FIRST];
     let at = first as usize;
     let head = sizes[at];
     let size = wide(head);
@@ -42,20 +51,15 @@ pub fn depart(w: &mut [u64; 23], handles: &[u32], sizes: &[u32], clock: u64) -> 
     };
     let wrong = wrong_head(backlog, size);
     if wrong {
-        return 109;
+        return REFUSED_HEAD;
     }
     let handle = handles[at];
-    let others = count - 1;
-    let left = bytes - size;
-    let next = following(first, w[2]);
-    w[3] = clock;
-    w[13] = others;
-    w[14] = left;
-    w[15] = next;
-    let rest = Backlog {
-        count: others,
-        bytes: Bytes(left),
-    };
-    measure(w, 5, Micros(clock), Bytes(size), rest);
+    let rest = backlog.leave(Bytes(size));
+    let next = following(first, w[SLOTS]);
+    w[CLOCK] = clock;
+    w[COUNT] = rest.count;
+    w[BYTES] = rest.bytes.0;
+    w[FIRST] = next;
+    measure(w, PIE, Micros(clock), Bytes(size), rest);
     word(0, head, handle)
 }

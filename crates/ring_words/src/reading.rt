@@ -1,12 +1,26 @@
 // Words read as a state.
+use crate::layout::ACTIVE;
+use crate::layout::BUFFER;
+use crate::layout::BYTES;
+use crate::layout::CLOCK;
+use crate::layout::COUNT;
+use crate::layout::DROPPED_BYTES;
+use crate::layout::DROPPED_EARLY;
+use crate::layout::DROPPED_SLOTS;
+use crate::layout::ENQUEUED;
+use crate::layout::FIRST;
+use crate::layout::LAST;
+use crate::layout::MARKED;
+use crate::layout::PIE;
+use crate::layout::PROFILE;
+use crate::layout::SLOTS;
+use crate::layout::TARGET;
 use pie::Backlog;
-use pie::Pie;
-use pie::Rate;
+use pie_words::pie_at;
 use ring::Settings;
 use ring::State;
 use units::Bytes;
 use units::Micros;
-use units::Prob;
 ghost use mathlib.Core.Path.{_≡_};
 ghost use lib.ListN.{length};
 ghost use Rattle.ring_words.specs.Words.{stateOf};
@@ -16,37 +30,31 @@ pub fn decode(w: [u64; 23]) -> State
     ensures { λ r. ⌜ (r ≡ stateOf w) × (length w ≡ 23) ⌝ }
 {
     let settings = Settings {
-        target: Micros(w[0]),
-        buffer: Bytes(w[1]),
-        slots: w[2],
-        profile: w[21],
+        target: Micros(w[TARGET]),
+        buffer: Bytes(w[BUFFER]),
+        slots: w[SLOTS],
+        profile: w[PROFILE],
     };
-    let rate = Rate {
-        average: Micros(w[9]),
-        measuring: w[10] != 0,
-        start: Micros(w[11]),
-        counted: Bytes(w[12]),
-    };
-    let pie = Pie {
-        prob: Prob(w[5]),
-        old: Micros(w[6]),
-        allowance: Micros(w[7]),
-        accumulated: Prob(w[8]),
-        rate,
-    };
+    let pie = pie_at(&w, PIE);
     let backlog = Backlog {
-        count: w[13],
-        bytes: Bytes(w[14]),
+        count: w[COUNT],
+        bytes: Bytes(w[BYTES]),
     };
-    let verdicts = [w[16], w[17], w[18], w[19], w[20]];
+    let verdicts = [
+        w[ENQUEUED],
+        w[MARKED],
+        w[DROPPED_BYTES],
+        w[DROPPED_SLOTS],
+        w[DROPPED_EARLY],
+    ];
     State {
         settings,
-        clock: Micros(w[3]),
-        last: Micros(w[4]),
+        clock: Micros(w[CLOCK]),
+        last: Micros(w[LAST]),
         pie,
         backlog,
-        first: w[15],
+        first: w[FIRST],
         verdicts,
-        active: w[22] != 0,
+        active: w[ACTIVE] != 0,
     }
 }

@@ -1,4 +1,18 @@
 // A state written over words: whole, or where a call changes it.
+use crate::layout::ACCUMULATED;
+use crate::layout::ACTIVE;
+use crate::layout::ALLOWANCE;
+use crate::layout::AVERAGE;
+use crate::layout::BYTES;
+use crate::layout::CLOCK;
+use crate::layout::COUNT;
+use crate::layout::COUNTED;
+use crate::layout::FIRST;
+use crate::layout::MEASURING;
+use crate::layout::OLD;
+use crate::layout::PROB;
+use crate::layout::START;
+use crate::layout::VERDICTS;
 use pie::FULL_ALLOWANCE;
 use pie::Verdict;
 use pie_words::flag;
@@ -22,8 +36,8 @@ pub fn encode(w: &mut [u64; 23], s: State)
     let v2 = s.verdicts[2];
     let v3 = s.verdicts[3];
     let v4 = s.verdicts[4];
-    let runs = flag(w[10], s.pie.rate.measuring);
-    let active = flag(w[22], s.active);
+    let runs = flag(w[MEASURING], s.pie.rate.measuring);
+    let active = flag(w[ACTIVE], s.active);
     *w = [
         s.settings.target.0,
         s.settings.buffer.0,
@@ -55,14 +69,14 @@ pub fn encode(w: &mut [u64; 23], s: State)
 pub fn write_restart(w: &mut [u64; 23])
     ensures { λ _. ⌜ now (w .exit) ≡ restartedWords (now (w .entry)) ⌝ }
 {
-    w[5] = 0;
-    w[6] = 0;
-    w[7] = FULL_ALLOWANCE;
-    w[9] = 0;
-    w[10] = 0;
-    w[11] = 0;
-    w[12] = 0;
-    w[22] = 1;
+    w[PROB] = 0;
+    w[OLD] = 0;
+    w[ALLOWANCE] = FULL_ALLOWANCE;
+    w[AVERAGE] = 0;
+    w[MEASURING] = 0;
+    w[START] = 0;
+    w[COUNTED] = 0;
+    w[ACTIVE] = 1;
 }
 
 // The words that an arrival with this verdict changes: fewer than `encode` writes, since the tables were written before. `turned`: it
@@ -76,11 +90,11 @@ pub fn write_arrival(w: &mut [u64; 23], s: State, v: Verdict, turned: bool) -> u
         write_restart(w);
     }
     let place = v.place();
-    let at = 16 + place;
-    w[3] = s.clock.0;
-    w[8] = s.pie.accumulated.0;
-    w[13] = s.backlog.count;
-    w[14] = s.backlog.bytes.0;
+    let at = VERDICTS + place;
+    w[CLOCK] = s.clock.0;
+    w[ACCUMULATED] = s.pie.accumulated.0;
+    w[COUNT] = s.backlog.count;
+    w[BYTES] = s.backlog.bytes.0;
     w[at] = w[at] + 1;
     place as u32
 }
@@ -98,15 +112,15 @@ pub fn write_departure(
     ensures { λ _. ⌜ now (packet .exit) ≡ handle ∷ size ∷ [] ⌝ }
 {
     let rate = state.pie.rate;
-    w[12] = rate.counted.0;
+    w[COUNTED] = rate.counted.0;
     if rate.counted.0 == 0 {
-        w[9] = rate.average.0;
-        w[10] = flag(w[10], rate.measuring);
-        w[11] = rate.start.0;
+        w[AVERAGE] = rate.average.0;
+        w[MEASURING] = flag(w[MEASURING], rate.measuring);
+        w[START] = rate.start.0;
     }
-    w[3] = state.clock.0;
-    w[13] = state.backlog.count;
-    w[14] = state.backlog.bytes.0;
-    w[15] = state.first;
+    w[CLOCK] = state.clock.0;
+    w[COUNT] = state.backlog.count;
+    w[BYTES] = state.backlog.bytes.0;
+    w[FIRST] = state.first;
     *packet = [handle, size];
 }

@@ -1,8 +1,12 @@
 -- `tick`: the tests in their order, then the words in which the new state differs.
 use borrow.Author.Needs.{needs}
-use mathlib.Core.Path.{refl, sym, _∙_}
+use mathlib.Core.Path.{refl, sym, ap, _∙_}
+use mathlib.Core.List.{List}
+use Prim.Native.Nat.{ℕ}
 use native.Mathlib.Omega.{arith}
 use denote.Ref.{now}
+use Rattle.pie.specs.declared.Pie.{Pie}
+use Rattle.pie_words.specs.Words.{updatedWords}
 use Rattle.pair_rules.specs.declared.Shared.{Shared}
 use Rattle.pair_rules.specs.declared.State.{State}
 use Rattle.pair_rules.specs.declared.Which.{Which}
@@ -10,7 +14,7 @@ use Rattle.pair_rules.proofs.Symmetry.{well-formed-seen}
 use Rattle.pair_rules.proofs.WhenAccepted.{Known, known}
 use Rattle.pair_words.specs.Words.{sharedOf, stateOf, whichOf}
 use Rattle.pair_steps.proofs.Replies.{tick-early, tick-late, tick-made, ticked-gives}
-use Rattle.pair_steps.proofs.Words.{ticked-words}
+use Rattle.pair_steps.proofs.Words.{clockedWords, ticked-words}
 use Rattle.pair_steps.proofs.ticking.tick.Statement.{statement}
 use Rattle.pair_steps.proofs.ticking.tick.Tie as tie
 
@@ -52,28 +56,16 @@ returns-2 c =
     let a = e1 .before .before in
     rw (tick-early (shared a) (own a) (other a) (a .args .clock) (which a) (a .pre .1) (e1 .if1 .left) (c .if2 .taken)) (refl, refl)
 
-pie-at-requires : tie.Need-pie-at-requires
-pie-at-requires c κs = search needs
-
-element-copy-out-t17 : tie.Need-element-copy-out-t17
-element-copy-out-t17 c = search needs
-
-element-copy-out-t12 : tie.Need-element-copy-out-t12
-element-copy-out-t12 c = search needs
-
-abbrev at-two : tie.After-t12 → tie.Else2
-at-two c = c .before .before .before .before .before
-
-abbrev at-start : tie.After-t12 → tie.Start
-at-start c = at-two c .before .before .before .before
+element-copy-out-t16 : tie.Need-element-copy-out-t16
+element-copy-out-t16 c = search needs
 
 update-requires : tie.Need-update-requires
 unfolding stateOf
 update-requires c κs =
-    let k = known-of (at-start c) in
-    rw (c .before .before .pie-at .ensures) (
-      (k .own .prob-high, k .own .old-high, k .own .average-high),
-      (k .own .target-high, omega (arith, k .own .bytes-fit, k .own .buffer-high)),
+    let a = c .before .before .before .before .before .before in
+    let k = known-of a .own in (
+      omega (arith, a .pre .0),
+      (k .prob-high, k .old-high, k .average-high, omega (arith, k .bytes-fit, k .buffer-high), k .target-high),
     )
 
 element-write-own : tie.Need-element-write-own
@@ -82,26 +74,20 @@ element-write-own c = search needs
 element-write-own-2 : tie.Need-element-write-own-2
 element-write-own-2 c = search needs
 
-element-write-own-3 : tie.Need-element-write-own-3
-element-write-own-3 c = search needs
-
-element-write-own-4 : tie.Need-element-write-own-4
-element-write-own-4 c = search needs
-
-element-write-own-5 : tie.Need-element-write-own-5
-element-write-own-5 c = search needs
-
 returns-3 : tie.Need-returns-3
 unfolding stateOf
 returns-3 c =
-    let e2 = at-two (c .before) in
+    let e2 = c .before .before .before in
     let e1 = e2 .before .before in
-    let a = at-start (c .before) in
+    let a = e1 .before .before in
     let ow = now (a .args .own) in
-    let made = tick-made (shared a) (own a) (other a) (a .args .clock) (which a) (a .pre .1) (e1 .if1 .left) (e2 .if2 .left) in
-    let next = rw (c .before .before .before .pie-at .ensures) at (c .update .ensures) in
-    ticked-gives (which a) (shared a) (own a) (other a) (a .args .clock) ow _ made
-    (rw next (ticked-words (a .args .clock) ow (a .pre .0)))
+    let clock = a .args .clock in
+    let made = tick-made (shared a) (own a) (other a) clock (which a) (a .pre .1) (e1 .if1 .left) (e2 .if2 .left) in
+    let words =
+    ap (λ (l : List ℕ). clockedWords l clock) (c .update .ensures .1)
+    ∙ ap (λ (p : Pie). clockedWords (updatedWords ow 4 p) clock) (c .update .ensures .0)
+    ∙ ticked-words clock ow (a .pre .0) in
+    ticked-gives (which a) (shared a) (own a) (other a) clock ow _ made words
 
 pub tick-spec : {M : Type 1} → statement M
 tick-spec =
@@ -112,13 +98,8 @@ tick-spec =
     element-copy-out-too-soon
     add-too-soon
     returns-2
-    pie-at-requires
-    element-copy-out-t17
-    element-copy-out-t12
+    element-copy-out-t16
     update-requires
     element-write-own
     element-write-own-2
-    element-write-own-3
-    element-write-own-4
-    element-write-own-5
     returns-3)

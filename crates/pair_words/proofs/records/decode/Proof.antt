@@ -5,96 +5,72 @@ use borrow.Author.Needs.{needs}
 use Rattle.pair_words.proofs.records.decode.Statement.{statement}
 use Rattle.pair_words.proofs.records.decode.Tie as tie
 
-array-read-t11 : tie.Need-array-read-t11
-array-read-t11 c = search needs
+array-read-t10 : tie.Need-array-read-t10
+array-read-t10 c = search needs
 
-array-read-t15 : tie.Need-array-read-t15
-array-read-t15 c = search needs
+array-read-t14 : tie.Need-array-read-t14
+array-read-t14 c = search needs
 
-array-read-t11-2 : tie.Need-array-read-t11-2
-array-read-t11-2 c = search needs
+slice-aggregate-pie-at : tie.Need-slice-aggregate-pie-at
+slice-aggregate-pie-at c = search needs
 
-array-read-t15-2 : tie.Need-array-read-t15-2
-array-read-t15-2 c = search needs
+pie-at-requires : tie.Need-pie-at-requires
+pie-at-requires c κs = search needs
 
-array-read-t24 : tie.Need-array-read-t24
-array-read-t24 c = search needs
+array-read-t10-2 : tie.Need-array-read-t10-2
+array-read-t10-2 c = search needs
 
-array-read-t28 : tie.Need-array-read-t28
-array-read-t28 c = search needs
+array-read-t14-2 : tie.Need-array-read-t14-2
+array-read-t14-2 c = search needs
 
-array-read-t11-3 : tie.Need-array-read-t11-3
-array-read-t11-3 c = search needs
+array-read-t10-3 : tie.Need-array-read-t10-3
+array-read-t10-3 c = search needs
 
-array-read-t15-3 : tie.Need-array-read-t15-3
-array-read-t15-3 c = search needs
+array-read-t14-3 : tie.Need-array-read-t14-3
+array-read-t14-3 c = search needs
 
-array-read-t28-2 : tie.Need-array-read-t28-2
-array-read-t28-2 c = search needs
+array-read-t10-4 : tie.Need-array-read-t10-4
+array-read-t10-4 c = search needs
 
-array-read-t24-2 : tie.Need-array-read-t24-2
-array-read-t24-2 c = search needs
+array-read-t14-4 : tie.Need-array-read-t14-4
+array-read-t14-4 c = search needs
 
-array-read-t11-4 : tie.Need-array-read-t11-4
-array-read-t11-4 c = search needs
+array-read-t32 : tie.Need-array-read-t32
+array-read-t32 c = search needs
 
-array-read-t15-4 : tie.Need-array-read-t15-4
-array-read-t15-4 c = search needs
+array-read-t35 : tie.Need-array-read-t35
+array-read-t35 c = search needs
 
-array-read-t24-3 : tie.Need-array-read-t24-3
-array-read-t24-3 c = search needs
+array-read-t38 : tie.Need-array-read-t38
+array-read-t38 c = search needs
 
-array-read-t28-3 : tie.Need-array-read-t28-3
-array-read-t28-3 c = search needs
+array-read-t10-5 : tie.Need-array-read-t10-5
+array-read-t10-5 c = search needs
 
-array-read-t15-5 : tie.Need-array-read-t15-5
-array-read-t15-5 c = search needs
-
-array-read-t28-4 : tie.Need-array-read-t28-4
-array-read-t28-4 c = search needs
-
-array-read-t24-4 : tie.Need-array-read-t24-4
-array-read-t24-4 c = search needs
-
-array-read-t11-5 : tie.Need-array-read-t11-5
-array-read-t11-5 c = search needs
-
-array-read-t57 : tie.Need-array-read-t57
-array-read-t57 c = search needs
-
-array-read-t15-6 : tie.Need-array-read-t15-6
-array-read-t15-6 c = search needs
-
-array-read-t11-6 : tie.Need-array-read-t11-6
-array-read-t11-6 c = search needs
+array-read-t35-2 : tie.Need-array-read-t35-2
+array-read-t35-2 c = search needs
 
 returns : tie.Need-returns
 unfolding stateOf
-returns c = (refl, search needs)
+returns c = (rw (c .pie-at .ensures) refl, search needs)
 
 pub decode-spec : {M : Type 1} → statement M
 decode-spec =
     tie.close
     (tie.spec
-    array-read-t11
-    array-read-t15
-    array-read-t11-2
-    array-read-t15-2
-    array-read-t24
-    array-read-t28
-    array-read-t11-3
-    array-read-t15-3
-    array-read-t28-2
-    array-read-t24-2
-    array-read-t11-4
-    array-read-t15-4
-    array-read-t24-3
-    array-read-t28-3
-    array-read-t15-5
-    array-read-t28-4
-    array-read-t24-4
-    array-read-t11-5
-    array-read-t57
-    array-read-t15-6
-    array-read-t11-6
+    array-read-t10
+    array-read-t14
+    slice-aggregate-pie-at
+    pie-at-requires
+    array-read-t10-2
+    array-read-t14-2
+    array-read-t10-3
+    array-read-t14-3
+    array-read-t10-4
+    array-read-t14-4
+    array-read-t32
+    array-read-t35
+    array-read-t38
+    array-read-t10-5
+    array-read-t35-2
     returns)

@@ -95,19 +95,18 @@ shared-slice-read-handle : tie.Need-shared-slice-read-handle
 unfolding stateOf
 shared-slice-read-handle c = let f = known (c .before .before .before .before .before .before .before .before .before .before .before .before .before) in omega (arith, f .first-high, c .before .before .before .before .before .before .before .before .before .before .before .before .before .pre .2)
 
-sub-others : tie.Need-sub-others
-sub-others c = let n = some (c .before .before .before .before .before .before) in omega arith
-
-sub-left : tie.Need-sub-left
+leave-requires : tie.Need-leave-requires
 unfolding stateOf
-sub-left c = rw (c .before .before .before .wide .ensures) (fit (c .before) .fits)
+leave-requires c κs =
+    let n = some (c .before .before .before .before .before .before) in
+    (omega arith, rw (c .before .before .before .wide .ensures) (fit (c .before) .fits))
 
 element-copy-out-following : tie.Need-element-copy-out-following
 element-copy-out-following c = search needs
 
 following-requires : tie.Need-following-requires
 unfolding stateOf
-following-requires c κs = let f = known (c .before .before .before .before .before .before .before .before .before .before .before .before .before .before) in (f .first-high, f .slots-high)
+following-requires c κs = let f = known (c .before .before .before .before .before .before .before .before .before .before .before .before .before .before .before) in (f .first-high, f .slots-high)
 
 element-write-w : tie.Need-element-write-w
 element-write-w c = search needs
@@ -124,36 +123,36 @@ element-write-w-4 c = search needs
 measure-requires : tie.Need-measure-requires
 unfolding stateOf
 measure-requires c κs =
-    let a = c .before .before .before .before .before .before .before .before .before .before .before .before .before .before .before .before in
+    let a = c .before .before .before .before .before .before .before .before .before .before .before .before .before .before .before .before .before in
     let f = known a in
     let w = now (a .args .w) in
-    let size = c .before .before .before .before .before .before .wide .result in
+    let rest = c .before .before .before .leave .result in
     let first = c .before .following .result in
-    let same = left-rate (a .args .clock) size first w (a .pre .0) in
-    let low = or-neither (ltb (a .args .clock) (getD w 3 0)) _ (c .before .before .before .before .before .before .before .before .before .before .before .before .if1 .left) .0 in
+    let same = left-rate (a .args .clock) (rest .count) (rest .bytes .0) first w (a .pre .0) in
+    let low = or-neither (ltb (a .args .clock) (getD w 3 0)) _ (c .before .before .before .before .before .before .before .before .before .before .before .before .before .if1 .left) .0 in
     let later : getD w 3 0 ≤ a .args .clock = ltb-false _ _ low in (
-      omega (arith, left-long (a .args .clock) size first w (a .pre .0)),
+      omega (arith, left-long (a .args .clock) (rest .count) (rest .bytes .0) first w (a .pre .0)),
       (
         rw (ap (λ (r : Rate). r .start .0) same) (omega (arith, f .start-high, later)),
         rw (ap (λ (r : Rate). r .average .0) same) (f .average-high),
         rw (ap (λ (r : Rate). r .counted .0) same) (f .counted-high),
-        rw (c .before .before .before .before .before .before .wide .ensures) (fit (c .before .before .before .before) .high),
+        rw (c .before .before .before .before .before .before .before .wide .ensures) (fit (c .before .before .before .before .before) .high),
       ),
     )
 
 word-requires : tie.Need-word-requires
 unfolding stateOf
-word-requires c κs = (omega arith, fit (c .before .before .before .before .before) .high)
+word-requires c κs = (omega arith, fit (c .before .before .before .before .before .before) .high)
 
 returns-4 : tie.Need-returns-4
 unfolding stateOf
 returns-4 c =
-    let a = c .before .before .before .before .before .before .before .before .before .before .before .before .before .before .before .before .before .before in
+    let a = c .before .before .before .before .before .before .before .before .before .before .before .before .before .before .before .before .before .before .before in
     let q = a .pre in
     let w = now (a .args .w) in
-    let made = departure-made (stateOf w) (now (a .args .handles)) (now (a .args .sizes)) (a .args .clock) (q .1) (q .2) (q .3) (c .before .before .before .before .before .before .before .before .before .before .before .before .before .before .if1 .left) (c .before .before .before .before .before .before .before .before .before .before .before .if2 .left) (not-wrong (c .before .before .before .before .before .before)) in
+    let made = departure-made (stateOf w) (now (a .args .handles)) (now (a .args .sizes)) (a .args .clock) (q .1) (q .2) (q .3) (c .before .before .before .before .before .before .before .before .before .before .before .before .before .before .before .if1 .left) (c .before .before .before .before .before .before .before .before .before .before .before .before .if2 .left) (not-wrong (c .before .before .before .before .before .before .before)) in
     let words = departed-words (a .args .clock) (sizeAt a) w (q .0) in
-    rw made (c .word .ensures, rw (c .before .before .before .following .ensures, c .before .before .before .before .before .before .before .before .wide .ensures) at (c .before .measure .ensures) ∙ words)
+    rw made (c .word .ensures, rw (c .before .before .before .following .ensures, c .before .before .before .before .before .leave .ensures, c .before .before .before .before .before .before .before .before .before .wide .ensures) at (c .before .measure .ensures) ∙ words)
 
 pub depart-spec : {M : Type 1} → statement M
 depart-spec =
@@ -172,8 +171,7 @@ depart-spec =
     returns-3
     mul-handle
     shared-slice-read-handle
-    sub-others
-    sub-left
+    leave-requires
     element-copy-out-following
     following-requires
     element-write-w

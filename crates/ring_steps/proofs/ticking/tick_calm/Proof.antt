@@ -9,11 +9,7 @@ use denote.Ref.{now}
 use Rattle.pie.proofs.Ranges.{updated-old-le}
 use Rattle.ring.proofs.Facts.{facts}
 use Rattle.ring_words.specs.Words.{stateOf}
-use Rattle.ring_steps.proofs.Words.{idle-words, nextPie, stays-active, turns-inactive}
-
--- the update's record, from the words
-ruled : (c : tie.After-update) → c .update .result ≡ nextPie true (now (c .before .before .before .before .before .before .before .before .before .args .w))
-ruled c = rw (c .before .pie-at .ensures) at (c .update .ensures)
+use Rattle.ring_steps.proofs.Words.{idle-words, stays-active, turns-inactive}
 
 element-copy-out-inactive : tie.Need-element-copy-out-inactive
 element-copy-out-inactive c = search needs
@@ -36,25 +32,25 @@ element-copy-out-queued-2 c = search needs
 element-copy-out-queued-3 : tie.Need-element-copy-out-queued-3
 element-copy-out-queued-3 c = search needs
 
-pie-at-requires : tie.Need-pie-at-requires
-pie-at-requires c κs = search needs
-
 update-requires : tie.Need-update-requires
 unfolding stateOf
 update-requires c κs =
-    let f = facts _ (c .before .before .before .before .before .before .before .before .pre .1) in
-    rw (c .pie-at .ensures) ((f .prob-high, f .old-high, f .average-high), (f .target-high, omega (arith, f .bytes-fit, f .buffer-high)))
+    let a = c .before .before .before .before .before .before in
+    let f = facts _ (a .pre .1) in (
+      omega (arith, a .pre .0),
+      (f .prob-high, f .old-high, f .average-high, omega (arith, f .bytes-fit, f .buffer-high), f .target-high),
+    )
 
 refills-requires : tie.Need-refills-requires
 unfolding stateOf
-refills-requires c κs = let f = facts _ (c .before .before .before .before .before .before .before .before .before .pre .1) in (rw (c .update .ensures) (updated-old-le _ true _ _), f .old-high)
+refills-requires c κs = let f = facts _ (c .before .before .before .before .before .before .before .pre .1) in (rw (c .update .ensures .0) (updated-old-le _ true _ _), f .old-high)
 
 element-copy-out-loaded : tie.Need-element-copy-out-loaded
 element-copy-out-loaded c = search needs
 
 mul-loaded : tie.Need-mul-loaded
 unfolding stateOf
-mul-loaded c = let f = facts _ (c .before .before .before .before .before .before .before .before .before .before .before .pre .1) in omega (arith, f .bytes-fit, f .buffer-high)
+mul-loaded c = let f = facts _ (c .before .before .before .before .before .before .before .before .before .pre .1) in omega (arith, f .bytes-fit, f .buffer-high)
 
 element-write-w-3 : tie.Need-element-write-w-3
 element-write-w-3 c = search needs
@@ -65,28 +61,25 @@ element-write-w-4 c = search needs
 element-write-w-5 : tie.Need-element-write-w-5
 element-write-w-5 c = search needs
 
-element-write-w-6 : tie.Need-element-write-w-6
-element-write-w-6 c = search needs
-
-element-write-w-7 : tie.Need-element-write-w-7
-element-write-w-7 c = search needs
-
-element-write-w-8 : tie.Need-element-write-w-8
-element-write-w-8 c = search needs
-
 returns-2 : tie.Need-returns-2
 unfolding stateOf
 returns-2 c =
-    let a = c .before .before .before .before .before .before .before .before .before .before .before .before in
+    let a = c .before .before .before .before .before .before .before .before .before .before in
     let r = c .before .before in
-    turns-inactive (a .args .clock) (now (a .args .w)) (a .pre .0) (ap not (c .before .before .before .before .before .before .before .before .before .before .if1 .left)) (a .pre .2) (r .before .update .result) (ruled (r .before)) (r .refills .result) (r .refills .ensures) (c .if2 .taken)
+    let u = r .before .update in
+    turns-inactive (a .args .clock) (now (a .args .w)) (a .pre .0) (ap not (c .before .before .before .before .before .before .before .before .if1 .left)) (a .pre .2) _ (u .ensures .0)
+    (r .refills .result) (r .refills .ensures) _ (u .ensures .1)
+    (c .if2 .taken)
 
 returns-3 : tie.Need-returns-3
 unfolding stateOf
 returns-3 c =
-    let a = c .before .before .before .before .before .before .before .before .before .before .before .before in
+    let a = c .before .before .before .before .before .before .before .before .before .before in
     let r = c .before .before in
-    stays-active (a .args .clock) (now (a .args .w)) (a .pre .0) (ap not (c .before .before .before .before .before .before .before .before .before .before .if1 .left)) (a .pre .2) (r .before .update .result) (ruled (r .before)) (r .refills .result) (r .refills .ensures) (c .if2 .left)
+    let u = r .before .update in
+    stays-active (a .args .clock) (now (a .args .w)) (a .pre .0) (ap not (c .before .before .before .before .before .before .before .before .if1 .left)) (a .pre .2) _ (u .ensures .0)
+    (r .refills .result) (r .refills .ensures) _ (u .ensures .1)
+    (c .if2 .left)
 
 pub tick-calm-spec : {M : Type 1} → statement M
 tick-calm-spec =
@@ -99,7 +92,6 @@ tick-calm-spec =
     element-copy-out-queued
     element-copy-out-queued-2
     element-copy-out-queued-3
-    pie-at-requires
     update-requires
     refills-requires
     element-copy-out-loaded
@@ -107,8 +99,5 @@ tick-calm-spec =
     element-write-w-3
     element-write-w-4
     element-write-w-5
-    element-write-w-6
-    element-write-w-7
-    element-write-w-8
     returns-2
     returns-3)

@@ -9,8 +9,8 @@ use lib.Dec.{eqb}
 use denote.Ref.{now}
 use Rattle.pair_words.specs.Words.{stateOf}
 use Rattle.pair_steps.proofs.Decisions.{Numbers, bytes-rule, drawn-rule, numbers, slots-rule, spared-rule}
-use Rattle.pair_steps.proofs.arriving.decided.Statement.{statement}
-use Rattle.pair_steps.proofs.arriving.decided.Tie as tie
+use Rattle.pair_steps.proofs.deciding.decided.Statement.{statement}
+use Rattle.pair_steps.proofs.deciding.decided.Tie as tie
 
 abbrev shared : tie.Start → List ℕ
 shared a = now (a .args .shared)

@@ -10,8 +10,8 @@ use Rattle.pair_rules.specs.Facing.{facing}
 use Rattle.pair_rules.specs.declared.Shared.{Shared}
 use Rattle.pair_words.specs.Words.{sharedOf, whichOf}
 use Rattle.pair_steps.proofs.Decisions.{facing-words, full-beyond, full-inside, full-within, reserves-sum}
-use Rattle.pair_steps.proofs.arriving.slots_full.Statement.{statement}
-use Rattle.pair_steps.proofs.arriving.slots_full.Tie as tie
+use Rattle.pair_steps.proofs.deciding.slots_full.Statement.{statement}
+use Rattle.pair_steps.proofs.deciding.slots_full.Tie as tie
 
 abbrev words : tie.Start → List ℕ
 words a = now (a .args .shared)
