@@ -13,23 +13,26 @@ use Rattle.schedule.specs.declared.Lists.{Lists}
 use Rattle.store.specs.Put.{linked, sizesAfterPut}
 use Rattle.store.specs.declared.Ends.{Ends}
 use Rattle.fq_state.specs.State.{State}
-use Rattle.fq_state.specs.Words.{flowsFrom, flowsOf, stateOf}
-use Rattle.fq_state.specs.Written.{flowWords}
+use Rattle.fq_words.specs.Words.{flowsFrom, flowsOf, stateOf}
+use Rattle.fq_words.specs.Written.{flowWords}
 use Rattle.fq_state.specs.declared.Common.{Common}
 use Rattle.fq_state.specs.declared.Flow.{Flow}
 use Rattle.fq_rules.specs.Answer.{Answer, Reply, admits}
 use Rattle.fq_rules.specs.Answer as reads
 use Rattle.fq_rules.specs.Arrival.{arrivedCommon}
 use Rattle.fq_rules.specs.Departure.{departedCommon}
-use Rattle.fq_c.specs.Codes.{commonAfter, deficitsAfter, flowsAfter, orderAfter, wordsOf}
-use Rattle.fq_c.specs.Words.{commonOf, commonWords, lent, listsOf}
+use Rattle.fq_words.specs.Codes.{commonAfter, deficitsAfter, flowsAfter, orderAfter, wordsOf}
+use Rattle.fq_words.specs.Words.{commonOf, lent, listsOf}
+use Rattle.fq_words.specs.Written.{commonWords}
 use Rattle.fq_guarantees.specs.Acceptance.{acceptance}
 use Rattle.fq_guarantees.specs.Calls.{Call, arrive, depart, reply, update}
+use Rattle.fq_guarantees.specs.Handed.{askArrival, askDeparture, askTick, callOf}
 use Rattle.fq_guarantees.specs.Kept.{Sound}
 use Rattle.fq_guarantees.proofs.Kept.{kept}
 use Rattle.fq_guarantees.proofs.Replies.{by-number}
-use Rattle.fq_burst.specs.Calls.{Asked, arrives, departs, ticks, unknown}
-use Rattle.fq_burst.specs.Burst.{Lent, after, replyTo, stateIn}
+use Rattle.fq_burst.specs.Calls.{asked, unknown}
+use Rattle.fq_burst.specs.Calls as of-burst
+use Rattle.fq_burst.specs.Burst.{Lent, after, flowsIn, replyTo, stateIn}
 
 -- ── words hold what they are the words of ──
 
@@ -103,15 +106,10 @@ unfolding commonOf
 five-words common = refl
 
 -- so a burst's record stays sound
-pub sound-after : (q : Lent) (c : Asked) → Sound (stateIn q) → Sound (stateIn (after q c))
-sound-after q (arrives clock key handle size ecn u) h =
-    let c = arrive (q .handles) (q .sizes) clock key handle size ecn u in
+pub sound-after : (q : Lent) (c : of-burst.Call) → Sound (stateIn q) → Sound (stateIn (after q c))
+sound-after q (asked r) h =
+    let c = callOf (flowsIn q) r in
     rw (holds (q .common) (q .order) (q .flows) (q .deficits) c (five-words (q .common)) h) (kept (stateIn q) c h)
-sound-after q (departs clock) h =
-    let c = depart (q .handles) (q .sizes) clock in
-    rw (holds (q .common) (q .order) (q .flows) (q .deficits) c (five-words (q .common)) h) (kept (stateIn q) c h)
-sound-after q (ticks clock) h =
-    rw (holds (q .common) (q .order) (q .flows) (q .deficits) (update clock) (five-words (q .common)) h) (kept (stateIn q) (update clock) h)
 sound-after q unknown h = h
 
 -- ── a call counts at most one verdict ──
@@ -134,11 +132,9 @@ left-total q c h =
     let back = holds (q .common) (q .order) (q .flows) (q .deficits) c (five-words (q .common)) h in
     rw (ap (λ (s : State). s .common .verdicts) back) (reply-total (stateIn q) c)
 
-pub total-after : (q : Lent) (c : Asked) → Sound (stateIn q) →
+pub total-after : (q : Lent) (c : of-burst.Call) → Sound (stateIn q) →
     total (commonOf (after q c .common) .verdicts) ≤ total (commonOf (q .common) .verdicts) + 1
-total-after q (arrives clock key handle size ecn u) h = left-total q (arrive (q .handles) (q .sizes) clock key handle size ecn u) h
-total-after q (departs clock) h = left-total q (depart (q .handles) (q .sizes) clock) h
-total-after q (ticks clock) h = left-total q (update clock) h
+total-after q (asked r) h = left-total q (callOf (flowsIn q) r) h
 total-after q unknown h = omega arith
 
 -- ── the tables keep their lengths ──
@@ -149,15 +145,15 @@ put-long e count sizes place size =
     length-set (linked e count sizes place) place size
     ∙ at-cond (λ (l : List ℕ). length l ≡ length sizes) (leb 1 count) (λ t. length-set sizes (e .tail) _) (λ t. refl)
 
-pub after-long : (q : Lent) (c : Asked) →
+pub after-long : (q : Lent) (c : of-burst.Call) →
     (length (after q c .handles) ≡ length (q .handles)) × (length (after q c .sizes) ≡ length (q .sizes))
-after-long q (arrives clock key handle size ecn u) =
-    let a = (replyTo q (arrives clock key handle size ecn u)) .answer in (
+after-long q (asked (askArrival clock key handle size ecn u)) =
+    let a = (replyTo q (askArrival clock key handle size ecn u)) .answer in (
       at-cond (λ (l : List ℕ). length l ≡ length (q .handles)) (admits a) (λ t. length-set (q .handles) _ handle) (λ t. refl),
       at-cond (λ (l : List ℕ). length l ≡ length (q .sizes)) (admits a) (λ t. put-long _ _ (q .sizes) _ size) (λ t. refl),
     )
-after-long q (departs clock) =
-    let a = (replyTo q (departs clock)) .answer in
+after-long q (asked (askDeparture clock)) =
+    let a = (replyTo q (askDeparture clock)) .answer in
     (refl, at-cond (λ (l : List ℕ). length l ≡ length (q .sizes)) (reads.departs a) (λ t. length-set (q .sizes) _ _) (λ t. refl))
-after-long q (ticks clock) = (refl, refl)
+after-long q (asked (askTick clock)) = (refl, refl)
 after-long q unknown = (refl, refl)

@@ -11,18 +11,19 @@ use Rattle.bursts.specs.Numbers.{clockAt}
 use Rattle.bursts.proofs.Answers.{first-low}
 use Rattle.bursts.proofs.Steps.{Step}
 use Rattle.fq_state.specs.State.{State}
-use Rattle.fq_state.proofs.Words.{length-flows}
+use Rattle.fq_words.proofs.Words.{length-flows}
 use Rattle.fq_rules.specs.Answer.{Reply, flowIn, sizeIn}
 use Rattle.fq_rules.specs.Arrival.{arrival, arrivedHandles, arrivedSizes}
 use Rattle.fq_rules.specs.Departure.{departedSizes, departure, departureRefusals}
 use Rattle.fq_rules.specs.Tick.{tick}
-use Rattle.fq_c.specs.Codes.{codeOf, commonAfter, deficitsAfter, flowsAfter, orderAfter}
-use Rattle.fq_c.specs.Words.{lent}
+use Rattle.fq_words.specs.Codes.{codeOf, commonAfter, deficitsAfter, flowsAfter, orderAfter}
+use Rattle.fq_words.specs.Words.{lent}
 use Rattle.fq_guarantees.specs.Calls.{arrive, depart, update}
+use Rattle.fq_guarantees.specs.Handed.{askArrival, askDeparture, askTick}
 use Rattle.fq_guarantees.proofs.OneFlow.{served-low}
 use Rattle.fq_guarantees.proofs.Replies.{by-number}
 use Rattle.fq_guarantees.proofs.WhenAccepted.{departure-accepted}
-use Rattle.fq_burst.specs.Calls.{Asked, arrives, askedAt, departs, keyAt, ticks, unknown}
+use Rattle.fq_burst.specs.Calls.{asked, callAt, keyAt, unknown}
 use Rattle.fq_burst.specs.Burst.{Lent, answerWord, fqBursts, held}
 
 -- ── the word of an answer that hands out nothing is its code ──
@@ -69,20 +70,23 @@ module _ (calls : List ℕ) (at : ℕ) where
   kind = getD calls (at + 5) 0
 
   asked-arrival : (clock : ℕ) (key : List ℕ) → clock ≡ clockAt calls at → key ≡ keyAt calls at → ltb kind 2 ≡ true →
-      askedAt calls at ≡ arrives clock key (getD calls (at + 2) 0) (getD calls (at + 3) 0) (eqb kind 1) (getD calls (at + 4) 0)
-  unfolding askedAt
+      callAt calls at
+      ≡ asked (askArrival clock key (getD calls (at + 2) 0) (getD calls (at + 3) 0) (eqb kind 1) (getD calls (at + 4) 0))
+  unfolding callAt
   asked-arrival clock key c k e = rw (e, c, k) refl
 
-  asked-departure : (clock : ℕ) → clock ≡ clockAt calls at → ltb kind 2 ≡ false → eqb kind 2 ≡ true → askedAt calls at ≡ departs clock
-  unfolding askedAt
+  asked-departure : (clock : ℕ) → clock ≡ clockAt calls at → ltb kind 2 ≡ false → eqb kind 2 ≡ true →
+      callAt calls at ≡ asked (askDeparture clock)
+  unfolding callAt
   asked-departure clock c e f = rw (e, f, c) refl
 
-  asked-tick : (clock : ℕ) → clock ≡ clockAt calls at → ltb kind 2 ≡ false → eqb kind 2 ≡ false → eqb kind 3 ≡ true → askedAt calls at ≡ ticks clock
-  unfolding askedAt
+  asked-tick : (clock : ℕ) → clock ≡ clockAt calls at → ltb kind 2 ≡ false → eqb kind 2 ≡ false → eqb kind 3 ≡ true →
+      callAt calls at ≡ asked (askTick clock)
+  unfolding callAt
   asked-tick clock c e f g = rw (e, f, g, c) refl
 
-  asked-unknown : ltb kind 2 ≡ false → eqb kind 2 ≡ false → eqb kind 3 ≡ false → askedAt calls at ≡ unknown
-  unfolding askedAt
+  asked-unknown : ltb kind 2 ≡ false → eqb kind 2 ≡ false → eqb kind 3 ≡ false → callAt calls at ≡ unknown
+  unfolding callAt
   asked-unknown e f g = rw (e, f, g) refl
 
 -- ── each kind of call ──

@@ -4,12 +4,11 @@ use Prim.Native.Nat.{ℕ, _+_, _*_}
 use Rattle.bursts.specs.Kind.{BurstKind}
 use Rattle.fq_state.specs.State.{State}
 use Rattle.fq_rules.specs.Answer.{Answer, Reply, flowIn, handleIn, refused, sizeIn}
-use Rattle.fq_rules.specs.Arrival.{arrival, arrivedHandles, arrivedSizes}
-use Rattle.fq_rules.specs.Departure.{departedSizes, departure}
-use Rattle.fq_rules.specs.Tick.{tick}
-use Rattle.fq_c.specs.Codes.{codeOf, commonAfter, deficitsAfter, flowsAfter, orderAfter}
-use Rattle.fq_c.specs.Words.{lent}
-use Rattle.fq_burst.specs.Calls.{Asked, arrives, askedAt, departs, ticks, unknown}
+use Rattle.fq_guarantees.specs.Calls.{reply}
+use Rattle.fq_guarantees.specs.Handed.{Flows, Request, callOf, returned}
+use Rattle.fq_words.specs.Codes.{codeOf, commonAfter, deficitsAfter, flowsAfter, orderAfter}
+use Rattle.fq_words.specs.Words.{lent}
+use Rattle.fq_burst.specs.Calls.{Call, asked, callAt, unknown}
 
 -- the parts of the record and the two tables, as a caller lends them
 pub record Lent : Type 0 where
@@ -27,40 +26,32 @@ held common order flows deficits handles sizes =
 abbrev pub stateIn : Lent → State
 stateIn q = lent (q .common) (q .order) (q .deficits) (q .flows)
 
--- the reply of the single entry; no entry takes an unknown call: refusal 20
-abbrev pub replyTo : Lent → Asked → Reply
-replyTo q (arrives clock key handle size ecn u) = arrival (stateIn q) (q .handles) (q .sizes) clock key size ecn u
-replyTo q (departs clock) = departure (stateIn q) (q .handles) (q .sizes) clock
-replyTo q (ticks clock) = tick (stateIn q) clock
-replyTo q unknown = record { answer = refused 20; state = stateIn q }
+-- with the tables
+abbrev pub flowsIn : Lent → Flows
+flowsIn q = record { state = stateIn q; handles = q .handles; sizes = q .sizes }
 
-abbrev pub answerTo : Lent → Asked → Answer
-answerTo q c = (replyTo q c) .answer
+-- the reply of the single entry
+abbrev pub replyTo : Lent → Request → Reply
+replyTo q r = reply (stateIn q) (callOf (flowsIn q) r)
 
--- the tables after a call that was so answered
-abbrev pub handlesAfter : Lent → Asked → Answer → List ℕ
-handlesAfter q (arrives clock key handle size ecn u) a = arrivedHandles (stateIn q) a (q .handles) handle
-handlesAfter q (departs clock) a = q .handles
-handlesAfter q (ticks clock) a = q .handles
-handlesAfter q unknown a = q .handles
+-- the answer to a call; no entry takes an unknown one: refusal 20
+abbrev pub answerTo : Lent → Call → Answer
+answerTo q (asked r) = (replyTo q r) .answer
+answerTo q unknown = refused 20
 
-abbrev pub sizesAfter : Lent → Asked → Answer → List ℕ
-sizesAfter q (arrives clock key handle size ecn u) a = arrivedSizes (stateIn q) a (q .sizes) key size
-sizesAfter q (departs clock) a = departedSizes (stateIn q) a (q .sizes)
-sizesAfter q (ticks clock) a = q .sizes
-sizesAfter q unknown a = q .sizes
-
--- what the single entry leaves
-abbrev pub after : Lent → Asked → Lent
-after q c =
-    let r = replyTo q c in
+-- what is left: the words and tables that the single entry leaves
+abbrev pub after : Lent → Call → Lent
+after q (asked r) =
+    let a = replyTo q r in
+    let next = returned (flowsIn q) r a in
     held
-    (commonAfter r (q .common))
-    (orderAfter r (q .order))
-    (flowsAfter r (q .flows))
-    (deficitsAfter r (q .deficits))
-    (handlesAfter q c (r .answer))
-    (sizesAfter q c (r .answer))
+    (commonAfter a (q .common))
+    (orderAfter a (q .order))
+    (flowsAfter a (q .flows))
+    (deficitsAfter a (q .deficits))
+    (next .handles)
+    (next .sizes)
+after q unknown = q
 
 -- an answer as a word: its code, then the flow, the size and the handle that a departure hands out
 abbrev pub answerWord : Answer → ℕ
@@ -70,8 +61,8 @@ answerWord a = codeOf a + 256 * flowIn a + 65536 * sizeIn a + 4294967296 * handl
 abbrev pub fqBursts : BurstKind
 fqBursts =
     record {
-      kind = record { State = Lent; Call = Asked; Answer = Answer; answer = answerTo; next = after };
+      kind = record { State = Lent; Call = Call; Answer = Answer; answer = answerTo; next = after };
       word = answerWord;
       numbers = 10;
-      callAt = askedAt;
+      callAt = callAt;
     }

@@ -1,16 +1,17 @@
 // One entry for a list of calls on 64 flows: the record is tested once, and each call is answered as the single entries would.
-use crate::entering::arrive;
-use crate::entering::depart;
-use crate::entering::update;
+use crate::numbers::UNFIT;
+use crate::numbers::UNKNOWN;
 use crate::numbers::key_of;
 use crate::numbers::malformed;
 use crate::numbers::word;
 use bursts::clock_of;
 use bursts::has_room;
 use bursts::wide;
-use fq_c::decode;
-use fq_c::decode_lists;
-use fq_state::fits;
+use fq_steps::arrive;
+use fq_steps::depart;
+use fq_steps::update;
+use fq_words::decode;
+use fq_words::fits;
 ghost use mathlib.Core.Path.{_≡_};
 ghost use mathlib.Core.Bool.{cond, false, true};
 ghost use Prim.Native.Nat.{_+_, _*_, _≤_, _<_};
@@ -20,17 +21,12 @@ ghost use Rattle.pie.specs.Constants.{mostVerdicts};
 ghost use Rattle.pie.specs.Verdicts.{total};
 ghost use Rattle.fq_state.specs.State.{countsOf};
 ghost use Rattle.fq_state.specs.WellFormed.{wellFormed};
-ghost use Rattle.fq_state.specs.Words.{flowsOf};
-ghost use Rattle.fq_c.specs.Words.{commonOf, lent};
+ghost use Rattle.fq_words.specs.Words.{commonOf, flowsOf, lent};
 ghost use Rattle.fq_guarantees.specs.Kept.{Sound};
-ghost use Rattle.fq_burst.specs.Calls.{askedAt};
+ghost use Rattle.fq_burst.specs.Calls.{callAt};
 ghost use Rattle.fq_burst.specs.Burst.{Lent, after, answerTo, answerWord, fqBursts, held, stateIn};
 
-mod calling;
-mod checking;
-mod entering;
 mod numbers;
-mod writing;
 
 // The call at `at`, on a well-formed record. The counts are the flows'. Where `room`, those of the verdicts are not full.
 fn answered(
@@ -51,10 +47,10 @@ fn answered(
     requires { ⌜ ((room ≡ true) → (total (commonOf (now common) .verdicts) < mostVerdicts)) ⌝ }
     ensures { λ r. ⌜ (let q = held (now (common .entry)) (now (order .entry)) (now (flows .entry)) (now (deficits .entry))
         (now (handles .entry)) (now (sizes .entry)) in
-        (r ≡ answerWord (answerTo q (askedAt (now (calls .entry)) at)))
+        (r ≡ answerWord (answerTo q (callAt (now (calls .entry)) at)))
         × (held (now (common .exit)) (now (order .exit)) (now (flows .exit)) (now (deficits .exit))
         (now (handles .exit)) (now (sizes .exit))
-        ≡ after q (askedAt (now (calls .entry)) at))) ⌝ }
+        ≡ after q (callAt (now (calls .entry)) at))) ⌝ }
     ensures { λ _. ⌜ now (counts .exit) ≡ countsOf (flowsOf (now (flows .exit))) ⌝ }
 {
     let clock = clock_of(calls[at], calls[at + 1]);
@@ -101,7 +97,7 @@ fn answered(
     if ticks {
         return wide(update(common, order, flows, deficits, clock));
     }
-    120
+    UNKNOWN
 }
 
 // What the lists and deficits are known to be.
@@ -185,13 +181,12 @@ pub extern "C" fn obikuteru_fq_calls_of(
     let n = answers.len();
     let fit = (calls.len() % 10 == 0) & (calls.len() / 10 == n);
     if !fit {
-        return 120;
+        return UNFIT;
     }
     whole(*order, *deficits);
     let c = decode(*common);
-    let l = decode_lists(*common);
     let mut counts = [0u32; 64];
-    let formed = fits(c, l, order, deficits, flows, &mut counts);
+    let formed = fits(common, order, deficits, flows, &mut counts);
     if !formed {
         all_refused(calls, answers);
         return 0;

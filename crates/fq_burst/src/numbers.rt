@@ -5,6 +5,13 @@ ghost use lib.Dec.{ltb};
 ghost use Prim.Native.Nat.{_+_, _*_, _≤_};
 ghost use Rattle.fq_burst.specs.Calls.{keyOf};
 
+// Codes: 100 and the number of a refusal. 2: the record is not well formed; 20: a call of no kind, or lengths that do not fit.
+const MALFORMED: u64 = 102;
+
+pub(crate) const UNKNOWN: u64 = 120;
+
+pub(crate) const UNFIT: u32 = 120;
+
 // The word of a departure's answer.
 pub(crate) fn word(code: u32, flow: u32, size: u32, handle: u32) -> u64
     requires { ⌜ (code ≤ 255) × (flow ≤ 255) × (size ≤ 65535) ⌝ }
@@ -40,7 +47,7 @@ pub(crate) fn malformed(kind: u32) -> u64
 {
     let called = kind < 4;
     if called {
-        return 102;
+        return MALFORMED;
     }
-    120
+    UNKNOWN
 }

@@ -1,15 +1,17 @@
 // The C interface of 64 flows (include/obikuteru.h): the calls over a record that is lent in its parts, as words. An arrival, a departure
-// and a tick decode the nineteen words of what all flows have in common, make the one call and write them back where it is accepted. A
-// fresh call writes the whole record, all zero where it is refused; the test of a record writes nothing; a key's flow needs no record.
-use fq::arrival;
-use fq::departure;
-use fq::tick;
+// and a tick test the record and leave the rest to the call on one that is well formed. A fresh call writes the whole record, all zero
+// where it is refused; the test of a record writes nothing; a key's flow needs no record.
 use fq_state::Settings;
-use fq_state::fits;
-use fq_state::fresh;
+use fq_steps::arrive;
+use fq_steps::depart;
+use fq_steps::update;
+use fq_words::encode;
+use fq_words::fits;
+use fq_words::fresh;
+use fq_words::sized;
 use hash::flow_of;
 use refusals::Accepted;
-use ring::ArrivalAnswer;
+use refusals::Refusal;
 use ring_words::refused;
 use units::Bytes;
 use units::Micros;
@@ -17,20 +19,12 @@ ghost use mathlib.Core.Path.{_≡_};
 ghost use Rattle.hash.specs.OneAtATime.{flowOf};
 ghost use Rattle.fq_state.specs.Fresh.{fresh, freshRefusal, settingsOf};
 ghost use Rattle.fq_state.specs.WellFormed.{wellFormed};
-ghost use Rattle.fq_state.specs.Written.{flowWords};
 ghost use Rattle.fq_rules.specs.Arrival.{arrival, arrivedHandles, arrivedSizes};
 ghost use Rattle.fq_rules.specs.Departure.{departedSizes, departure};
 ghost use Rattle.fq_rules.specs.Tick.{tick};
-ghost use Rattle.fq_c.specs.Codes.{codeOf, commonAfter, deficitsAfter, flowsAfter, freshCode, orderAfter, packetOf, wordsOf};
-ghost use Rattle.fq_c.specs.Words.{lent};
-
-mod records;
-
-pub use records::decode;
-pub use records::decode_lists;
-use records::encode;
-pub use records::numbered;
-pub use records::sized;
+ghost use Rattle.fq_words.specs.Codes.{codeOf, commonAfter, deficitsAfter, flowsAfter, freshCode, orderAfter, packetOf, wordsOf};
+ghost use Rattle.fq_words.specs.Words.{lent};
+ghost use Rattle.fq_words.specs.Written.{flowWords};
 
 #[no_mangle]
 pub extern "C" fn obikuteru_fq_flow(key: &[u8; 13], salt: u32) -> u32
@@ -85,10 +79,8 @@ pub extern "C" fn obikuteru_fq_well_formed_of(
 ) -> bool
     ensures { λ r. ⌜ r ≡ wellFormed (lent (now (common .entry)) (now (order .entry)) (now (deficits .entry)) (now (flows .entry))) ⌝ }
 {
-    let c = decode(*common);
-    let l = decode_lists(*common);
     let mut counts = [0u32; 64];
-    fits(c, l, order, deficits, flows, &mut counts)
+    fits(common, order, deficits, flows, &mut counts)
 }
 
 #[no_mangle]
@@ -116,35 +108,27 @@ pub extern "C" fn obikuteru_fq_arrival_of(
         × (now (handles .exit) ≡ arrivedHandles s (a .answer) (now (handles .entry)) handle)
         × (now (sizes .exit) ≡ arrivedSizes s (a .answer) (now (sizes .entry)) (now (key .entry)) size)) ⌝ }
 {
-    sized(*flows);
-    let c = decode(*common);
-    let l = decode_lists(*common);
-    let r = arrival(
-        c,
-        l,
+    let mut counts = [0u32; 64];
+    let formed = fits(common, order, deficits, flows, &mut counts);
+    if !formed {
+        return refused(Refusal::Malformed);
+    }
+    arrive(
+        common,
         order,
-        deficits,
         flows,
+        deficits,
+        &mut counts,
         handles,
         sizes,
-        Micros(clock),
+        clock,
         key,
         handle,
-        Bytes(size as u64),
+        size,
         ecn,
         u,
-    );
-    sized(*flows);
-    let arrived = r.common;
-    let lists = r.lists;
-    let answer = r.answer;
-    match answer {
-        ArrivalAnswer::Refused(refusal) => refused(refusal),
-        ArrivalAnswer::Decided(v) => {
-            encode(common, arrived, lists);
-            numbered(v)
-        }
-    }
+        false,
+    )
 }
 
 #[no_mangle]
@@ -168,25 +152,23 @@ pub extern "C" fn obikuteru_fq_departure_of(
         × (now (sizes .exit) ≡ departedSizes s (a .answer) (now (sizes .entry)))
         × (now (packet .exit) ≡ packetOf (a .answer))) ⌝ }
 {
-    sized(*flows);
-    let c = decode(*common);
-    let l = decode_lists(*common);
-    let r = departure(c, l, order, deficits, flows, handles, sizes, Micros(clock));
-    sized(*flows);
-    let left = r.common;
-    let lists = r.lists;
-    let flow = r.flow;
-    let handle = r.handle;
-    let size = r.size;
-    let accepted = r.accepted;
-    *packet = [flow, handle, size];
-    match accepted {
-        Accepted::No(refusal) => refused(refusal),
-        Accepted::Yes => {
-            encode(common, left, lists);
-            0
-        }
+    *packet = [0, 0, 0];
+    let mut counts = [0u32; 64];
+    let formed = fits(common, order, deficits, flows, &mut counts);
+    if !formed {
+        return refused(Refusal::Malformed);
     }
+    depart(
+        common,
+        order,
+        flows,
+        deficits,
+        &mut counts,
+        handles,
+        sizes,
+        clock,
+        packet,
+    )
 }
 
 #[no_mangle]
@@ -203,18 +185,10 @@ pub extern "C" fn obikuteru_fq_tick_of(
         × (now (common .exit) ≡ commonAfter a (now (common .entry)))
         × (now (flows .exit) ≡ flowsAfter a (now (flows .entry)))) ⌝ }
 {
-    sized(*flows);
-    let c = decode(*common);
-    let l = decode_lists(*common);
-    let r = tick(c, l, order, deficits, flows, Micros(clock));
-    sized(*flows);
-    let ticked = r.common;
-    let accepted = r.accepted;
-    match accepted {
-        Accepted::No(refusal) => refused(refusal),
-        Accepted::Yes => {
-            encode(common, ticked, l);
-            0
-        }
+    let mut counts = [0u32; 64];
+    let formed = fits(common, order, deficits, flows, &mut counts);
+    if !formed {
+        return refused(Refusal::Malformed);
     }
+    update(common, order, flows, deficits, clock)
 }

@@ -15,7 +15,7 @@ ghost use Rattle.fq_state.specs.WellFormed.{commonConditions, flowConditions};
 ghost use Rattle.fq_rules.specs.Arrival.{arrivedPie, freedRefused, verdictOf};
 
 // Rules 1 to 7: 1 and 2 read all flows together, the others this flow alone.
-pub(crate) fn decide(common: Common, f: Flow, size: Bytes, ecn: bool, u: u32) -> Decided
+pub fn decide(common: Common, f: Flow, size: Bytes, ecn: bool, u: u32) -> Decided
     requires { ⌜ (all (commonConditions common) ≡ true) × (all (flowConditions common f) ≡ true) ⌝ }
     requires { ⌜ (common .backlog .bytes .0 ≤ 16777216) × (size .0 ≤ largest) ⌝ }
     ensures { λ r. ⌜ r .verdict ≡ verdictOf common f (size .0) ecn u ⌝ }
@@ -43,7 +43,7 @@ pub(crate) fn decide(common: Common, f: Flow, size: Bytes, ecn: bool, u: u32) ->
 }
 
 // Refusal 9: the verdict admits, and the next free slot's link is one to no slot.
-pub(crate) fn lost(common: Common, sizes: &[u32], v: Verdict) -> bool
+pub fn lost(common: Common, sizes: &[u32], v: Verdict) -> bool
     requires { ⌜ (common .store .freed < length (now sizes)) × (common .store .freed < 65536) ⌝ }
     ensures { λ r. ⌜ r ≡ freedRefused common (now (sizes .entry)) v ⌝ }
 {

@@ -2,13 +2,9 @@
 --
 --   Flow         18: a flow's PIE state and chain
 --   State        18: the record
---   Words        the flows as words, twelve to a flow
---   Written      the words of flows
 --   WellFormed   23: which records are well formed
 --   Fresh        21: fresh
 pub mod Flow
 pub mod State
-pub mod Words
-pub mod Written
 pub mod WellFormed
 pub mod Fresh

@@ -1,14 +1,11 @@
-// The record of 64 flows over one pair of tables: what all flows have in common, the flows as words, the test of the whole, and a fresh
-// one.
+// The record of 64 flows over one pair of tables: what all flows have in common, a flow, and the tests of each.
 use pie::Backlog;
-use refusals::Accepted;
-use schedule::Lists;
 use store::Store;
 use units::Bytes;
 use units::Micros;
 
 mod making;
-mod reading;
+mod parts;
 mod testing;
 
 pub struct Settings {
@@ -32,7 +29,7 @@ pub struct Common {
     pub verdicts: [u64; 5],
 }
 
-// A flow: twelve words of the flows' table.
+// A flow.
 pub struct Flow {
     pub prob: u64,
     pub old: u64,
@@ -50,13 +47,4 @@ pub struct Flow {
     pub tail: u64,
 }
 
-pub struct Made {
-    pub accepted: Accepted,
-    pub common: Common,
-    pub lists: Lists,
-}
-
-pub use making::fresh;
-pub use reading::flow_at;
-pub use reading::set_flow;
-pub use testing::fits;
+pub use making::empty;

@@ -10,10 +10,10 @@ use Rattle.bursts.proofs.Steps.{one-more}
 use Rattle.pie.specs.Constants.{mostVerdicts}
 use Rattle.pie.specs.Verdicts.{total}
 use Rattle.fq_state.specs.State.{countsOf}
-use Rattle.fq_state.specs.Words.{flowsOf}
-use Rattle.fq_c.specs.Words as words
+use Rattle.fq_words.specs.Words.{flowsOf}
+use Rattle.fq_words.specs.Words as words
 use Rattle.fq_guarantees.specs.Kept.{Sound}
-use Rattle.fq_burst.specs.Calls.{askedAt}
+use Rattle.fq_burst.specs.Calls.{callAt}
 use Rattle.fq_burst.specs.Burst.{Lent, fqBursts, held, stateIn}
 use Rattle.fq_burst.proofs.Left.{after-long, sound-after, total-after}
 use Rattle.fq_burst.proofs.all_answered.Statement.{statement}
@@ -83,7 +83,7 @@ loop-again c =
     let a = t .before .before .before .before .before .before .args in
     let calls = now (a .calls) in
     let given = held (l .common) (l .order) (l .flows) (l .deficits) (l .handles) (l .sizes) in
-    let asked = askedAt calls (10 * l .i) in
+    let asked = callAt calls (10 * l .i) in
     let next = k .ensures .0 .1 in
     let long = after-long given asked in (
       omega (arith, l .inv .1, t .loop-test .taken),

@@ -104,7 +104,7 @@ arrive-requires c κs =
     let k = c .before .before .before .before .before .before .before .before .before .before .before in
     let f = k .before .before .before .before .before in
     let a = f .before .before .before .before .before .before .before .before in
-    (a .pre .0, (a .pre .1 .0, a .pre .1 .1 .1))
+    (a .pre .0 .formed, (a .pre .1 .0, a .pre .1 .1 .1))
 
 wide-requires : tie.Need-wide-requires
 wide-requires c κs = search needs
@@ -132,7 +132,9 @@ returns c =
     )
 
 depart-requires : tie.Need-depart-requires
-depart-requires c κs = search needs
+depart-requires c κs =
+    let a = c .before .before .before .before .before .before .before .before .before .before .before .before .before .before .before .before .before in
+    (a .pre .0 .formed, a .pre .1 .0)
 
 array-read-word : tie.Need-array-read-word
 array-read-word c = search needs
@@ -174,7 +176,9 @@ returns-2 c =
     )
 
 update-requires : tie.Need-update-requires
-update-requires c κs = search needs
+update-requires c κs =
+    let a = c .before .before .before .before .before .before .before .before .before .before .before .before .before .before in
+    a .pre .0 .formed
 
 wide-requires-2 : tie.Need-wide-requires-2
 wide-requires-2 c κs = search needs

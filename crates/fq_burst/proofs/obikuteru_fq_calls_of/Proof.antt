@@ -14,8 +14,8 @@ use Rattle.pie.specs.Verdicts.{total}
 use Rattle.fq_state.specs.WellFormed.{wellFormed}
 use Rattle.fq_state.specs.declared.Common.{Common}
 use Rattle.fq_state.proofs.Facts.{common-fits, passes}
-use Rattle.fq_state.proofs.Words.{length-flows}
-use Rattle.fq_c.specs.Words.{commonOf, lent}
+use Rattle.fq_words.proofs.Words.{length-flows}
+use Rattle.fq_words.specs.Words.{commonOf, lent}
 use Rattle.fq_burst.specs.Burst.{fqBursts}
 use Rattle.fq_burst.proofs.obikuteru_fq_calls_of.Statement.{statement}
 use Rattle.fq_burst.proofs.obikuteru_fq_calls_of.Tie as tie
@@ -42,25 +42,20 @@ whole-requires c κs = search needs
 decode-requires : tie.Need-decode-requires
 decode-requires c κs = search needs
 
-decode-lists-requires : tie.Need-decode-lists-requires
-decode-lists-requires c κs = search needs
-
 fits-requires : tie.Need-fits-requires
 fits-requires c κs = search needs
 
 -- past the test of the record
 abbrev begun : tie.After-fits2 → tie.Start
-begun c = c .before .before .before .before .before .before .before .before .before .before .before .before .before .before .before .before .before
+begun c = c .before .before .before .before .before .before .before .before .before .before .before .before .before .before .before .before
 
 tested : (c : tie.After-fits2) →
     let a = begun c .args in c .fits2 .result ≡ wellFormed (lent (a .common .now) (a .order .now) (a .deficits .now) (a .flows .now))
-tested c =
-    let l = c .before .before .before .before .before in
-    rw (← (l .before .before .decode .ensures), ← (l .decode-lists .ensures)) (c .fits2 .ensures .0)
+tested c = c .fits2 .ensures .0
 
 all-refused-requires : tie.Need-all-refused-requires
 all-refused-requires c κs = ten
-    (c .before .before .before .before .before .before .before .before .before .before .before .before .before .before)
+    (c .before .before .before .before .before .before .before .before .before .before .before .before .before)
 
 same-length : tie.Need-same-length
 same-length c = search needs
@@ -69,12 +64,12 @@ returns-2 : tie.Need-returns-2
 returns-2 c =
     let e = c .before .before .before .before in
     let t = e .before in
-    rw (fit (t .before .before .before .before .before .before .before .before .before .before .before .before))
+    rw (fit (t .before .before .before .before .before .before .before .before .before .before .before))
     (refl, c .before .before .all-refused .ensures _ (sym (tested t) ∙ not-true _ (e .if2 .taken)))
 
 -- its counts sum to at most 2^48
 abbrev at-decode : tie.After-fits2 → tie.After-decode
-at-decode c = c .before .before .before .before .before .before .before
+at-decode c = c .before .before .before .before .before .before
 
 formed : (c : tie.Else2) →
     let a = begun (c .before) .args in wellFormed (lent (a .common .now) (a .order .now) (a .deficits .now) (a .flows .now)) ≡ true
@@ -97,7 +92,7 @@ all-answered-requires c κs =
     let r = c .before .before .before .before .before .before .before .before .before in
     let e = r .before .before in
     let t = e .before in
-    let w = t .before .before .before .before .before .before .before .before .before .whole .ensures in (
+    let w = t .before .before .before .before .before .before .before .before .whole .ensures in (
       record {
         flows-long = length-flows 64 (begun t .args .flows .now);
         order-long = w .0;
@@ -107,7 +102,7 @@ all-answered-requires c κs =
       (
         t .fits2 .ensures .1 (not-false _ (e .if2 .left)),
         (
-          ten (t .before .before .before .before .before .before .before .before .before .before .before .before),
+          ten (t .before .before .before .before .before .before .before .before .before .before .before),
           λ h.
               let sum = total (at-decode t .decode .result .verdicts) + length (now (begun t .args .answers)) in
               omega (arith, counted t, leb-true sum mostVerdicts (sym (r .has-room .ensures) ∙ h)),
@@ -128,7 +123,7 @@ returns-3 : tie.Need-returns-3
 returns-3 c =
     let w = c .before .before .before .before .before .before in
     let t = w .before .before .before .before .before .before .before .before .before .before .before .before .before in
-    rw (fit (t .before .before .before .before .before .before .before .before .before .before .before .before))
+    rw (fit (t .before .before .before .before .before .before .before .before .before .before .before))
     (refl, w .all-answered .ensures)
 
 pub obikuteru-fq-calls-of-spec : {M : Type 1} → statement M
@@ -138,7 +133,6 @@ obikuteru-fq-calls-of-spec =
     returns
     whole-requires
     decode-requires
-    decode-lists-requires
     fits-requires
     all-refused-requires
     same-length

@@ -1,6 +1,6 @@
 -- `obikuteru_fq_fresh_of`: the number, and the words of the record also where it is refused.
 use mathlib.Core.Path.{_∙_}
-use Rattle.fq_c.proofs.Returned.{made-code, parts, refused-code}
+use Rattle.fq_words.proofs.Returned.{made-code, parts, refused-code}
 use borrow.Author.Needs.{needs}
 use Rattle.fq_c.proofs.obikuteru_fq_fresh_of.Statement.{statement}
 use Rattle.fq_c.proofs.obikuteru_fq_fresh_of.Tie as tie

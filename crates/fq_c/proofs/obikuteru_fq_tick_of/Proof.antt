@@ -1,82 +1,55 @@
--- `obikuteru_fq_tick_of`: the reply's number and words.
-use mathlib.Core.Path.{refl, sym, _∙_}
-use Rattle.fq_rules.specs.Answer.{ticked}
-use Rattle.fq_c.proofs.Kept.{tick-kept}
-use Rattle.fq_c.proofs.Returned.{accepted, not-accepted, told-no, told-yes}
+-- `obikuteru_fq_tick_of`: refused by 2, or as the call on a well-formed record.
+use mathlib.Core.Path.{_≡_, refl, sym, _∙_}
+use mathlib.Core.Bool.{true, false}
+use denote.Ref.{now}
 use borrow.Author.Needs.{needs}
+use borrow.Author.Tests.{not-false, not-true}
+use Rattle.fq_state.specs.State.{State}
+use Rattle.fq_state.specs.WellFormed.{wellFormed}
+use Rattle.fq_rules.proofs.Malformed.{malformed-tick}
+use Rattle.fq_words.specs.Words.{lent}
 use Rattle.fq_c.proofs.obikuteru_fq_tick_of.Statement.{statement}
 use Rattle.fq_c.proofs.obikuteru_fq_tick_of.Tie as tie
 
-sized-requires : tie.Need-sized-requires
-sized-requires c κs = search needs
+fits-requires : tie.Need-fits-requires
+fits-requires c κs = search needs
 
-decode-requires : tie.Need-decode-requires
-decode-requires c κs = search needs
+abbrev begun : tie.After-fits2 → tie.Start
+begun c = c .before .before .before .before
 
-decode-lists-requires : tie.Need-decode-lists-requires
-decode-lists-requires c κs = search needs
+-- the record as it is lent, and what its test says
+abbrev given : tie.After-fits2 → State
+given c =
+    let a = begun c .args in lent (a .common .now) (now (a .order)) (now (a .deficits)) (a .flows .now)
 
-tick-requires : tie.Need-tick-requires
-tick-requires c κs = search needs
+malformed : (c : tie.Then1) → wellFormed (given (c .before)) ≡ false
+malformed c = sym (c .before .fits2 .ensures .0) ∙ not-true _ (c .if1 .taken)
 
-sized-requires-2 : tie.Need-sized-requires-2
-sized-requires-2 c κs = search needs
-
-enum-known-accepted : tie.Need-enum-known-accepted
-enum-known-accepted c = search needs
+formed : (c : tie.Else1) → wellFormed (given (c .before)) ≡ true
+formed c = sym (c .before .fits2 .ensures .0) ∙ not-false _ (c .if1 .left)
 
 refused-requires : tie.Need-refused-requires
 refused-requires c κs = search needs
 
-enum-told : tie.Need-enum-told
-enum-told c = search needs
-
-encode-requires : tie.Need-encode-requires
-encode-requires c κs = search needs
-
 returns : tie.Need-returns
 returns c =
-    let z = c .before .before .before .before .before in
-    let k = z .before .before in
-    let l = k .before .before in
-    let d = l .before .before in
-    let y = d .before .before in
-    let a = y .before .before .args in
-    let e = k .tick .ensures in
-    let given = sym (e .0) ∙ told-no (k .tick .result .accepted) _ ticked (c .before .before .accepted .given .1) in
-    let same = tick-kept _ _ _ given in
-    let g =
-    not-accepted _ _ _ _ (a .common .now) (a .order .now) (a .deficits .now) (a .flows .now) _ _ _
-    (z .sized2 .ensures) (e .1) _ _ (y .sized .ensures) _ given same (c .refused .ensures) in
-    rw (← (d .decode .ensures), ← (l .decode-lists .ensures)) (g .code-is, g .common-is, g .flows-are)
+    let t = c .before in
+    let a = begun (t .before) .args in
+    rw (malformed-tick (given (t .before)) (a .clock) (malformed t)) (c .refused .ensures, refl, refl)
+
+update-requires : tie.Need-update-requires
+update-requires c κs =
+    let e = c .before .before in formed e
 
 returns-2 : tie.Need-returns-2
-returns-2 c =
-    let t = c .before .before in
-    let z = t .before .before .before in
-    let k = z .before .before in
-    let l = k .before .before in
-    let d = l .before .before in
-    let a = d .before .before .before .before .args in
-    let e = k .tick .ensures in
-    let told = sym (e .0) ∙ told-yes (k .tick .result .accepted) ticked (t .enum-told .given .1) in
-    let g =
-    accepted _ _ _ _ (a .common .now) (a .order .now) (a .deficits .now) (a .flows .now) _ _ _
-    (z .sized2 .ensures) (e .1) _ _ told refl refl (c .encode .ensures) in
-    rw (← (d .decode .ensures), ← (l .decode-lists .ensures)) (g .code-is, g .common-is, g .flows-are)
+returns-2 c = c .update .ensures .0
 
 pub obikuteru-fq-tick-of-spec : {M : Type 1} → statement M
 obikuteru-fq-tick-of-spec =
     tie.close
     (tie.spec
-    sized-requires
-    decode-requires
-    decode-lists-requires
-    tick-requires
-    sized-requires-2
-    enum-known-accepted
+    fits-requires
     refused-requires
-    enum-told
-    encode-requires
     returns
+    update-requires
     returns-2)
