@@ -1,7 +1,7 @@
 -- The word of a queue's answer.
 use Prim.Native.Nat.{ℕ}
-use Rattle.ring.specs.Answer.{Answer, handleIn, sizeIn}
-use Rattle.ring_words.specs.Codes.{codeOf}
+use Rattle.refusals.specs.Answer.{Answer, handleIn, sizeIn}
+use Rattle.refusals.specs.Codes.{codeOf}
 use Rattle.bursts.specs.Numbers.{wordOf}
 
 abbrev pub answerWord : Answer → ℕ

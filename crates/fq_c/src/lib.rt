@@ -12,7 +12,7 @@ use fq_words::sized;
 use hash::flow_of;
 use refusals::Accepted;
 use refusals::Refusal;
-use ring_words::refused;
+use refusals::refused;
 use units::Bytes;
 use units::Micros;
 ghost use mathlib.Core.Path.{_≡_};

@@ -9,7 +9,7 @@ use Rattle.ring_guarantees.proofs.Answers as ring
 use Rattle.pie.specs.Verdicts.{placeOf, raised}
 use Rattle.pie.specs.declared.Verdict.{Verdict}
 use Rattle.pie.proofs.Counts.{length-raised}
-use Rattle.ring.specs.Answer as queue
+use Rattle.refusals.specs.Answer as queue
 use Rattle.fq_rules.specs.Answer.{Answer, departed, refused, ticked, verdict}
 use Rattle.fq_guarantees.specs.Conservation.{isVerdict}
 

@@ -3,8 +3,8 @@ use mathlib.Core.Bool.{Bool, true, false}
 use Prim.Native.Nat.{ℕ, zero, suc}
 use Rattle.pie.specs.declared.Verdict.{Verdict}
 use Rattle.pie.specs.Verdicts.{admitted}
-use Rattle.ring.specs.declared.ArrivalAnswer.{ArrivalAnswer}
-use Rattle.ring.specs.declared.ArrivalAnswer.the-variants.{Decided, Refused}
+use Rattle.refusals.specs.declared.ArrivalAnswer.{ArrivalAnswer}
+use Rattle.refusals.specs.declared.ArrivalAnswer.the-variants.{Decided, Refused}
 use Rattle.refusals.specs.Numbers.{numberOf}
 use Rattle.refusals.specs.declared.Accepted.{Accepted}
 use Rattle.refusals.specs.declared.Accepted.the-variants.{Yes, No}

@@ -11,7 +11,7 @@ use crate::serving::serve;
 use crate::ticking::tick_all;
 use fq_state::Common;
 use refusals::Accepted;
-use ring::ArrivalAnswer;
+use refusals::ArrivalAnswer;
 use schedule::Lists;
 use units::Bytes;
 use units::Micros;

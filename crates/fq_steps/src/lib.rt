@@ -2,7 +2,7 @@
 // The flows' counts are lent beside the words, for the choosing, and kept true.
 use fq_state::Common;
 use refusals::Accepted;
-use ring::ArrivalAnswer;
+use refusals::ArrivalAnswer;
 use schedule::Lists;
 
 mod calling;

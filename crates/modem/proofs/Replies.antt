@@ -6,7 +6,7 @@ use Prim.Native.Nat.{ℕ, zero, suc}
 use native.Mathlib.Omega.{arith}
 use lib.ListN.{length}
 use Rattle.laws.proofs.Choice.{at-cond}
-use Rattle.ring.specs.Answer.{departed, refused, ticked, verdict}
+use Rattle.refusals.specs.Answer.{departed, refused, ticked, verdict}
 use Rattle.modem_flow.specs.Answer.{HandsOut, Reply, answerIn, answerOf, unlessRefused}
 use Rattle.modem_flow.specs.Answer as one-flow
 use Rattle.modem_flow.specs.Arrival.{arrival, stored}

@@ -1,7 +1,7 @@
 -- What a call returns: the answer, the flow's state, and the counts of all sixteen flows.
 use mathlib.Core.List.{List}
 use Prim.Native.Nat.{ℕ}
-use Rattle.ring.specs.Answer.{Answer}
+use Rattle.refusals.specs.Answer.{Answer}
 use Rattle.modem_flow.specs.Answer.{answerIn}
 use Rattle.modem_flow.specs.declared.Outcome.the-variants.{NoFlow}
 use Rattle.modem_flow.specs.declared.Replied.{Replied}

@@ -3,7 +3,7 @@ use mathlib.Core.Bool.{Bool, cond}
 use mathlib.Core.List.{List}
 use Prim.Native.Nat.{ℕ}
 use lib.Dec.{ltb}
-use Rattle.ring.specs.Answer.{refused}
+use Rattle.refusals.specs.Answer.{refused}
 use Rattle.modem_flow.specs.Answer.{Reply}
 use Rattle.modem_flow.specs.Arrival as flow-arrival
 use Rattle.modem_flow.specs.Departure as flow-departure

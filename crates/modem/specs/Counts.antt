@@ -4,7 +4,7 @@ use Prim.Native.Nat.{ℕ, _<_}
 use lib.ListN.{getD, set}
 use Rattle.pie.specs.Constants.{mostVerdicts}
 use Rattle.pie.specs.Verdicts.{raised, total}
-use Rattle.ring.specs.Answer.{Answer, departed, made, refused, ticked, verdict}
+use Rattle.refusals.specs.Answer.{Answer, departed, made, refused, ticked, verdict}
 use Rattle.modem_flow.specs.declared.Outcome.{Outcome}
 use Rattle.modem_flow.specs.declared.Outcome.the-variants.{Refused, NoFlow, Made, Decided, Departed, Ticked}
 

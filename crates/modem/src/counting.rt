@@ -7,7 +7,7 @@ ghost use mathlib.Core.Path.{_≡_};
 ghost use Prim.Native.Nat.{ℕ, _<_, _≤_};
 ghost use Rattle.pie.specs.Constants.{mostVerdicts};
 ghost use Rattle.pie.specs.Verdicts.{total};
-ghost use Rattle.ring.specs.Answer.{made, verdict};
+ghost use Rattle.refusals.specs.Answer.{made, verdict};
 ghost use Rattle.modem_flow.specs.Answer.{answerOf};
 ghost use Rattle.modem.specs.Answer.{returnedOf};
 ghost use Rattle.modem.specs.Counts.{Room, countsAfter, rowOf};

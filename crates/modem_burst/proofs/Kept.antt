@@ -9,7 +9,7 @@ use borrow.Author.Tests.{le-ltb}
 use Rattle.laws.proofs.Choice.{at-cond}
 use Rattle.pie.specs.Verdicts.{raised, total}
 use Rattle.pie.proofs.Counts.{total-raised}
-use Rattle.ring.specs.Answer.{Answer, admits}
+use Rattle.refusals.specs.Answer.{Answer, admits}
 use Rattle.modem_flow.specs.Answer.{Reply}
 use Rattle.modem_flow.specs.Arrival.{arrivedState, decisionOf, stored, tailPlace}
 use Rattle.modem_flow.specs.Departure.{departedState}

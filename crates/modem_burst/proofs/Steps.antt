@@ -10,7 +10,7 @@ use Rattle.laws.proofs.Choice.{either}
 use Rattle.bursts.specs.Numbers.{clockAt}
 use Rattle.bursts.proofs.Answers.{first-low}
 use Rattle.bursts.proofs.Steps.{Step}
-use Rattle.ring.specs.Answer.{Answer, refused, sizeIn}
+use Rattle.refusals.specs.Answer.{Answer, refused, sizeIn}
 use Rattle.modem_flow.specs.Answer.{Reply, unlessRefused}
 use Rattle.modem_flow.specs.Arrival as flow-arrival
 use Rattle.modem_flow.specs.Arrival.{stored}
@@ -23,7 +23,7 @@ use Rattle.modem.specs.Answer.{ModemReply}
 use Rattle.modem.specs.Calls.{arrival, departure, flowRefused, forFlow, tick}
 use Rattle.modem.specs.Counts.{countsAfter, rowOf}
 use Rattle.modem_guarantees.proofs.Replies.{arrivalOf, departureOf, tickOf}
-use Rattle.ring_words.specs.Codes.{codeOf}
+use Rattle.refusals.specs.Codes.{codeOf}
 use Rattle.modem_words.specs.Words.{stateOf, stateWords}
 use Rattle.modem_burst.specs.Calls.{callAt}
 use Rattle.bursts.specs.Answers.{answerWord}

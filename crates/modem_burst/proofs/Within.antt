@@ -19,7 +19,7 @@ use Rattle.modem_flow.specs.declared.State.{State}
 use Rattle.modem.specs.Calls.{arrival, departure, tick}
 use Rattle.modem.specs.Counts.{countsAfter, rowOf}
 use Rattle.modem_guarantees.proofs.Replies.{departureOf, tickOf}
-use Rattle.ring_words.specs.Codes.{codeOf}
+use Rattle.refusals.specs.Codes.{codeOf}
 use Rattle.modem_words.specs.Words.{stateOf, stateWords}
 use Rattle.bursts.specs.Answers.{answerWord}
 use Rattle.modem_words.specs.Lent.{lent}

@@ -2,7 +2,7 @@
 use Prim.Native.Nat.{ℕ}
 use Rattle.bursts.specs.Answers.{answerWord}
 use Rattle.bursts.specs.Kind.{BurstKind}
-use Rattle.ring.specs.Answer.{Answer, refused}
+use Rattle.refusals.specs.Answer.{Answer, refused}
 use Rattle.modem.specs.Asked.{ask}
 use Rattle.modem_words.specs.Lent.{Lent, leaves, replyTo}
 use Rattle.modem_burst.specs.Calls.{Call, asked, callAt, unknown}

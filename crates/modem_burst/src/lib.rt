@@ -22,7 +22,7 @@ ghost use Rattle.bursts.specs.Burst.{burst, done, fits, outcome};
 ghost use Rattle.modem_flow.specs.State.{formed};
 ghost use Rattle.modem.specs.Calls.{tick as modemTick};
 ghost use Rattle.modem.specs.Counts.{rowOf};
-ghost use Rattle.ring_words.specs.Codes.{codeOf};
+ghost use Rattle.refusals.specs.Codes.{codeOf};
 ghost use Rattle.modem_words.specs.Lent.{lent};
 ghost use Rattle.modem_words.specs.Words.{stateOf, stateWords};
 ghost use Rattle.modem_steps.specs.Fitting.{Ready};

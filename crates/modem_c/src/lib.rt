@@ -19,7 +19,7 @@ ghost use Rattle.modem_flow.specs.Fresh.{settingsOf};
 ghost use Rattle.modem_flow.specs.State.{wellFormed};
 ghost use Rattle.modem.specs.Calls.{arrival, departure, flowRefused, fresh, tick};
 ghost use Rattle.modem.specs.Counts.{rowOf};
-ghost use Rattle.ring_words.specs.Codes.{codeOf, packetOf};
+ghost use Rattle.refusals.specs.Codes.{codeOf, packetOf};
 ghost use Rattle.modem_words.specs.Words.{stateOf, stateWords};
 
 #[no_mangle]

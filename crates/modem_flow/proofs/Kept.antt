@@ -15,7 +15,7 @@ use Rattle.pie.specs.Constants.{largest, latest}
 use Rattle.pie.specs.Verdicts.{admitted}
 use Rattle.pie.specs.declared.Backlog.{Backlog}
 use Rattle.pie.specs.declared.Verdict.the-variants.{DroppedBytes, DroppedSlots}
-use Rattle.ring.specs.Answer.{made}
+use Rattle.refusals.specs.Answer.{made}
 use Rattle.laws.specs.Tests.{all}
 use Rattle.laws.proofs.TestLists.{all-at}
 use Rattle.docsis_pie.specs.DropDecision.{decided}

@@ -7,7 +7,7 @@ use native.Mathlib.Omega.{arith}
 use lib.ListN.{length, set}
 use Rattle.pie.specs.Verdicts.{admitted}
 use Rattle.pie.specs.declared.Verdict.{Verdict}
-use Rattle.ring.specs.Answer.{departed, handleIn, refused, sizeIn, ticked, verdict}
+use Rattle.refusals.specs.Answer.{departed, handleIn, refused, sizeIn, ticked, verdict}
 use Rattle.refusals.specs.Numbers.{numberOf, refusalIn}
 use Rattle.docsis_pie.specs.declared.Decided.{Decided}
 use Rattle.modem_flow.specs.Answer.{Reply, unlessRefused}

@@ -2,7 +2,7 @@
 use mathlib.Core.Path.{_≡_}
 use Prim.Native.Nat.{ℕ, zero, suc}
 use Rattle.refusals.specs.Numbers.{numberOf}
-use Rattle.ring.specs.Answer.{Answer, departed, handleIn, made, refused, sizeIn, ticked, verdict}
+use Rattle.refusals.specs.Answer.{Answer, departed, handleIn, made, refused, sizeIn, ticked, verdict}
 use Rattle.modem_flow.specs.declared.Outcome.{Outcome}
 use Rattle.modem_flow.specs.declared.Outcome.the-variants.{Refused, NoFlow, Made, Decided, Departed, Ticked}
 use Rattle.modem_flow.specs.declared.Replied.{Replied}

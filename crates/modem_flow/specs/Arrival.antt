@@ -9,7 +9,7 @@ use Rattle.pie.specs.Backlog.{entered}
 use Rattle.pie.specs.Verdicts.{admitted}
 use Rattle.pie.specs.declared.Verdict.{Verdict}
 use Rattle.pie.specs.declared.Verdict.the-variants.{DroppedBytes, DroppedSlots}
-use Rattle.ring.specs.Answer.{Answer, admits, verdict}
+use Rattle.refusals.specs.Answer.{Answer, admits, verdict}
 use Rattle.refusals.specs.Rows.{firstRefusal}
 use Rattle.refusals.specs.Tests.{sizeRefused}
 use Rattle.docsis_pie.specs.DropDecision.{decided, withAccumulated}

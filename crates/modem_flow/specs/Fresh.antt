@@ -1,9 +1,8 @@
 -- A fresh flow (docs/DOCSIS-PIE.md, parts 2 and 3).
 use mathlib.Core.Bool.{cond}
-use mathlib.Core.List.{List}
 use Prim.Native.Nat.{ℕ}
 use Rattle.units.specs.Kinds.{bytes, micros, none, prob, rate}
-use Rattle.ring.specs.Answer.{made, refused}
+use Rattle.refusals.specs.Answer.{made, refused}
 use Rattle.docsis_pie.specs.Constants.{inactive}
 use Rattle.docsis_pie.specs.Update.{phase}
 use Rattle.modem_flow.specs.Answer.{Reply}

@@ -3,7 +3,7 @@ use mathlib.Core.Bool.{Bool}
 use mathlib.Core.List.{List, [], _∷_}
 use Prim.Native.Nat.{ℕ}
 use Rattle.units.specs.Kinds.{micros}
-use Rattle.ring.specs.Answer.{ticked}
+use Rattle.refusals.specs.Answer.{ticked}
 use Rattle.refusals.specs.Rows.{firstRefusal}
 use Rattle.docsis_pie.specs.Update.{updated}
 use Rattle.modem_flow.specs.Answer.{Reply, unlessRefused}

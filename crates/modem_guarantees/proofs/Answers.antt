@@ -14,7 +14,7 @@ use Rattle.pie.specs.Verdicts.{placeOf, raised, total}
 use Rattle.pie.specs.declared.Verdict.{Verdict}
 use Rattle.pie.specs.declared.Verdict.the-variants.{DroppedBytes, DroppedEarly, DroppedSlots, Enqueued, Marked}
 use Rattle.pie.proofs.Counts.{length-raised, place-lt}
-use Rattle.ring.specs.Answer.{Answer, departed, made, refused, ticked, verdict}
+use Rattle.refusals.specs.Answer.{Answer, departed, made, refused, ticked, verdict}
 use Rattle.docsis_pie.specs.DropDecision.{cleared, decided, drawn, drawnWith, early, enqueuedWith, inAllowance, isSmall, lightlyLoaded}
 use Rattle.docsis_pie.specs.DropDecision.{scaledOf, staysInactive, sumIsHigh, sumIsLow, summed, noLongerInactive}
 use Rattle.docsis_pie.specs.declared.Decided.{Decided}

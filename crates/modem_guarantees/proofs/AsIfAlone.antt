@@ -13,7 +13,7 @@ use Rattle.laws.proofs.Choice.{either}
 use Rattle.calls.specs.Parts.{Does, another, own}
 use Rattle.calls.proofs.Parts.{parts}
 use Rattle.pie.specs.Verdicts.{raised}
-use Rattle.ring.specs.Answer.{Answer, departed, made, refused, ticked, verdict}
+use Rattle.refusals.specs.Answer.{Answer, departed, made, refused, ticked, verdict}
 use Rattle.modem_flow.specs.declared.State.{State}
 use Rattle.modem_flow.specs.Answer.{Reply}
 use Rattle.modem.specs.Asked.{Asked, Flow, ask, askArrival, askDeparture, askTick, flowAfter, start}

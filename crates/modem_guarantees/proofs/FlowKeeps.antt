@@ -14,7 +14,7 @@ use Rattle.pie.specs.Verdicts.{placeOf, total}
 use Rattle.pie.specs.declared.Verdict.{Verdict}
 use Rattle.pie.specs.declared.Verdict.the-variants.{Enqueued, Marked, DroppedBytes, DroppedSlots, DroppedEarly}
 use Rattle.pie.proofs.Counts.{total-raised}
-use Rattle.ring.specs.Answer.{made, refused}
+use Rattle.refusals.specs.Answer.{made, refused}
 use Rattle.modem_flow.specs.declared.Settings.{Settings}
 use Rattle.modem_flow.specs.Arrival.{decisionOf}
 use Rattle.modem_flow.specs.Fresh.{fresh}

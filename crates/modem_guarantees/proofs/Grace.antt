@@ -13,7 +13,7 @@ use Rattle.calls.proofs.Traces.{along, cut}
 use Rattle.pie.specs.Verdicts.{isEarly, placeOf}
 use Rattle.pie.specs.declared.Verdict.{Verdict}
 use Rattle.pie.specs.declared.Verdict.the-variants.{DroppedBytes, DroppedEarly, DroppedSlots}
-use Rattle.ring.specs.Answer.{verdict}
+use Rattle.refusals.specs.Answer.{verdict}
 use Rattle.docsis_pie.specs.Constants.{active, fullAllowance, inactive, period, quiescent}
 use Rattle.docsis_pie.specs.DropDecision.{afterDrop, cleared, decided, drawn, drawnWith, enqueuedWith, inAllowance, isInactive, isQuiescent}
 use Rattle.docsis_pie.specs.DropDecision.{scaledOf, staysInactive, summed, withAccumulated, withActivity, withAllowance, noLongerInactive}

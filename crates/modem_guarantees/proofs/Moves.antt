@@ -7,7 +7,7 @@ use native.Mathlib.Omega.{arith}
 use lib.ListN.{length}
 use Rattle.pie.specs.Verdicts.{admitted, raised}
 use Rattle.pie.specs.declared.Verdict.{Verdict}
-use Rattle.ring.specs.Answer.{verdict}
+use Rattle.refusals.specs.Answer.{verdict}
 use Rattle.docsis_pie.specs.declared.Decided.{Decided}
 use Rattle.modem_flow.specs.Answer.{Reply}
 use Rattle.modem_flow.specs.Arrival.{arrivedState, decisionOf, stored}

@@ -7,7 +7,7 @@ use Prim.Native.Nat.{ℕ, _+_, _-_, _%_, _<_}
 use native.Mathlib.Omega.{arith}
 use lib.ListN.{length}
 use Rattle.modem_flow.specs.declared.State.{State}
-use Rattle.ring.specs.Answer.{refused}
+use Rattle.refusals.specs.Answer.{refused}
 use Rattle.modem_flow.specs.Departure.{headOf}
 use Rattle.refusals.specs.Tests.{headRefused}
 use Rattle.refusals.proofs.Fitting.{fitting-head}

@@ -8,7 +8,7 @@ use Prim.Native.Nat.{ℕ, zero, suc}
 use native.Mathlib.Omega.{arith}
 use lib.ListN.{length}
 use Rattle.refusals.specs.Rows.{firstRefusal}
-use Rattle.ring.specs.Answer.{departed, refused, ticked, verdict}
+use Rattle.refusals.specs.Answer.{departed, refused, ticked, verdict}
 use Rattle.modem_flow.specs.Answer.{Reply, unlessRefused}
 use Rattle.modem_flow.specs.Arrival.{arrival, arrivalRefusal, arrivedState, decisionOf}
 use Rattle.modem_flow.specs.Departure.{departedState, departure, departureRefusal, headOf}

@@ -7,7 +7,7 @@ use Rattle.pie.specs.declared.Verdict.{Verdict}
 use Rattle.pie.specs.declared.Verdict.the-variants.{Enqueued, DroppedBytes, DroppedSlots}
 use Rattle.calls.specs.Kind.{Kind}
 use Rattle.calls.specs.Traces as general
-use Rattle.ring.specs.Answer.{Answer, verdict}
+use Rattle.refusals.specs.Answer.{Answer, verdict}
 use Rattle.modem_flow.specs.declared.State.{State}
 use Rattle.modem_flow.specs.Answer.{Reply}
 use Rattle.modem_flow.specs.Arrival.{arrival, bytesFull, slotsFull}

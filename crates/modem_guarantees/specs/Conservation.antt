@@ -12,7 +12,7 @@ use Rattle.calls.specs.Packets.{bytesOf}
 use Rattle.pie.specs.Verdicts.{placeOf}
 use Rattle.pie.specs.declared.Verdict.{Verdict}
 use Rattle.pie.specs.declared.Verdict.the-variants.{Marked}
-use Rattle.ring.specs.Answer.{Answer, departed, made, refused, ticked, verdict}
+use Rattle.refusals.specs.Answer.{Answer, departed, made, refused, ticked, verdict}
 use Rattle.modem_flow.specs.declared.Settings.{Settings}
 use Rattle.modem_flow.specs.Fresh.{fresh}
 use Rattle.modem.specs.Asked.{Request}

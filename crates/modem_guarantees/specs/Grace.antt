@@ -6,7 +6,7 @@ use mathlib.Core.List.{List, _∷_, _++_, List·Memᴰ}
 use mathlib.Core.Logic.{_≢_}
 use Prim.Native.Nat.{ℕ, _+_}
 use Rattle.pie.specs.declared.Verdict.the-variants.{DroppedEarly}
-use Rattle.ring.specs.Answer.{verdict}
+use Rattle.refusals.specs.Answer.{verdict}
 use Rattle.docsis_pie.specs.Constants.{active, fullAllowance}
 use Rattle.modem_flow.specs.declared.State.{State}
 use Rattle.modem_guarantees.specs.Calls.{ByLimitsBefore, Call, Entry, arrive, trace}

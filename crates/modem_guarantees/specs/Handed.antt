@@ -8,7 +8,7 @@ use Rattle.calls.specs.Handed.{QueueKind}
 use Rattle.calls.specs.Packets.{Packet}
 use Rattle.calls.specs.Ring.{ring}
 use Rattle.pie.specs.Verdicts.{raised}
-use Rattle.ring.specs.Answer.{Answer, admits, departed, made, refused, ticked, verdict}
+use Rattle.refusals.specs.Answer.{Answer, admits, departed, made, refused, ticked, verdict}
 use Rattle.modem_flow.specs.declared.Settings.{Settings}
 use Rattle.modem_flow.specs.declared.State.{State}
 use Rattle.modem_flow.specs.Answer.{Reply}

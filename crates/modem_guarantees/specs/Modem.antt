@@ -6,7 +6,7 @@ use Prim.Native.Nat.{ℕ}
 use lib.Dec.{eqb}
 use Rattle.calls.specs.Kind.{Kind}
 use Rattle.calls.specs.Parts.{Part, another, own}
-use Rattle.ring.specs.Answer.{Answer}
+use Rattle.refusals.specs.Answer.{Answer}
 use Rattle.modem_flow.specs.Answer.{Reply}
 use Rattle.modem_flow.specs.Fresh as one-flow
 use Rattle.modem.specs.Answer.{ModemReply}

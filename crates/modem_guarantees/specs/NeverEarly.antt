@@ -5,7 +5,7 @@ use mathlib.Core.Logic.{_≢_, _⊎_}
 use Prim.Native.Nat.{ℕ, _<_}
 use Rattle.units.specs.Kinds.{none}
 use Rattle.pie.specs.declared.Verdict.the-variants.{DroppedEarly}
-use Rattle.ring.specs.Answer.{verdict}
+use Rattle.refusals.specs.Answer.{verdict}
 use Rattle.modem_flow.specs.declared.State.{State}
 use Rattle.modem_guarantees.specs.Calls.{arrive, reply}
 

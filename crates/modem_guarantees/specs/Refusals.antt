@@ -5,7 +5,7 @@ use mathlib.Core.Bool.{Bool, true, false}
 use mathlib.Core.List.{List, List·Memᴰ}
 use Prim.Native.Nat.{ℕ, _≤_}
 use lib.ListN.{length}
-use Rattle.ring.specs.Answer.{made, refused}
+use Rattle.refusals.specs.Answer.{made, refused}
 use Rattle.modem_flow.specs.declared.Settings.{Settings}
 use Rattle.modem_flow.specs.declared.State.{State}
 use Rattle.modem_flow.specs.Answer.{Reply}

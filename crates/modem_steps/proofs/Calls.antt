@@ -7,7 +7,7 @@ use lib.Dec.{ltb}
 use lib.ListN.{length}
 use Rattle.pie.specs.Constants.{mostVerdicts}
 use Rattle.pie.specs.Verdicts.{total}
-use Rattle.ring.specs.Answer.{departed, ticked, verdict}
+use Rattle.refusals.specs.Answer.{departed, ticked, verdict}
 use Rattle.modem_flow.specs.Answer.{Reply, answerOf, refusalOf, replyIn}
 use Rattle.modem_flow.specs.Arrival.{arrival, arrivalRefusal, arrivedState, decisionOf}
 use Rattle.modem_flow.specs.Departure.{departedState, departure, departureRefusal, headOf}

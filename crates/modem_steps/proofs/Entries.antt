@@ -7,7 +7,7 @@ use native.Mathlib.Omega.{arith}
 use lib.Dec.{ltb}
 use borrow.Author.Tests.{ltb-false, ltb-true}
 use Rattle.laws.proofs.Choice.{at-cond}
-use Rattle.ring.specs.Answer.{Answer, departed, made, refused, ticked, verdict}
+use Rattle.refusals.specs.Answer.{Answer, departed, made, refused, ticked, verdict}
 use Rattle.modem_flow.specs.Answer.{HandsOut, Reply, answerIn, answerOf, refusalOf, replyIn, unlessRefused}
 use Rattle.modem_flow.specs.Fresh.{fresh}
 use Rattle.modem_flow.specs.Refusals.{settingsRefused}
@@ -19,7 +19,7 @@ use Rattle.modem_flow.specs.declared.State.{State}
 use Rattle.modem.specs.Answer.{ModemReply}
 use Rattle.modem.specs.Calls.{flowRefused, forFlow}
 use Rattle.modem.specs.Counts.{countsAfter}
-use Rattle.ring_words.specs.Codes.{codeOf, packetOf}
+use Rattle.refusals.specs.Codes.{codeOf, packetOf}
 use Rattle.modem_words.specs.Words.{stateWords}
 
 -- the number, the words and the counts that say the reply

@@ -18,7 +18,7 @@ use Rattle.modem_flow.specs.Arrival.{arrivedState}
 use Rattle.modem_flow.specs.Departure.{departedState}
 use Rattle.modem_flow.specs.Tick.{tickedState}
 use Rattle.modem_words.specs.Words.{arrivalWords, backlogOf, pieOf, stateOf, stateWords}
-use Rattle.ring_words.proofs.Written.{listed, written-out}
+use Rattle.laws.proofs.Written.{listed, written-out}
 use Rattle.modem_words.proofs.Changed.{Same}
 use Rattle.modem_steps.specs.Words.{phaseWords, pieWords}
 

@@ -32,7 +32,7 @@ ghost use Rattle.docsis_pie.specs.DropDecision.{afterDrop, drawnWith, scaledOf,
 ghost use Rattle.modem_flow.specs.Arrival.{arrival, decisionOf, stored};
 ghost use Rattle.modem_flow.specs.State.{formed};
 ghost use Rattle.modem.specs.Counts.{countsAfter, rowOf};
-ghost use Rattle.ring_words.specs.Codes.{codeOf};
+ghost use Rattle.refusals.specs.Codes.{codeOf};
 ghost use Rattle.modem_words.specs.Words.{pieOf, stateOf, stateWords};
 ghost use Rattle.modem_words.specs.Lent.{lent};
 ghost use Rattle.modem_steps.specs.Fitting.{Ready};

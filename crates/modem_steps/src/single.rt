@@ -14,7 +14,7 @@ ghost use Prim.Native.Nat.{ℕ, _<_};
 ghost use Rattle.modem_flow.specs.Answer.{answerOf};
 ghost use Rattle.modem_flow.specs.Arrival.{stored};
 ghost use Rattle.modem.specs.Calls.{arrival, departure, tick};
-ghost use Rattle.ring_words.specs.Codes.{codeOf, packetOf};
+ghost use Rattle.refusals.specs.Codes.{codeOf, packetOf};
 ghost use Rattle.modem_words.specs.Words.{placeIn, stateOf, stateWords};
 
 // The place of a verdict's count; 0 where the outcome is no verdict.

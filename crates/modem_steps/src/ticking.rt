@@ -24,7 +24,7 @@ ghost use Rattle.docsis_pie.specs.Constants.{quiescent, resetTimeout};
 ghost use Rattle.docsis_pie.specs.Update.{phaseAfter, waited};
 ghost use Rattle.modem_flow.specs.State.{formed};
 ghost use Rattle.modem_flow.specs.Tick.{tick};
-ghost use Rattle.ring_words.specs.Codes.{codeOf};
+ghost use Rattle.refusals.specs.Codes.{codeOf};
 ghost use Rattle.modem_words.specs.Words.{pieOf, stateOf, stateWords};
 ghost use Rattle.modem_steps.specs.Words.{phaseWords};
 

@@ -9,7 +9,7 @@ use Rattle.units.specs.Kinds.{none}
 use Rattle.laws.proofs.Choice.{either}
 use Rattle.pie.specs.Verdicts.{isEarly}
 use Rattle.pie.specs.declared.Verdict.the-variants.{DroppedBytes, DroppedSlots}
-use Rattle.ring_words.proofs.Written.{listed, written-out}
+use Rattle.laws.proofs.Written.{listed, written-out}
 use Rattle.docsis_pie.specs.Constants.{active, fullAllowance, quiescent}
 use Rattle.docsis_pie.specs.DropDecision.{afterDrop, cleared, decided, drawn, drawnWith, enqueuedWith, inAllowance, isInactive, isQuiescent}
 use Rattle.docsis_pie.specs.DropDecision.{scaledOf, staysInactive, summed, withAccumulated, withActivity, withAllowance, noLongerInactive}

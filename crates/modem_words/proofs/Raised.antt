@@ -4,7 +4,7 @@ use mathlib.Core.List.{List}
 use Prim.Native.Nat.{ℕ}
 use Rattle.pie.specs.Verdicts.{placeOf, raised}
 use Rattle.pie.specs.declared.Verdict.{Verdict}
-use Rattle.ring.specs.Answer.{verdict}
+use Rattle.refusals.specs.Answer.{verdict}
 use Rattle.modem.specs.Counts.{countsAfter}
 use Rattle.modem_words.specs.Words.{raisedAt}
 

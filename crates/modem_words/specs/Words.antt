@@ -5,7 +5,7 @@ use lib.ListN.{getD, set}
 use Rattle.units.specs.Kinds.{bytes, micros, prob}
 use Rattle.pie.specs.Verdicts.{placeOf}
 use Rattle.pie.specs.declared.Backlog.{Backlog}
-use Rattle.ring.specs.Answer.{Answer, departed, made, refused, ticked, verdict}
+use Rattle.refusals.specs.Answer.{Answer, departed, made, refused, ticked, verdict}
 use Rattle.docsis_pie.specs.Update.{phase}
 use Rattle.docsis_pie.specs.declared.DocsisPie.{DocsisPie}
 use Rattle.modem_flow.specs.Fresh.{settingsOf}

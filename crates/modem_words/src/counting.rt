@@ -3,7 +3,7 @@ ghost use mathlib.Core.Path.{_≡_};
 ghost use Prim.Native.Nat.{_<_, _≤_};
 ghost use Rattle.pie.specs.Constants.{mostVerdicts};
 ghost use Rattle.pie.specs.Verdicts.{total};
-ghost use Rattle.ring.specs.Answer.{made};
+ghost use Rattle.refusals.specs.Answer.{made};
 ghost use Rattle.modem.specs.Counts.{countsAfter, rowOf};
 ghost use Rattle.modem_words.specs.Words.{raisedAt};
 

@@ -21,7 +21,7 @@ use Rattle.store.specs.Put.{freePlace, storeAfterPut}
 use Rattle.store.specs.Take.{storeAfterTake}
 use Rattle.store.specs.Words.{linkAt}
 use Rattle.store.specs.declared.Store.{Store}
-use Rattle.ring_guarantees.specs.Handed.{Request, askArrival, askDeparture, askTick}
+use Rattle.calls.specs.Requests.{Request, askArrival, askDeparture, askTick}
 use Rattle.pair_rules.specs.Answer.{Reply}
 use Rattle.pair_rules.specs.Queues.{commonSlots, commonUse, other, own, paired, storing}
 use Rattle.pair_rules.specs.WellFormed.{wellFormed}

@@ -5,8 +5,8 @@ use Prim.Native.Nat.{ℕ}
 use lib.Dec.{leb}
 use lib.ListN.{length, length-set, set}
 use Rattle.laws.proofs.Choice.{at-cond}
-use Rattle.ring.specs.Answer.{Answer, admits}
-use Rattle.ring_guarantees.specs.Handed.{Request, askArrival, askDeparture, askTick}
+use Rattle.refusals.specs.Answer.{Answer, admits}
+use Rattle.calls.specs.Requests.{Request, askArrival, askDeparture, askTick}
 use Rattle.store.specs.Put.{freePlace, linked, sizesAfterPut}
 use Rattle.store.specs.declared.Ends.{Ends}
 use Rattle.pair_rules.specs.Queues.{own}

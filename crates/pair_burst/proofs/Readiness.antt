@@ -9,8 +9,8 @@ use lib.ListN.{getD, length}
 use Rattle.pie.specs.Verdicts.{raised, total}
 use Rattle.pie.proofs.Counts.{length-raised, total-raised}
 use Rattle.pie.specs.declared.Verdict.{Verdict}
-use Rattle.ring.specs.Answer.{departed, ticked, verdict}
-use Rattle.ring_guarantees.specs.Handed.{Request, askArrival, askDeparture, askTick}
+use Rattle.refusals.specs.Answer.{departed, ticked, verdict}
+use Rattle.calls.specs.Requests.{Request, askArrival, askDeparture, askTick}
 use Rattle.pair_rules.specs.Answer.{Reply}
 use Rattle.pair_rules.specs.Queues.{other, own, paired}
 use Rattle.pair_rules.specs.WellFormed.{wellFormed}
@@ -26,7 +26,7 @@ use Rattle.pair_rules.specs.Tick.{tick, tickRefusal, tickedState}
 use Rattle.pair_guarantees.specs.Handed.{Queues, replyTo, returned}
 use Rattle.pair_words.specs.After.{ownAfter, sharedAfter}
 use Rattle.pie_words.proofs.Flags.{flag-says}
-use Rattle.ring_words.proofs.Written.{written-out}
+use Rattle.laws.proofs.Written.{written-out}
 use Rattle.pair_words.specs.Words.{sharedOf, sharedWords, stateOf, stateWords}
 use Rattle.pair_burst.specs.Calls.{Call, asked, unknown}
 use Rattle.pair_burst.specs.Burst.{Lent, after, lent, otherWords, ownWords, queuesOf, sharedLeft}

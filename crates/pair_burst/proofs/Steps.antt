@@ -9,8 +9,8 @@ use lib.ListN.{getD, length}
 use Rattle.bursts.specs.Numbers.{clockAt}
 use Rattle.bursts.proofs.Answers.{first-low}
 use Rattle.bursts.proofs.Steps.{Step}
-use Rattle.ring.specs.Answer.{Answer, departed, handleIn, refused, sizeIn, ticked, verdict}
-use Rattle.ring_guarantees.specs.Handed.{Request}
+use Rattle.refusals.specs.Answer.{Answer, departed, handleIn, refused, sizeIn, ticked, verdict}
+use Rattle.calls.specs.Requests.{Request}
 use Rattle.pair_rules.specs.Answer.{Reply}
 use Rattle.pair_rules.specs.Queues.{own}
 use Rattle.pair_rules.specs.declared.Pair.{Pair}
@@ -20,7 +20,7 @@ use Rattle.pair_rules.specs.Answer.{unlessRefused}
 use Rattle.pair_rules.specs.Arrival.{arrival, arrivalRefusal, arrivedHandles, arrivedSizes}
 use Rattle.pair_rules.specs.Departure.{departedSizes, departure, departureRefusal, departureRefusals, headHandle, headSize}
 use Rattle.pair_rules.specs.Tick.{tick, tickRefusal}
-use Rattle.ring_words.specs.Codes.{codeOf}
+use Rattle.refusals.specs.Codes.{codeOf}
 use Rattle.pair_words.specs.After.{ownAfter, sharedAfter}
 use Rattle.pair_words.specs.Words.{pairOf, whichOf}
 use Rattle.pair_burst.specs.Calls.{asked, callAt, requestAt}

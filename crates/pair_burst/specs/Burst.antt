@@ -4,8 +4,8 @@ use mathlib.Core.List.{List}
 use Prim.Native.Nat.{ℕ}
 use Rattle.bursts.specs.Answers.{answerWord}
 use Rattle.bursts.specs.Kind.{BurstKind}
-use Rattle.ring.specs.Answer.{Answer, refused}
-use Rattle.ring_guarantees.specs.Handed.{Request, askArrival, askDeparture, askTick}
+use Rattle.refusals.specs.Answer.{Answer, refused}
+use Rattle.calls.specs.Requests.{Request, askArrival, askDeparture, askTick}
 use Rattle.pair_rules.specs.Answer.{Reply}
 use Rattle.pair_rules.specs.declared.Which.{Which}
 use Rattle.pair_rules.specs.declared.Which.the-variants.{Intercom, Passengers}

@@ -5,7 +5,7 @@ use Prim.Native.Nat.{ℕ, _+_, _-_}
 use lib.Dec.{eqb, ltb}
 use lib.ListN.{getD}
 use Rattle.bursts.specs.Numbers.{clockAt}
-use Rattle.ring_guarantees.specs.Handed.{Request, askArrival, askDeparture, askTick}
+use Rattle.calls.specs.Requests.{Request, askArrival, askDeparture, askTick}
 use Rattle.pair_rules.specs.declared.Which.{Which}
 use Rattle.pair_rules.specs.declared.Which.the-variants.{Intercom, Passengers}
 

@@ -4,12 +4,12 @@ use mathlib.Core.Bool.{Bool, cond}
 use mathlib.Core.List.{List, [], _∷_, _++_}
 use Prim.Native.Nat.{ℕ, zero, suc}
 use Rattle.calls.specs.Packets.{Packet}
-use Rattle.ring_guarantees.specs.Handed.{Request, askArrival, askDeparture, askTick}
+use Rattle.calls.specs.Requests.{Request, askArrival, askDeparture, askTick}
 use Rattle.pie.specs.DropDecision.{dropDecision}
 use Rattle.pie.specs.Verdicts.{admitted}
 use Rattle.pie.specs.declared.Verdict.{Verdict}
 use Rattle.pie.specs.declared.Verdict.the-variants.{DroppedBytes, DroppedSlots}
-use Rattle.ring.specs.Answer.{Answer, departed, refused, ticked, verdict}
+use Rattle.refusals.specs.Answer.{Answer, departed, refused, ticked, verdict}
 use Rattle.refusals.specs.Rows.{firstRefusal}
 use Rattle.refusals.specs.Tests.{sizeRefused}
 use Rattle.pair_rules.specs.declared.State.{State}

@@ -12,13 +12,13 @@ use Rattle.laws.specs.Every.{Every}
 use Rattle.laws.proofs.Choice.{either}
 use Rattle.calls.specs.Packets.{Packet, Sized, bytesOf}
 use Rattle.calls.proofs.Packets.{bytes-append, sized-append}
-use Rattle.ring_guarantees.specs.Handed.{Request, admittedBy, askArrival, askDeparture, askTick, departedBy}
+use Rattle.calls.specs.Requests.{Request, admittedBy, askArrival, askDeparture, askTick, departedBy}
 use Rattle.ring_guarantees.proofs.Answers.{countedBy, length-counted}
 use Rattle.pie.specs.Backlog.{entered}
 use Rattle.pie.specs.Verdicts.{admitted}
 use Rattle.pie.specs.declared.Backlog.{Backlog}
 use Rattle.pie.specs.declared.Verdict.{Verdict}
-use Rattle.ring.specs.Answer.{Answer, refused, verdict}
+use Rattle.refusals.specs.Answer.{Answer, refused, verdict}
 use Rattle.refusals.proofs.Fitting.{size-in-range}
 use Rattle.refusals.proofs.Ordered.{none-refuses}
 use Rattle.refusals.specs.Rows.{firstRefusal}

@@ -7,8 +7,10 @@ use native.Mathlib.Omega.{arith}
 use borrow.Author.Tests.{eq-eqb, le-leb, ne-eqb}
 use lib.Dec.{eqb}
 use lib.ListN.{length}
-use Rattle.ring_guarantees.specs.Handed.{Queue, Request, Run, after, answerOf, begin, step}
-use Rattle.ring.specs.Answer.{made}
+use Rattle.ring.specs.Calls.{Queue, after, answerOf}
+use Rattle.ring_guarantees.specs.Handed.{Run, begin, step}
+use Rattle.calls.specs.Requests.{Request}
+use Rattle.refusals.specs.Answer.{made}
 use Rattle.ring.specs.Fresh.{fresh}
 use Rattle.ring.specs.Refusals.{settingsRefused}
 use Rattle.ring.specs.State.{wellFormed}

@@ -2,7 +2,7 @@
 use mathlib.Core.Path.{_≡_, refl, ap, subst, sym, _∙_}
 use mathlib.Core.List.{List, [], _∷_}
 use Rattle.calls.specs.Traces.{Entry, entry, trace}
-use Rattle.ring_guarantees.specs.Calls.{Call, arrive, depart, update}
+use Rattle.ring.specs.Calls.{Call, arrive, depart, update}
 use Rattle.pair_rules.specs.Queues.{other, own}
 use Rattle.pair_rules.specs.declared.Pair.{Pair}
 use Rattle.pair_rules.specs.declared.State.{State}

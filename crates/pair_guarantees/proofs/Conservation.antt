@@ -1,7 +1,7 @@
 -- Either of two queues keeps what conservation asks for.
 use mathlib.Core.Path.{ap}
 use Rattle.calls.proofs.Conservation as general
-use Rattle.ring.specs.Answer.{Answer}
+use Rattle.refusals.specs.Answer.{Answer}
 use Rattle.pair_rules.specs.declared.Which.{Which}
 use Rattle.pair_guarantees.specs.Conservation.{Conservation}
 use Rattle.pair_guarantees.specs.Handed.{Answered, oneOfTwo}

@@ -8,8 +8,8 @@ use native.Mathlib.Omega.{arith}
 use borrow.Author.Tests.{lt-leb}
 use Rattle.laws.specs.Every.{Every}
 use Rattle.calls.specs.Traces.{entry, trace}
-use Rattle.ring_guarantees.specs.Handed.{Request, askArrival, askDeparture, askTick}
-use Rattle.ring.specs.Answer.{Answer}
+use Rattle.calls.specs.Requests.{Request, askArrival, askDeparture, askTick}
+use Rattle.refusals.specs.Answer.{Answer}
 use Rattle.pair_rules.specs.Queues.{own, reserveOf}
 use Rattle.pair_rules.specs.declared.Pair.{Pair}
 use Rattle.pair_rules.specs.declared.Reserves.{Reserves}

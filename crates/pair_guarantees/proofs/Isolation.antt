@@ -6,7 +6,7 @@ use Prim.Native.Nat.{ℕ}
 use lib.Dec.{eqb}
 use lib.ListN.{length}
 use Rattle.pie.specs.Constants.{fullAllowance}
-use Rattle.ring.specs.Answer.{made}
+use Rattle.refusals.specs.Answer.{made}
 use Rattle.pair_rules.specs.Fresh.{emptyState}
 use Rattle.pair_rules.specs.Queues.{reserveOf}
 use Rattle.pair_rules.specs.declared.Setup.{Setup}

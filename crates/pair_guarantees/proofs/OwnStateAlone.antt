@@ -4,8 +4,8 @@ use mathlib.Core.Bool.{Bool}
 use mathlib.Core.List.{List}
 use Prim.Native.Nat.{ℕ}
 use Rattle.pie.specs.declared.Verdict.{Verdict}
-use Rattle.ring.specs.Answer.{verdict}
-use Rattle.ring_guarantees.specs.Calls.{arrive}
+use Rattle.refusals.specs.Answer.{verdict}
+use Rattle.ring.specs.Calls.{arrive}
 use Rattle.pair_rules.specs.Queues.{own}
 use Rattle.pair_rules.specs.declared.Pair.{Pair}
 use Rattle.pair_rules.specs.declared.Which.{Which}

@@ -8,11 +8,11 @@ use native.Mathlib.Omega.{arith}
 use lib.ListN.{getD, length}
 use Rattle.calls.specs.Conservation.{Keeps, Readings}
 use Rattle.calls.specs.Packets.{Sized, bytesOf}
-use Rattle.ring_guarantees.specs.Handed.{Request}
+use Rattle.calls.specs.Requests.{Request}
 use Rattle.ring_guarantees.proofs.Answers.{counted-at}
 use Rattle.pie.specs.Verdicts.{placeOf}
 use Rattle.pie.specs.declared.Verdict.{Verdict}
-use Rattle.ring.specs.Answer.{refused}
+use Rattle.refusals.specs.Answer.{refused}
 use Rattle.pair_rules.specs.Queues.{own}
 use Rattle.pair_rules.specs.declared.Which.{Which}
 use Rattle.pair_rules.specs.declared.Which.the-variants.{Intercom, Passengers}

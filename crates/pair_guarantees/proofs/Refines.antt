@@ -10,12 +10,12 @@ use lib.Dec.{ltb}
 use lib.ListN.{getD, length}
 use Rattle.laws.proofs.Tests.{or-neither}
 use Rattle.calls.specs.Packets.{Packet}
-use Rattle.ring_guarantees.specs.Handed.{Request, askArrival, askDeparture, askTick}
+use Rattle.calls.specs.Requests.{Request, askArrival, askDeparture, askTick}
 use Rattle.pie.specs.Constants.{latest, mostVerdicts}
 use Rattle.pie.specs.Verdicts.{admitted, total}
 use Rattle.pie.specs.declared.Backlog.{Backlog}
 use Rattle.pie.specs.declared.Verdict.{Verdict}
-use Rattle.ring.specs.Answer.{Answer, departed, refused, ticked, verdict}
+use Rattle.refusals.specs.Answer.{Answer, departed, refused, ticked, verdict}
 use Rattle.refusals.proofs.Fitting.{head-fits, size-in-range}
 use Rattle.refusals.proofs.Ordered.{none-refuses}
 use Rattle.store.specs.Put.{endsAfterPut, freePlace, handlesAfterPut, sizesAfterPut, storeAfterPut}

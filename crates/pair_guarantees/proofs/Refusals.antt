@@ -2,10 +2,10 @@
 use mathlib.Core.Path.{_≡_, refl, subst}
 use Prim.Native.Nat.{ℕ}
 use native.Mathlib.Omega.{arith}
-use Rattle.ring.specs.Answer.{refused}
+use Rattle.refusals.specs.Answer.{refused}
 use Rattle.refusals.specs.Rows.{Ascending, firstRefusal}
 use Rattle.refusals.proofs.Ordered.{lowest-given}
-use Rattle.ring_guarantees.specs.Calls.{Call, arrive, depart, update}
+use Rattle.ring.specs.Calls.{Call, arrive, depart, update}
 use Rattle.pair_rules.specs.Fresh.{fresh}
 use Rattle.pair_rules.specs.WellFormed.{wellFormed}
 use Rattle.pair_rules.specs.declared.Pair.{Pair}

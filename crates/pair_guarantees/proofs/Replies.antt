@@ -7,11 +7,11 @@ use mathlib.Core.List.{List, [], _∷_, _++_}
 use Prim.Native.Nat.{ℕ, zero, suc}
 use native.Mathlib.Omega.{arith}
 use lib.ListN.{length}
-use Rattle.ring.specs.Answer.{Answer, departed, refused, ticked, verdict}
+use Rattle.refusals.specs.Answer.{Answer, departed, refused, ticked, verdict}
 use Rattle.refusals.specs.Rows.{firstRefusal}
 use Rattle.store.specs.Put.{freePlace}
 use Rattle.store.specs.Take.{storeAfterTake}
-use Rattle.ring_guarantees.specs.Calls.{Call, arrive, depart, update}
+use Rattle.ring.specs.Calls.{Call, arrive, depart, update}
 use Rattle.pair_rules.specs.Answer.{Reply}
 use Rattle.pair_rules.specs.Facing.{facing}
 use Rattle.pair_rules.specs.Queues.{other, own, paired, storing}

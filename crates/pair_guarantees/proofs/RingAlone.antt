@@ -13,14 +13,17 @@ use Rattle.calls.specs.Ring.{slot}
 use Rattle.calls.specs.Ring as tables
 use Rattle.calls.proofs.Ring.{leaves}
 use Rattle.calls.proofs.Traces.{same-rest}
-use Rattle.ring_guarantees.specs.Handed.{Queue, Request, admittedBy, after, answerOf, askArrival, askDeparture, askTick, callOf, departedBy}
-use Rattle.ring_guarantees.specs.Handed.{queued, returned}
-use Rattle.ring_guarantees.specs.Calls.{reply}
+use Rattle.ring.specs.Calls.{Queue, after, answerOf, callOf}
+use Rattle.calls.specs.Requests.{Request, admittedBy, askArrival, askDeparture, askTick, departedBy}
+use Rattle.ring_guarantees.specs.Handed.{queued}
+use Rattle.ring.specs.Calls.{returned}
+use Rattle.ring.specs.Calls.{reply}
 use Rattle.ring_guarantees.proofs.NeverRefused.{head-leaves}
 use Rattle.ring_guarantees.proofs.Replies.{acceptance, by-number, numberGiven, refusalOf}
 use Rattle.ring_guarantees.proofs.RingKeeps.{Sound, ring-keeps}
 use Rattle.ring.specs.Activity.{begun}
-use Rattle.ring.specs.Answer.{Answer, Reply, admits, refused, verdict}
+use Rattle.refusals.specs.Answer.{Answer, admits, refused, verdict}
+use Rattle.ring.specs.Answer.{Reply}
 use Rattle.ring.specs.Arrival as ring
 use Rattle.ring.specs.Departure as ring-departure
 use Rattle.ring.specs.Refusals.{emptyRefused, tablesRefused}

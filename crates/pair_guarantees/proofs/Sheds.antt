@@ -14,7 +14,7 @@ use Rattle.pie_guarantees.proofs.NoProfile.{begins-as-given}
 use Rattle.store.specs.Following.{followed, linkRefused}
 use Rattle.store.specs.Put.{freePlace}
 use Rattle.store.specs.Words.{linkAt}
-use Rattle.ring_guarantees.specs.Calls.{Call}
+use Rattle.ring.specs.Calls.{Call}
 use Rattle.pair_rules.specs.Facing.{facing}
 use Rattle.pair_rules.specs.Queues.{own}
 use Rattle.pair_rules.specs.WellFormed.{wellFormed}

@@ -11,7 +11,7 @@ use Rattle.calls.specs.Conservation.{Empty}
 use Rattle.pie.specs.Verdicts.{placeOf}
 use Rattle.pie.specs.declared.Verdict.{Verdict}
 use Rattle.pie.specs.declared.Verdict.the-variants.{Enqueued, Marked, DroppedBytes, DroppedSlots, DroppedEarly}
-use Rattle.ring.specs.Answer.{made}
+use Rattle.refusals.specs.Answer.{made}
 use Rattle.store_guarantees.specs.Sound.{Sound}
 use Rattle.store_guarantees.proofs.Fresh.{fresh-sound}
 use Rattle.pair_rules.specs.Fresh.{fresh, freshPair, setupRefused}

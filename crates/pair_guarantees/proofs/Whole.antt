@@ -9,7 +9,7 @@ use borrow.Author.Tests.{eqb-false}
 use lib.ListN.{length}
 use Rattle.calls.specs.Packets.{Packet, Sized, bytesOf}
 use Rattle.calls.proofs.Packets.{sized-bytes}
-use Rattle.ring_guarantees.specs.Handed.{askArrival, askDeparture, askTick}
+use Rattle.calls.specs.Requests.{askArrival, askDeparture, askTick}
 use Rattle.pie.specs.Verdicts.{admitted}
 use Rattle.pie.specs.declared.Verdict.{Verdict}
 use Rattle.refusals.proofs.Fitting.{fitting-head}

@@ -7,8 +7,9 @@ use Prim.Native.Nat.{ℕ, _≤_}
 use lib.ListN.{length}
 use Rattle.laws.specs.Every.{Every}
 use Rattle.calls.specs.Traces.{trace}
+use Rattle.calls.specs.Requests.{Request}
 use Rattle.ring_guarantees.specs.Handed as ring
-use Rattle.ring.specs.Answer.{made}
+use Rattle.refusals.specs.Answer.{made}
 use Rattle.ring.specs.Fresh.{settingsOf}
 use Rattle.ring.specs.declared.Settings.{Settings}
 use Rattle.ring.specs.declared.State as ring-queue
@@ -24,7 +25,7 @@ abbrev pub ringSettings : Setup → Settings
 ringSettings s = settingsOf (s .settings .target .0) (s .settings .buffer .0) (s .reserve) 0
 
 -- the ring queue over the same calls, with tables of its own
-abbrev pub ringRun : Setup → (handles sizes : List ℕ) → List ring.Request → ring.Run
+abbrev pub ringRun : Setup → (handles sizes : List ℕ) → List Request → ring.Run
 ringRun s handles sizes requests = ring.run (ringSettings s) (s .clock .0) handles sizes requests
 
 -- what a ring queue's state has in common with that of one of two queues

@@ -1,7 +1,7 @@
 -- Lists of calls on two queues over one pair of tables, and one queue's own calls among whatever else is done.
 use Rattle.calls.specs.Kind.{Kind}
-use Rattle.ring.specs.Answer.{Answer}
-use Rattle.ring_guarantees.specs.Calls.{Call, arrive, depart, update}
+use Rattle.refusals.specs.Answer.{Answer}
+use Rattle.ring.specs.Calls.{Call, arrive, depart, update}
 use Rattle.pair_rules.specs.Answer.{Reply}
 use Rattle.pair_rules.specs.Queues.{own, paired}
 use Rattle.pair_rules.specs.declared.Pair.{Pair}

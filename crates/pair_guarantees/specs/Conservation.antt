@@ -9,10 +9,10 @@ use lib.ListN.{getD, length}
 use Rattle.calls.specs.Conservation.{timesGiven}
 use Rattle.calls.specs.Packets.{bytesOf}
 use Rattle.ring_guarantees.specs.Conservation as ring
-use Rattle.ring_guarantees.specs.Handed.{Request}
+use Rattle.calls.specs.Requests.{Request}
 use Rattle.pie.specs.Verdicts.{placeOf}
 use Rattle.pie.specs.declared.Verdict.{Verdict}
-use Rattle.ring.specs.Answer.{made, refused}
+use Rattle.refusals.specs.Answer.{made, refused}
 use Rattle.pair_rules.specs.Fresh.{fresh}
 use Rattle.pair_rules.specs.Queues.{own}
 use Rattle.pair_rules.specs.declared.Setup.{Setup}

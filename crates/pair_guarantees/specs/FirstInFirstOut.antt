@@ -4,7 +4,7 @@
 use mathlib.Core.Path.{_≡_}
 use mathlib.Core.List.{List, _++_}
 use Prim.Native.Nat.{ℕ}
-use Rattle.ring.specs.Answer.{made}
+use Rattle.refusals.specs.Answer.{made}
 use Rattle.pair_rules.specs.Fresh.{fresh}
 use Rattle.pair_rules.specs.declared.Setup.{Setup}
 use Rattle.pair_rules.specs.declared.Which.{Which}

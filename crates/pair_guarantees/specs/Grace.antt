@@ -7,7 +7,7 @@ use Prim.Native.Nat.{_+_}
 use Rattle.pie.specs.Constants.{fullAllowance}
 use Rattle.calls.specs.Traces.{Entry, trace}
 use Rattle.pie_guarantees.specs.AllowanceLasts.{ByLimitsBefore}
-use Rattle.ring.specs.Answer.{ticked}
+use Rattle.refusals.specs.Answer.{ticked}
 use Rattle.pair_rules.specs.declared.State.{State}
 use Rattle.pair_rules.specs.declared.Which.{Which}
 use Rattle.pair_guarantees.specs.Calls.{OwnCall, ownCalls}

@@ -7,9 +7,9 @@ use Rattle.calls.specs.Handed as general
 use Rattle.calls.specs.Handed.{QueueKind}
 use Rattle.calls.specs.Kind.{Kind}
 use Rattle.calls.specs.Packets.{Packet}
-use Rattle.ring_guarantees.specs.Handed as ring
-use Rattle.ring_guarantees.specs.Handed.{Request, askArrival, askDeparture, askTick}
-use Rattle.ring.specs.Answer.{Answer}
+use Rattle.calls.specs.Requests as one-queue
+use Rattle.calls.specs.Requests.{Request, askArrival, askDeparture, askTick}
+use Rattle.refusals.specs.Answer.{Answer}
 use Rattle.store_guarantees.specs.Chains.{Chain, Chains, packetsIn}
 use Rattle.pair_rules.specs.Answer.{Reply}
 use Rattle.pair_rules.specs.Fresh.{fresh}
@@ -99,10 +99,10 @@ same Passengers Passengers = true
 
 -- what its own calls put at the tail and take from the head
 abbrev pub admittedBy : Which → Call → Answered → List Packet
-admittedBy w c a = cond (same w (c .queue)) (ring.admittedBy (c .asked) (a .answer)) []
+admittedBy w c a = cond (same w (c .queue)) (one-queue.admittedBy (c .asked) (a .answer)) []
 
 abbrev pub departedBy : Which → Answered → List Packet
-departedBy w a = cond (same w (a .queue)) (ring.departedBy (a .answer)) []
+departedBy w a = cond (same w (a .queue)) (one-queue.departedBy (a .answer)) []
 
 abbrev pub oneOfTwo : Which → QueueKind
 oneOfTwo w =

@@ -10,8 +10,8 @@ use Prim.Native.Nat.{ℕ, _<_}
 use lib.ListN.{length}
 use Rattle.laws.specs.Every.{Every}
 use Rattle.calls.specs.Traces.{Entry, trace}
-use Rattle.ring_guarantees.specs.Handed.{Request, askArrival, askDeparture, askTick}
-use Rattle.ring.specs.Answer.{Answer, made}
+use Rattle.calls.specs.Requests.{Request, askArrival, askDeparture, askTick}
+use Rattle.refusals.specs.Answer.{Answer, made}
 use Rattle.store.specs.Fresh.{freshEnds}
 use Rattle.pair_rules.specs.Answer.{Reply}
 use Rattle.pair_rules.specs.Fresh.{fresh}

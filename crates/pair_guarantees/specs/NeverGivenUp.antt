@@ -5,7 +5,7 @@ use mathlib.Core.List.{List, List·Memᴰ}
 use Prim.Native.Nat.{ℕ}
 use Rattle.calls.specs.Traces.{Entry, trace}
 use Rattle.pie_guarantees.specs.NeverGivenUp.{GivesNothingUp}
-use Rattle.ring.specs.Answer.{made}
+use Rattle.refusals.specs.Answer.{made}
 use Rattle.pair_rules.specs.Fresh.{fresh}
 use Rattle.pair_rules.specs.Queues.{own}
 use Rattle.pair_rules.specs.declared.Setup.{Setup}

@@ -5,7 +5,7 @@ use mathlib.Core.Bool.{Bool}
 use mathlib.Core.List.{List}
 use Prim.Native.Nat.{ℕ}
 use Rattle.pie.specs.declared.Verdict.{Verdict}
-use Rattle.ring.specs.Answer.{verdict}
+use Rattle.refusals.specs.Answer.{verdict}
 use Rattle.pair_rules.specs.Queues.{own}
 use Rattle.pair_rules.specs.declared.Pair.{Pair}
 use Rattle.pair_rules.specs.declared.State.{State}

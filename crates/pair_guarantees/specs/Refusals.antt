@@ -5,8 +5,8 @@ use mathlib.Core.Bool.{Bool, true, false}
 use mathlib.Core.List.{List, List·Memᴰ}
 use Prim.Native.Nat.{ℕ, _≤_}
 use lib.ListN.{length}
-use Rattle.ring.specs.Answer.{Answer, made, refused}
-use Rattle.ring_guarantees.specs.Calls.{Call, arrive, depart, update}
+use Rattle.refusals.specs.Answer.{Answer, made, refused}
+use Rattle.ring.specs.Calls.{Call, arrive, depart, update}
 use Rattle.pair_rules.specs.Fresh.{fresh, setupRefused, zeroPair}
 use Rattle.pair_rules.specs.WellFormed.{wellFormed}
 use Rattle.pair_rules.specs.declared.Pair.{Pair}

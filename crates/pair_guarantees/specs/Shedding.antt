@@ -6,8 +6,8 @@ use Prim.Native.Nat.{ℕ}
 use Rattle.laws.specs.Tests.{all}
 use Rattle.pie_guarantees.specs.Shedding.{Shedding, Told, decided, nothing}
 use Rattle.pie_guarantees.specs.Shedding as told
-use Rattle.ring.specs.Answer.{Answer, departed, made, refused, ticked, verdict}
-use Rattle.ring_guarantees.specs.Calls.{Call, arrive, depart, update}
+use Rattle.refusals.specs.Answer.{Answer, departed, made, refused, ticked, verdict}
+use Rattle.ring.specs.Calls.{Call, arrive, depart, update}
 use Rattle.pair_rules.specs.WellFormed.{queueConditions}
 use Rattle.pair_rules.specs.declared.State.{State}
 use Rattle.pair_rules.specs.declared.Which.{Which}

@@ -10,7 +10,7 @@ use Rattle.laws.specs.Tests.{all}
 use Rattle.laws.proofs.Choice.{at-cond}
 use Rattle.laws.proofs.TestLists.{all-at}
 use Rattle.pie.specs.Constants.{fullAllowance, latest}
-use Rattle.ring.specs.Answer.{made}
+use Rattle.refusals.specs.Answer.{made}
 use Rattle.pair_rules.specs.Answer.{Reply}
 use Rattle.pair_rules.specs.Fresh.{emptyState, fresh, freshPair, freshShared, setupConditions, setupRefused}
 use Rattle.pair_rules.specs.WellFormed.{slotsConditions, wellFormed}

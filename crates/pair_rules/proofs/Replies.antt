@@ -10,7 +10,7 @@ use lib.Dec.{ltb}
 use lib.ListN.{length}
 use Rattle.pie.specs.Verdicts.{admitted}
 use Rattle.pie.specs.declared.Verdict.{Verdict}
-use Rattle.ring.specs.Answer.{Answer, departed, handleIn, refused, sizeIn, ticked, verdict}
+use Rattle.refusals.specs.Answer.{Answer, departed, handleIn, refused, sizeIn, ticked, verdict}
 use Rattle.laws.proofs.Tests.{and-left, and-right}
 use Rattle.refusals.proofs.Ordered.{numbered}
 use Rattle.refusals.specs.Numbers.{numberOf, refusalIn}

@@ -1,7 +1,7 @@
 -- What a call on two queues answers and returns. The answers are the ring queue's (crate ring).
 use mathlib.Core.Bool.{Bool, true, false}
 use Prim.Native.Nat.{ℕ, zero, suc}
-use Rattle.ring.specs.Answer.{Answer, acceptedAnswer, arrivalAnswer, departed, made, refused, ticked, verdict}
+use Rattle.refusals.specs.Answer.{Answer, acceptedAnswer, arrivalAnswer, departed, made, refused, ticked, verdict}
 use Rattle.pair_rules.specs.Queues.{paired, storing}
 use Rattle.pair_rules.specs.declared.Arrived.{Arrived}
 use Rattle.pair_rules.specs.declared.Departed.{Departed}

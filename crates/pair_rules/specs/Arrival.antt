@@ -11,7 +11,7 @@ use Rattle.pie.specs.Verdicts.{admitted, raised}
 use Rattle.pie.specs.declared.Pie.{Pie}
 use Rattle.pie.specs.declared.Verdict.{Verdict}
 use Rattle.pie.specs.declared.Verdict.the-variants.{DroppedBytes, DroppedSlots}
-use Rattle.ring.specs.Answer.{Answer, admits, verdict}
+use Rattle.refusals.specs.Answer.{Answer, admits, verdict}
 use Rattle.refusals.specs.Rows.{firstRefusal}
 use Rattle.refusals.specs.Tests.{sizeRefused}
 use Rattle.store.specs.Following.{linkRefused}

@@ -5,7 +5,7 @@ use Prim.Native.Nat.{ℕ, _-_}
 use lib.ListN.{getD, length}
 use Rattle.units.specs.Kinds.{micros}
 use Rattle.pie.specs.Backlog.{left}
-use Rattle.ring.specs.Answer.{Answer, departed}
+use Rattle.refusals.specs.Answer.{Answer, departed}
 use Rattle.ring.specs.Departure.{departedPie}
 use Rattle.refusals.specs.Rows.{firstRefusal}
 use Rattle.refusals.specs.Tests.{headRefused}

@@ -7,7 +7,7 @@ use Rattle.laws.specs.Tests.{all}
 use Rattle.units.specs.Kinds.{bytes, micros, none, prob}
 use Rattle.pie.specs.Constants.{fullAllowance, latest}
 use Rattle.pie.specs.DepartureRate.{resting}
-use Rattle.ring.specs.Answer.{made, refused}
+use Rattle.refusals.specs.Answer.{made, refused}
 use Rattle.store.specs.Fresh.{freshEnds, freshStore}
 use Rattle.pair_rules.specs.Answer.{Reply}
 use Rattle.pair_rules.specs.WellFormed.{settingsConditions, slotsConditions}

@@ -4,7 +4,7 @@ use mathlib.Core.List.{List, [], _∷_}
 use Prim.Native.Nat.{ℕ}
 use Rattle.units.specs.Kinds.{micros}
 use Rattle.pie.specs.Update.{updated}
-use Rattle.ring.specs.Answer.{ticked}
+use Rattle.refusals.specs.Answer.{ticked}
 use Rattle.refusals.specs.Rows.{firstRefusal}
 use Rattle.pair_rules.specs.Answer.{Reply}
 use Rattle.pair_rules.specs.Answer.{unlessRefused}

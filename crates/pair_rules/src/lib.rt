@@ -2,7 +2,7 @@
 use pie::Backlog;
 use pie::Pie;
 use refusals::Accepted;
-use ring::ArrivalAnswer;
+use refusals::ArrivalAnswer;
 use store::Ends;
 use store::Store;
 use units::Bytes;

@@ -7,7 +7,7 @@ use lib.ListN.{length}
 use borrow.Author.Tests.{eq-eqb}
 use Rattle.pie.specs.Verdicts.{admitted, placeOf}
 use Rattle.pie.specs.declared.Verdict.{Verdict}
-use Rattle.ring.specs.Answer.{departed, refused, ticked, verdict}
+use Rattle.refusals.specs.Answer.{departed, refused, ticked, verdict}
 use Rattle.refusals.specs.Tests.{sizeRefused}
 use Rattle.pair_rules.specs.Answer.{Reply}
 use Rattle.store.specs.Put.{freePlace, handlesAfterPut, sizesAfterPut, storeAfterPut}
@@ -23,7 +23,7 @@ use Rattle.pair_rules.specs.Arrival.{arrival, arrivalRefusal, arrivedHandles, a
 use Rattle.pair_rules.specs.Departure.{departedSizes, departedState, departure, departureRefusal, headHandle, headSize, headWordRefused}
 use Rattle.pair_rules.specs.Refusals.{clockRefused, countsRefused, emptyRefused, tablesRefused, tooSoonRefused}
 use Rattle.pair_rules.specs.Tick.{tick, tickRefusal, tickedState}
-use Rattle.ring_words.specs.Codes.{codeOf, packetOf}
+use Rattle.refusals.specs.Codes.{codeOf, packetOf}
 use Rattle.pair_words.specs.After.{ownAfter, sharedAfter}
 use Rattle.pair_words.specs.Words.{sharedWords, stateWords}
 

@@ -27,7 +27,7 @@ use Rattle.pair_rules.specs.Tick.{tickedState}
 use Rattle.pie_words.specs.Flags.{isSet}
 use Rattle.pair_words.specs.Words.{sharedOf, sharedWords, stateOf, stateWords, storeOf}
 use Rattle.pie_words.proofs.Flags.{flag-kept}
-use Rattle.ring_words.proofs.Written.{listed, written-out}
+use Rattle.laws.proofs.Written.{listed, written-out}
 use Rattle.pie_words.specs.Words.{pieAt, rateAt, rateWords, updatedWords}
 use Rattle.pair_steps.specs.Written.{enteredWords, settledWords}
 

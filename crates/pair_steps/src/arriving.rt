@@ -32,7 +32,7 @@ ghost use Rattle.store.specs.Put.{freePlace, handlesAfterPut, sizesAfterPut, st
 ghost use Rattle.pair_rules.specs.Queues.{storing};
 ghost use Rattle.pair_rules.specs.WellFormed.{wellFormed};
 ghost use Rattle.pair_rules.specs.Arrival.{arrival, arrivedHandles, arrivedSizes};
-ghost use Rattle.ring_words.specs.Codes.{codeOf};
+ghost use Rattle.refusals.specs.Codes.{codeOf};
 ghost use Rattle.pair_words.specs.After.{ownAfter, sharedAfter};
 ghost use Rattle.pair_words.specs.Words.{endsOf, pairOf, sharedOf, sharedWords, stateOf, storeOf, whichOf};
 ghost use Rattle.pair_steps.specs.Written.{enteredWords, settledWords};

@@ -26,7 +26,7 @@ ghost use mathlib.Core.List.{[], _∷_};
 ghost use lib.ListN.{length};
 ghost use Rattle.pair_rules.specs.WellFormed.{wellFormed};
 ghost use Rattle.pair_rules.specs.Departure.{departedSizes, departure};
-ghost use Rattle.ring_words.specs.Codes.{codeOf, packetOf};
+ghost use Rattle.refusals.specs.Codes.{codeOf, packetOf};
 ghost use Rattle.pair_words.specs.After.{ownAfter, sharedAfter};
 ghost use Rattle.pair_words.specs.Words.{pairOf, sharedOf, whichOf};
 

@@ -14,7 +14,7 @@ ghost use mathlib.Core.Bool.{true};
 ghost use lib.ListN.{length};
 ghost use Rattle.pair_rules.specs.WellFormed.{wellFormed};
 ghost use Rattle.pair_rules.specs.Tick.{tick};
-ghost use Rattle.ring_words.specs.Codes.{codeOf};
+ghost use Rattle.refusals.specs.Codes.{codeOf};
 ghost use Rattle.pair_words.specs.After.{ownAfter};
 ghost use Rattle.pair_words.specs.Words.{pairOf, whichOf};
 

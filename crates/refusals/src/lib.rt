@@ -1,4 +1,6 @@
-// The refusals of document 01: their numbers, and the tests that ask for no more than a backlog or five counts.
+// The refusals of document 01: their numbers, and the tests that ask for no more than a backlog or five counts; and what an arrival answers.
+use pie::Verdict;
+
 mod counting;
 mod heads;
 mod numbering;
@@ -6,6 +8,7 @@ mod numbering;
 pub use counting::counts_fit;
 pub use counting::counts_full;
 pub use heads::wrong_head;
+pub use numbering::refused;
 
 // One case for each refusal number, in order, from 1.
 pub enum Refusal {
@@ -23,4 +26,9 @@ pub enum Refusal {
 pub enum Accepted {
     Yes,
     No(Refusal),
+}
+
+pub enum ArrivalAnswer {
+    Decided(Verdict),
+    Refused(Refusal),
 }

@@ -1,7 +1,7 @@
 // The numbers of the refusals.
 use crate::Refusal;
 ghost use mathlib.Core.Path.{_≡_};
-ghost use Prim.Native.Nat.{_≤_};
+ghost use Prim.Native.Nat.{_+_, _≤_};
 ghost use Rattle.refusals.specs.Numbers.{numberOf};
 
 impl Refusal {
@@ -20,4 +20,11 @@ impl Refusal {
             Refusal::Head => 9,
         }
     }
+}
+
+// The number that a C caller gets for a refusal: its own, with 100.
+pub fn refused(r: Refusal) -> u32
+    ensures { λ n. ⌜ n ≡ 100 + numberOf r ⌝ }
+{
+    100 + r.number()
 }

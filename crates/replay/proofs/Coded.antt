@@ -10,16 +10,18 @@ use borrow.Author.Tests.{le-leb, lt-leb}
 use Rattle.pie.specs.Verdicts.{placeOf}
 use Rattle.pie.proofs.Counts.{place-lt}
 use Rattle.ring.specs.declared.State.{State}
-use Rattle.ring.specs.Answer.{Answer, Reply, departed, handleIn, made, refused, sizeIn, ticked, unlessRefused, verdict}
+use Rattle.refusals.specs.Answer.{Answer, departed, handleIn, made, refused, sizeIn, ticked, verdict}
+use Rattle.ring.specs.Answer.{Reply, unlessRefused}
 use Rattle.ring.specs.Arrival.{arrival, arrivalRefusal, stored}
 use Rattle.ring.specs.Departure.{departure, departureRefusal, headOf}
 use Rattle.ring.specs.Tick.{tick, tickRefusal}
-use Rattle.ring_words.specs.Codes.{codeOf, wordsAfter}
+use Rattle.refusals.specs.Codes.{codeOf}
+use Rattle.ring_words.specs.Codes.{wordsAfter}
 use Rattle.ring_words.specs.Words.{stateOf}
 use Rattle.log_codec.specs.declared.Record.{Record}
 use Rattle.ring_guarantees.proofs.Replies.{arrivalOf, departureOf, tickOf}
 use Rattle.bursts.specs.Answers.{answerWord}
-use Rattle.ring_steps.specs.Lent.{Lent, leaves, lent, replyTo}
+use Rattle.ring_words.specs.Lent.{Lent, leaves, lent, replyTo}
 use Rattle.ring_steps.proofs.Answers.{departure-small}
 use Rattle.replay.specs.Agreement.{refusalIn, requestOf, verdictIn}
 use Rattle.replay.specs.declared.Called.{Called}

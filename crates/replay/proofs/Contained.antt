@@ -9,7 +9,7 @@ use lib.ListN.{length}
 use borrow.Author.Tests.{eqb-true, not-false}
 use Rattle.laws.proofs.Tests.{and-left, and-right, or-neither}
 use Rattle.pie.specs.Verdicts.{total}
-use Rattle.ring.specs.Answer.{made}
+use Rattle.refusals.specs.Answer.{made}
 use Rattle.ring.specs.Fresh.{fresh, freshState, settingsOf}
 use Rattle.ring.specs.Refusals.{settingsRefused}
 use Rattle.ring.specs.declared.Settings.{Settings}
@@ -18,7 +18,7 @@ use Rattle.ring.proofs.Kept.{fresh-well-formed}
 use Rattle.ring_words.specs.Words.{stateOf, stateWords}
 use Rattle.ring_words.proofs.Words.{back, words-long}
 use Rattle.log_codec.specs.declared.Header.{Header}
-use Rattle.ring_steps.specs.Lent.{lent}
+use Rattle.ring_words.specs.Lent.{lent}
 use Rattle.ring_steps.specs.Fitting.{Ready}
 use Rattle.log.specs.Answers.{Answer, given, refused}
 use Rattle.log.specs.Faults.{headerRefused}

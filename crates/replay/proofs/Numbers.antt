@@ -5,10 +5,10 @@ use mathlib.Core.List.{List, [], _∷_}
 use Prim.Native.Nat.{ℕ, zero, suc, _+_, _<_, _≤_}
 use native.Mathlib.Omega.{arith}
 use lib.ListN.{length}
-use Rattle.ring.specs.Answer.{Answer}
+use Rattle.refusals.specs.Answer.{Answer}
 use Rattle.ring.specs.Refusals.{tablesRefused}
 use Rattle.log_codec.specs.declared.Record.{Record}
-use Rattle.ring_guarantees.specs.Handed.{Queue, after, answerOf}
+use Rattle.ring.specs.Calls.{Queue, after, answerOf}
 use Rattle.log.specs.Answers.{given, refused as logRefused}
 use Rattle.log.specs.Faults.{headerRefused}
 use Rattle.log.specs.Layout.{headerIn, noteIn, recordsIn}

@@ -3,13 +3,13 @@ use mathlib.Core.Bool.{cond}
 use mathlib.Core.List.{List, [], _∷_}
 use Prim.Native.Nat.{ℕ, zero, suc, _+_}
 use lib.ListN.{length}
-use Rattle.ring.specs.Answer.{Answer}
+use Rattle.refusals.specs.Answer.{Answer}
 use Rattle.ring.specs.Fresh.{freshState, settingsOf}
 use Rattle.ring.specs.Refusals.{tablesRefused}
 use Rattle.ring.specs.declared.State.{State}
 use Rattle.log_codec.specs.declared.Header.{Header}
 use Rattle.log_codec.specs.declared.Record.{Record}
-use Rattle.ring_guarantees.specs.Handed.{Queue, after, answerOf}
+use Rattle.ring.specs.Calls.{Queue, after, answerOf}
 use Rattle.log.specs.Answers.{Answer as LogAnswer, given, refused as logRefused}
 use Rattle.log.specs.Whole.{Contents, readWhole}
 use Rattle.replay.specs.Agreement.{disagreement, requestOf}

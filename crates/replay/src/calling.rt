@@ -8,7 +8,7 @@ ghost use mathlib.Core.Path.{_≡_};
 ghost use mathlib.Core.Bool.{cond};
 ghost use Prim.Native.Nat.{_-_, _≤_};
 ghost use lib.Dec.{leb};
-ghost use Rattle.ring_steps.specs.Lent.{leaves, lent, replyTo};
+ghost use Rattle.ring_words.specs.Lent.{leaves, lent, replyTo};
 ghost use Rattle.ring_steps.specs.Fitting.{Ready};
 ghost use Rattle.replay.specs.Agreement.{refusalIn, requestOf, verdictIn};
 

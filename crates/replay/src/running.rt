@@ -9,7 +9,7 @@ ghost use Prim.Native.Nat.{_+_, _*_, _≤_};
 ghost use lib.ListN.{length};
 ghost use Rattle.ring_words.specs.Words.{stateOf};
 ghost use Rattle.log.specs.Layout.{recordsFrom};
-ghost use Rattle.ring_steps.specs.Lent.{lent};
+ghost use Rattle.ring_words.specs.Lent.{lent};
 ghost use Rattle.ring_steps.specs.Fitting.{Ready};
 ghost use Rattle.replay.specs.Replay.{queueOf, replayFrom};
 ghost use Rattle.replay.specs.Replied.{handlesAfter, replayedOf, sizesAfter};

@@ -8,12 +8,14 @@ use native.Mathlib.Omega.{arith}
 use borrow.Author.Tests.{eq-eqb}
 use lib.Dec.{eqb}
 use lib.ListN.{length}
-use Rattle.ring.specs.Answer.{Answer, Reply, refused}
+use Rattle.refusals.specs.Answer.{Answer, refused}
+use Rattle.ring.specs.Answer.{Reply}
 use Rattle.refusals.specs.Rows.{firstRefusal}
 use Rattle.ring.specs.declared.State.{State}
 use Rattle.log_codec.specs.declared.Record.{Record}
-use Rattle.ring_guarantees.specs.Calls.{Call, arrive, depart, update}
-use Rattle.ring_guarantees.specs.Handed.{Queue, Request, after, answerOf, askArrival, askDeparture, askTick, callOf}
+use Rattle.ring.specs.Calls.{Call, arrive, depart, update}
+use Rattle.ring.specs.Calls.{Queue, after, answerOf, callOf}
+use Rattle.calls.specs.Requests.{Request, askArrival, askDeparture, askTick}
 use Rattle.ring_guarantees.proofs.Refusals.{refusals}
 use Rattle.ring_guarantees.proofs.Replies.{acceptance, number-refuses, numberGiven}
 use Rattle.replay.specs.Agreement.{disagreements, refusalIn, requestOf, verdictIn}

@@ -9,7 +9,9 @@ use lib.ListN.{length}
 use Rattle.ring.specs.Fresh.{settingsOf}
 use Rattle.ring.specs.declared.Settings.{Settings}
 use Rattle.log_codec.specs.declared.Header.{Header}
-use Rattle.ring_guarantees.specs.Handed.{Queue, Request, Run, after, begin, queued, step}
+use Rattle.ring.specs.Calls.{Queue, after}
+use Rattle.ring_guarantees.specs.Handed.{Run, begin, queued, step}
+use Rattle.calls.specs.Requests.{Request}
 use Rattle.ring.proofs.Kept.{fresh-well-formed}
 use Rattle.log.specs.Answers.{given}
 use Rattle.log.specs.Faults.{headerRefused}

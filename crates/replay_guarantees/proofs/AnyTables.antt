@@ -8,7 +8,7 @@ use borrow.Author.Tests.{eqb-false, eqb-true, not-false}
 use lib.Dec.{eqb}
 use lib.ListN.{length}
 use Rattle.laws.proofs.Tests.{and-left, and-right}
-use Rattle.ring.specs.Answer.{Answer, refused}
+use Rattle.refusals.specs.Answer.{Answer, refused}
 use Rattle.ring.specs.Departure.{headOf}
 use Rattle.ring.specs.Refusals.{tablesRefused}
 use Rattle.ring.specs.State.{wellFormed}
@@ -17,7 +17,9 @@ use Rattle.ring.specs.declared.State.{State}
 use Rattle.ring.proofs.Facts.{facts}
 use Rattle.log_codec.specs.declared.Record.{Record}
 use Rattle.calls.specs.Packets.{Packet}
-use Rattle.ring_guarantees.specs.Handed.{Queue, Request, after, answerOf, askArrival, askDeparture, askTick, callOf, queued}
+use Rattle.ring.specs.Calls.{Queue, after, answerOf, callOf}
+use Rattle.ring_guarantees.specs.Handed.{queued}
+use Rattle.calls.specs.Requests.{Request, askArrival, askDeparture, askTick}
 use Rattle.ring_guarantees.proofs.Refusals.{refusals}
 use Rattle.ring_guarantees.proofs.Replies.{number-refuses, numberGiven}
 use Rattle.log.specs.Answers.{Answer as LogAnswer, given, refused as logRefused}

@@ -7,10 +7,10 @@ use native.Mathlib.Omega.{arith}
 use borrow.Author.Tests.{eq-eqb, eqb-false, eqb-true}
 use lib.Dec.{eqb}
 use lib.ListN.{length}
-use Rattle.ring.specs.Answer.{Answer}
+use Rattle.refusals.specs.Answer.{Answer}
 use Rattle.ring.specs.declared.State.{State}
 use Rattle.log_codec.specs.declared.Record.{Record}
-use Rattle.ring_guarantees.specs.Handed.{Queue, answerOf}
+use Rattle.ring.specs.Calls.{Queue, answerOf}
 use Rattle.replay.specs.Agreement.{disagreement, refusalIn, requestOf, verdictIn}
 use Rattle.replay.specs.Replay.{Replay, accepted, disagrees, replayFrom, unlessDisagrees}
 use Rattle.replay.specs.Replied.{bytesIn, probIn}

@@ -12,7 +12,8 @@ use Rattle.pie.specs.Verdicts.{placeOf}
 use Rattle.pie.specs.declared.Verdict.{Verdict}
 use Rattle.pie.specs.declared.Verdict.the-variants.{Enqueued, Marked, DroppedBytes, DroppedSlots, DroppedEarly}
 use Rattle.ring.specs.Activity.{begun}
-use Rattle.ring.specs.Answer.{Answer, Reply, admits, departed, made, refused, ticked, verdict}
+use Rattle.refusals.specs.Answer.{Answer, admits, departed, made, refused, ticked, verdict}
+use Rattle.ring.specs.Answer.{Reply}
 use Rattle.ring.specs.Arrival.{arrivalRefusal, verdictOf}
 use Rattle.ring.specs.Departure.{departureRefusal, headOf}
 use Rattle.ring.specs.State.{wellFormed}
@@ -23,7 +24,9 @@ use Rattle.ring.proofs.WhenAccepted.{arrival-accepted, departure-accepted, tick
 use Rattle.log_codec.specs.Records.{InRange}
 use Rattle.log_codec.specs.declared.Record.{Record}
 use Rattle.calls.specs.Packets.{Packet}
-use Rattle.ring_guarantees.specs.Handed.{Queue, Request, admittedBy, after, answerOf, askArrival, askDeparture, askTick, brought, callOf, departedBy, queued}
+use Rattle.ring.specs.Calls.{Queue, after, answerOf, callOf}
+use Rattle.ring_guarantees.specs.Handed.{queued}
+use Rattle.calls.specs.Requests.{Request, admittedBy, askArrival, askDeparture, askTick, brought, departedBy}
 use Rattle.ring_guarantees.proofs.Moves.{moved}
 use Rattle.ring_guarantees.proofs.Replies.{numberGiven, reply-well-formed}
 use Rattle.log.specs.Faults.{faulty, mostBytes}

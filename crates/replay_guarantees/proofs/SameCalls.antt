@@ -12,9 +12,11 @@ use Rattle.ring.specs.Tick.{tickedState}
 use Rattle.ring.specs.declared.Settings.{Settings}
 use Rattle.ring.specs.declared.State.{State}
 use Rattle.ring.proofs.WhenAccepted.{arrival-accepted, departure-accepted}
-use Rattle.ring_guarantees.specs.Calls.{Call, arrive, depart, reply, update}
+use Rattle.ring.specs.Calls.{Call, arrive, depart, reply, update}
 use Rattle.calls.specs.Packets.{Packet}
-use Rattle.ring_guarantees.specs.Handed.{Queue, Request, admittedBy, after, answerOf, askArrival, askDeparture, askTick, callOf, departedBy, queued}
+use Rattle.ring.specs.Calls.{Queue, after, answerOf, callOf}
+use Rattle.ring_guarantees.specs.Handed.{queued}
+use Rattle.calls.specs.Requests.{Request, admittedBy, askArrival, askDeparture, askTick, departedBy}
 use Rattle.ring_guarantees.proofs.Moves.{moved}
 use Rattle.ring_guarantees.proofs.Replies.{acceptance, at-one-reply, by-number, numberGiven}
 use Rattle.calls.specs.Ring.{slot}

@@ -16,7 +16,8 @@ use Rattle.pie.specs.Verdicts.{total}
 use Rattle.pie.proofs.Counts.{total-raised}
 use Rattle.refusals.specs.Tests.{sizeRefused}
 use Rattle.ring.specs.Activity.{begun}
-use Rattle.ring.specs.Answer.{Reply, refused}
+use Rattle.ring.specs.Answer.{Reply}
+use Rattle.refusals.specs.Answer.{refused}
 use Rattle.ring.specs.Arrival.{arrivedState, verdictOf}
 use Rattle.ring.specs.Departure.{departedState}
 use Rattle.ring.specs.Fresh.{settingsOf}
@@ -29,8 +30,10 @@ use Rattle.log_codec.specs.declared.Record.{Record}
 use Rattle.calls.specs.Conservation.{Held}
 use Rattle.calls.specs.Handed as general
 use Rattle.calls.proofs.RunKept.{run-kept}
-use Rattle.ring_guarantees.specs.Calls.{Call, arrive, depart, update}
-use Rattle.ring_guarantees.specs.Handed.{Queue, Request, after, answerOf, askArrival, askDeparture, askTick, begin, callOf, ringQueue}
+use Rattle.ring.specs.Calls.{Call, arrive, depart, update}
+use Rattle.ring.specs.Calls.{Queue, after, answerOf, callOf}
+use Rattle.ring_guarantees.specs.Handed.{begin, ringQueue}
+use Rattle.calls.specs.Requests.{Request, askArrival, askDeparture, askTick}
 use Rattle.ring_guarantees.proofs.NeverRefused.{not-given}
 use Rattle.ring_guarantees.proofs.Replies.{acceptance, at-one-reply}
 use Rattle.ring_guarantees.proofs.RingKeeps.{Sound, fresh-empty, fresh-sound, ring-keeps, ringReadings}

@@ -6,7 +6,9 @@ use Prim.Native.Nat.{ℕ, _+_, _*_, _≤_}
 use lib.ListN.{length}
 use Rattle.ring.specs.Fresh.{settingsOf}
 use Rattle.log_codec.specs.declared.Header.{Header}
-use Rattle.ring_guarantees.specs.Handed.{Queue, Request, begin, queued, run}
+use Rattle.ring.specs.Calls.{Queue}
+use Rattle.ring_guarantees.specs.Handed.{begin, queued, run}
+use Rattle.calls.specs.Requests.{Request}
 use Rattle.log.specs.Writer.{begin as beginLog}
 use Rattle.log_guarantees.specs.Run.{logOf, run as write}
 use Rattle.replay.specs.Replay.{Replay, accepted, replay}

@@ -6,10 +6,10 @@ use mathlib.Core.Logic.{_≢_}
 use mathlib.Core.List.{List, [], _∷_, _++_, foldl}
 use Prim.Native.Nat.{ℕ}
 use lib.ListN.{length}
-use Rattle.ring.specs.Answer.{Answer}
+use Rattle.refusals.specs.Answer.{Answer}
 use Rattle.ring.specs.declared.State.{State}
 use Rattle.log_codec.specs.declared.Record.{Record}
-use Rattle.ring_guarantees.specs.Handed.{Queue, after, answerOf}
+use Rattle.ring.specs.Calls.{Queue, after, answerOf}
 use Rattle.replay.specs.Agreement.{refusalIn, requestOf, verdictIn}
 use Rattle.replay.specs.Replay.{accepted, disagrees, replayFrom}
 use Rattle.replay.specs.Replied.{bytesIn, probIn}

@@ -2,10 +2,11 @@
 use mathlib.Core.Bool.{cond}
 use mathlib.Core.List.{List, [], _∷_, _++_}
 use Prim.Native.Nat.{ℕ, _<_, _^_}
-use Rattle.ring.specs.Answer.{Answer, departed, made, refused, ticked, verdict}
+use Rattle.refusals.specs.Answer.{Answer, departed, made, refused, ticked, verdict}
 use Rattle.ring.specs.declared.State.{State}
 use Rattle.log_codec.specs.declared.Record.{Record}
-use Rattle.ring_guarantees.specs.Handed.{Queue, Request, after, answerOf, askArrival, askDeparture, askTick}
+use Rattle.ring.specs.Calls.{Queue, after, answerOf}
+use Rattle.calls.specs.Requests.{Request, askArrival, askDeparture, askTick}
 use Rattle.replay.specs.Agreement.{verdictIn}
 use Rattle.replay.specs.Replied.{bytesIn, probIn}
 

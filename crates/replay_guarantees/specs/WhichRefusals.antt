@@ -3,8 +3,8 @@
 use mathlib.Core.Path.{_≡_}
 use mathlib.Core.List.{List}
 use Prim.Native.Nat.{ℕ, _≤_}
-use Rattle.ring.specs.Answer.{refused}
-use Rattle.ring_guarantees.specs.Handed.{Queue}
+use Rattle.refusals.specs.Answer.{refused}
+use Rattle.ring.specs.Calls.{Queue}
 use Rattle.replay.specs.Replay.{disagrees, replay}
 
 abbrev pub WhichRefusals : Type 0

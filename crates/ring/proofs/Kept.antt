@@ -25,7 +25,8 @@ use Rattle.pie.specs.declared.Verdict.the-variants.{DroppedBytes, DroppedSlots}
 use Rattle.pie.proofs.Counts.{total-raised}
 use Rattle.pie.proofs.Ranges.{accumulated-lt, average-le, delay-le, next-allowance-le, next-prob-le, sample-le}
 use Rattle.ring.specs.Activity.{aboveThird, begun, isCalm, turnsActive, turnsInactive}
-use Rattle.ring.specs.Answer.{Reply, made}
+use Rattle.ring.specs.Answer.{Reply}
+use Rattle.refusals.specs.Answer.{made}
 use Rattle.ring.specs.Arrival.{arrivedPie, arrivedState, bytesFull, slotsFull, verdictOf}
 use Rattle.ring.specs.Departure.{departedState}
 use Rattle.ring.specs.Fresh.{fresh, freshState}

@@ -8,7 +8,8 @@ use lib.ListN.{length, set}
 use Rattle.pie.specs.Verdicts.{admitted}
 use Rattle.pie.specs.declared.Verdict.{Verdict}
 use Rattle.ring.specs.Activity.{begun}
-use Rattle.ring.specs.Answer.{Reply, departed, handleIn, refused, sizeIn, unlessRefused, verdict}
+use Rattle.ring.specs.Answer.{Reply, unlessRefused}
+use Rattle.refusals.specs.Answer.{departed, handleIn, refused, sizeIn, verdict}
 use Rattle.ring.specs.Arrival.{arrival, arrivalRefusal, arrivedState, stored, tailPlace, verdictOf}
 use Rattle.ring.specs.Departure.{departedState, departure, departureRefusal, headOf}
 use Rattle.refusals.specs.Numbers.{numberOf, refusalIn}

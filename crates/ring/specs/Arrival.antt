@@ -14,7 +14,8 @@ use Rattle.pie.specs.declared.Verdict.the-variants.{DroppedBytes, DroppedSlots,
 use Rattle.refusals.specs.Rows.{firstRefusal}
 use Rattle.refusals.specs.Tests.{sizeRefused}
 use Rattle.ring.specs.Activity.{begun}
-use Rattle.ring.specs.Answer.{Answer, Reply, admits, unlessRefused, verdict}
+use Rattle.refusals.specs.Answer.{Answer, admits, verdict}
+use Rattle.ring.specs.Answer.{Reply, unlessRefused}
 use Rattle.ring.specs.Refusals.{clockRefused, countsRefused, stateRefused, tablesRefused}
 use Rattle.ring.specs.declared.State.{State}
 

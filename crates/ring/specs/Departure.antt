@@ -9,7 +9,8 @@ use Rattle.pie.specs.DepartureRate.{rateAfter}
 use Rattle.pie.specs.declared.Pie.{Pie}
 use Rattle.refusals.specs.Rows.{firstRefusal}
 use Rattle.refusals.specs.Tests.{headRefused}
-use Rattle.ring.specs.Answer.{Reply, departed, unlessRefused}
+use Rattle.ring.specs.Answer.{Reply, unlessRefused}
+use Rattle.refusals.specs.Answer.{departed}
 use Rattle.ring.specs.Refusals.{clockRefused, emptyRefused, stateRefused, tablesRefused}
 use Rattle.ring.specs.declared.State.{State}
 

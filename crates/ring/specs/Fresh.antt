@@ -1,13 +1,13 @@
 -- A fresh state (document 01, 'The state record').
 use mathlib.Core.Bool.{Bool, false, cond, not}
-use mathlib.Core.List.{List, [], _∷_}
+use mathlib.Core.List.{[], _∷_}
 use Prim.Native.Nat.{ℕ}
 use Rattle.units.specs.Kinds.{bytes, micros}
 use Rattle.pie.specs.Start.{restarted, unstarted}
-use Rattle.pie.specs.declared.Backlog.{Backlog}
 use Rattle.pie.specs.declared.Pie.{Pie}
 use Rattle.ring.specs.Activity.{isCalm}
-use Rattle.ring.specs.Answer.{Reply, made, refused}
+use Rattle.ring.specs.Answer.{Reply}
+use Rattle.refusals.specs.Answer.{made, refused}
 use Rattle.ring.specs.Refusals.{settingsRefused}
 use Rattle.ring.specs.declared.Settings.{Settings}
 use Rattle.ring.specs.declared.State.{State}

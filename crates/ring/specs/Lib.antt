@@ -7,3 +7,4 @@ pub mod Fresh
 pub mod Arrival
 pub mod Departure
 pub mod Tick
+pub mod Calls

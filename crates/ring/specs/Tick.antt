@@ -7,7 +7,8 @@ use Rattle.pie.specs.Update.{updated}
 use Rattle.pie.specs.declared.Pie.{Pie}
 use Rattle.refusals.specs.Rows.{firstRefusal}
 use Rattle.ring.specs.Activity.{isCalm, turnsInactive}
-use Rattle.ring.specs.Answer.{Reply, ticked, unlessRefused}
+use Rattle.ring.specs.Answer.{Reply, unlessRefused}
+use Rattle.refusals.specs.Answer.{ticked}
 use Rattle.ring.specs.Refusals.{clockRefused, tooSoonRefused, stateRefused}
 use Rattle.ring.specs.declared.State.{State}
 

@@ -1,5 +1,4 @@
 // An arrival.
-use crate::ArrivalAnswer;
 use crate::Arrived;
 use crate::State;
 use pie::Backlog;
@@ -11,6 +10,7 @@ use pie::Verdict;
 use pie::raise;
 use places::store;
 use refusals::Accepted;
+use refusals::ArrivalAnswer;
 use refusals::Refusal;
 use refusals::counts_fit;
 use refusals::counts_full;

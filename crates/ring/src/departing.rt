@@ -17,7 +17,8 @@ ghost use lib.ListN.{length};
 ghost use Rattle.pie.specs.Constants.{largest};
 ghost use Rattle.ring.specs.State.{wellFormed};
 ghost use Rattle.refusals.specs.Numbers.{refusalIn};
-ghost use Rattle.ring.specs.Answer.{departureReply, handleIn, sizeIn};
+ghost use Rattle.ring.specs.Answer.{departureReply};
+ghost use Rattle.refusals.specs.Answer.{handleIn, sizeIn};
 ghost use Rattle.ring.specs.Departure.{departedState, departure, departureRefusal, headOf};
 
 impl State {

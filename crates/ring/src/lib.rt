@@ -1,9 +1,8 @@
 // One queue of packet records over two lent tables, as a ring, shedding load by PIE.
 use pie::Backlog;
 use pie::Pie;
-use pie::Verdict;
 use refusals::Accepted;
-use refusals::Refusal;
+use refusals::ArrivalAnswer;
 use units::Bytes;
 use units::Micros;
 
@@ -36,11 +35,6 @@ pub struct State {
     pub active: bool,
 }
 
-pub enum ArrivalAnswer {
-    Decided(Verdict),
-    Refused(Refusal),
-}
-
 // What `fresh` and `tick` return.
 pub struct Returned {
     pub accepted: Accepted,
@@ -59,5 +53,3 @@ pub struct Departed {
     pub size: u32,
     pub state: State,
 }
-
-pub use well_formed::measurement_fits;

@@ -6,17 +6,13 @@ use pie::LARGEST;
 use pie::LATEST;
 use pie::LONGEST;
 use pie::MOST_ACCUMULATED;
-use pie::Rate;
-use pie::THRESHOLD;
+use pie::measurement_fits;
 use refusals::counts_fit;
-use units::Micros;
 use units::Prob;
 ghost use mathlib.Core.Path.{_≡_};
-ghost use mathlib.Core.Bool.{_&&_, _||_, not};
 ghost use Prim.Native.Nat.{_≤_};
-ghost use lib.Dec.{eqb, leb, ltb};
 ghost use Rattle.laws.specs.Tests.{all};
-ghost use Rattle.pie.specs.Constants.{mostVerdicts, threshold};
+ghost use Rattle.pie.specs.Constants.{mostVerdicts};
 ghost use Rattle.pie.specs.Verdicts.{total};
 ghost use Rattle.ring.specs.State.{settingsConditions, wellFormed};
 
@@ -32,19 +28,6 @@ impl Settings {
             & (self.slots <= 65_536)
             & (self.profile <= 1)
     }
-}
-
-// The measurement: start and counted bytes are 0 if none runs, and none runs on an empty queue.
-pub fn measurement_fits(rate: Rate, clock: Micros, count: u64) -> bool
-    ensures { λ r. ⌜ r ≡ (leb (rate .start .0) (clock .0) && ltb (rate .counted .0) threshold
-        && (rate .measuring || eqb (rate .start .0) 0) && (rate .measuring || eqb (rate .counted .0) 0)
-        && not (rate .measuring && eqb count 0)) ⌝ }
-{
-    let runs = rate.measuring;
-    if runs {
-        return (rate.start.0 <= clock.0) & (rate.counted.0 < THRESHOLD) & (count != 0);
-    }
-    (rate.start.0 == 0) & (rate.counted.0 == 0)
 }
 
 impl State {

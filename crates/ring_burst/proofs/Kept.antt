@@ -3,7 +3,7 @@ use mathlib.Core.Path.{_≡_, refl}
 use Prim.Native.Nat.{ℕ, suc}
 use native.Mathlib.Omega.{arith}
 use lib.ListN.{length}
-use Rattle.ring_steps.specs.Lent.{Lent}
+use Rattle.ring_words.specs.Lent.{Lent}
 use Rattle.ring_steps.specs.Fitting.{Ready}
 use Rattle.ring_steps.proofs.Kept.{leaves-long, ready-kept}
 use Rattle.ring_burst.specs.Calls.{Call, asked, unknown}

@@ -13,10 +13,11 @@ use Rattle.ring.specs.Answer.{Reply}
 use Rattle.ring.specs.Arrival.{arrival, stored}
 use Rattle.ring.specs.Departure.{departure}
 use Rattle.ring.specs.Tick.{tick}
-use Rattle.ring_words.specs.Codes.{codeOf, wordsAfter}
+use Rattle.refusals.specs.Codes.{codeOf}
+use Rattle.ring_words.specs.Codes.{wordsAfter}
 use Rattle.ring_words.specs.Words.{stateOf}
 use Rattle.bursts.specs.Answers.{answerWord}
-use Rattle.ring_steps.specs.Lent.{lent}
+use Rattle.ring_words.specs.Lent.{lent}
 use Rattle.ring_steps.proofs.Answers.{plain-arrival, plain-tick}
 use Rattle.ring_burst.specs.Calls.{callAt}
 use Rattle.ring_burst.specs.Burst.{ringBursts}

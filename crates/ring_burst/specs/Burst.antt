@@ -1,8 +1,8 @@
 -- What the single entries do with a call on a ring, and its bursts.
 use Rattle.bursts.specs.Kind.{BurstKind}
-use Rattle.ring.specs.Answer.{Answer, refused}
+use Rattle.refusals.specs.Answer.{Answer, refused}
 use Rattle.bursts.specs.Answers.{answerWord}
-use Rattle.ring_steps.specs.Lent.{Lent, leaves, replyTo}
+use Rattle.ring_words.specs.Lent.{Lent, leaves, replyTo}
 use Rattle.ring_burst.specs.Calls.{Call, asked, callAt, unknown}
 
 -- the answer to a call; no entry takes an unknown one: refusal 20

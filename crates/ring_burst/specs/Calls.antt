@@ -5,7 +5,7 @@ use Prim.Native.Nat.{ℕ, _+_}
 use lib.Dec.{eqb, ltb}
 use lib.ListN.{getD}
 use Rattle.bursts.specs.Numbers.{clockAt}
-use Rattle.ring_guarantees.specs.Handed.{Request, askArrival, askDeparture, askTick}
+use Rattle.calls.specs.Requests.{Request, askArrival, askDeparture, askTick}
 
 pub data Call : Type 0 where
   asked : Request → Call

@@ -27,7 +27,7 @@ ghost use Rattle.ring.specs.State.{wellFormed};
 ghost use Rattle.ring_words.specs.Words.{stateOf};
 ghost use Rattle.ring_burst.specs.Calls.{callAt};
 ghost use Rattle.bursts.specs.Answers.{answerWord};
-ghost use Rattle.ring_steps.specs.Lent.{lent};
+ghost use Rattle.ring_words.specs.Lent.{lent};
 ghost use Rattle.ring_steps.specs.Fitting.{Ready};
 ghost use Rattle.ring_burst.specs.Burst.{after, answerTo, ringBursts};
 

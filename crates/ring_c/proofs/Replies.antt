@@ -11,7 +11,8 @@ use Rattle.pie.proofs.Counts.{count-le-total}
 use Rattle.pie.specs.declared.Verdict.{Verdict}
 use Rattle.refusals.specs.declared.Accepted.{Accepted}
 use Rattle.refusals.specs.declared.Accepted.the-variants.{Yes}
-use Rattle.ring.specs.Answer.{Reply, acceptedAnswer, departed, verdict}
+use Rattle.ring.specs.Answer.{Reply}
+use Rattle.refusals.specs.Answer.{acceptedAnswer, departed, verdict}
 use Rattle.ring.specs.Arrival.{arrival}
 use Rattle.ring.specs.Departure.{departedState, departure}
 use Rattle.ring.specs.declared.State.{State}

@@ -1,11 +1,11 @@
 // The C interface (include/obikuteru.h): the queue's calls over a state that is lent as words.
-// Each entry decodes the words, makes the one call of the queue and writes what it returned.
+// Each entry decodes the words, makes the one call of the queue and writes what it returned. Tables that a call is not lent to write stay.
 use refusals::Accepted;
-use ring::ArrivalAnswer;
+use refusals::ArrivalAnswer;
+use refusals::refused;
 use ring::State;
 use ring_words::decode;
 use ring_words::encode;
-use ring_words::refused;
 use ring_words::write_arrival;
 use ring_words::write_departure;
 use units::Bytes;
@@ -14,11 +14,10 @@ ghost use mathlib.Core.Path.{_≡_};
 ghost use mathlib.Core.List.{[]};
 ghost use Rattle.ring.specs.State.{wellFormed};
 ghost use Rattle.ring.specs.Fresh.{fresh, settingsOf};
-ghost use Rattle.ring.specs.Arrival.{arrival, stored};
-ghost use Rattle.ring.specs.Departure.{departure};
-ghost use Rattle.ring.specs.Tick.{tick};
 ghost use Rattle.ring_words.specs.Words.{stateOf, stateWords};
-ghost use Rattle.ring_words.specs.Codes.{codeOf, packetOf, wordsAfter};
+ghost use Rattle.ring_words.specs.Lent.{codeTo, leaves, lent, replyTo};
+ghost use Rattle.refusals.specs.Codes.{codeOf, packetOf};
+ghost use Rattle.calls.specs.Requests.{askArrival, askDeparture, askTick};
 
 #[no_mangle]
 pub extern "C" fn obikuteru_fresh(
@@ -54,11 +53,12 @@ pub extern "C" fn obikuteru_arrival(
     ecn: bool,
     u: u32,
 ) -> u32
-    ensures { λ r. ⌜ (let a = arrival (stateOf (now (words .entry))) (now (handles .entry)) (now (sizes .entry)) clock size ecn u in
-        (r ≡ codeOf (a .answer))
-        × (now (words .exit) ≡ wordsAfter a (now (words .entry)))
-        × (now (handles .exit) ≡ stored (stateOf (now (words .entry))) (a .answer) (now (handles .entry)) handle)
-        × (now (sizes .exit) ≡ stored (stateOf (now (words .entry))) (a .answer) (now (sizes .entry)) size)) ⌝ }
+    ensures { λ r. ⌜ (let q = lent (now (words .entry)) (now (handles .entry)) (now (sizes .entry)) in
+        let asked = askArrival clock handle size ecn u in
+        (r ≡ codeTo q asked)
+        × (now (words .exit) ≡ leaves q asked .words)
+        × (now (handles .exit) ≡ leaves q asked .handles)
+        × (now (sizes .exit) ≡ leaves q asked .sizes)) ⌝ }
 {
     let s = decode(*words);
     let r = s.arrival(
@@ -86,10 +86,11 @@ pub extern "C" fn obikuteru_departure(
     clock: u64,
     packet: &mut [u32; 2],
 ) -> u32
-    ensures { λ r. ⌜ (let a = departure (stateOf (now (words .entry))) (now (handles .entry)) (now (sizes .entry)) clock in
-        (r ≡ codeOf (a .answer))
-        × (now (words .exit) ≡ wordsAfter a (now (words .entry)))
-        × (now (packet .exit) ≡ packetOf (a .answer))) ⌝ }
+    ensures { λ r. ⌜ (let q = lent (now (words .entry)) (now (handles .entry)) (now (sizes .entry)) in
+        let asked = askDeparture clock in
+        (r ≡ codeTo q asked)
+        × (now (words .exit) ≡ leaves q asked .words)
+        × (now (packet .exit) ≡ packetOf (replyTo q asked .answer))) ⌝ }
 {
     let s = decode(*words);
     let r = s.departure(handles, sizes, Micros(clock));
@@ -111,8 +112,8 @@ pub extern "C" fn obikuteru_departure(
 
 #[no_mangle]
 pub extern "C" fn obikuteru_tick(words: &mut [u64; 23], clock: u64) -> u32
-    ensures { λ r. ⌜ (let a = tick (stateOf (now (words .entry))) clock in
-        (r ≡ codeOf (a .answer)) × (now (words .exit) ≡ wordsAfter a (now (words .entry)))) ⌝ }
+    ensures { λ r. ⌜ (let q = lent (now (words .entry)) [] [] in
+        (r ≡ codeTo q (askTick clock)) × (now (words .exit) ≡ leaves q (askTick clock) .words)) ⌝ }
 {
     let s = decode(*words);
     let r = s.tick(Micros(clock));

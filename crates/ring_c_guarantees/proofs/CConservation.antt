@@ -11,16 +11,18 @@ use Rattle.pie.specs.declared.Verdict.{Verdict}
 use Rattle.pie.specs.declared.Verdict.the-variants.{Enqueued, Marked, DroppedBytes, DroppedSlots, DroppedEarly}
 use Rattle.pie.proofs.Counts.{place-lt}
 use Rattle.ring.specs.Fresh.{settingsOf}
-use Rattle.ring_words.specs.Codes.{codeOf}
+use Rattle.refusals.specs.Codes.{codeOf}
 use Rattle.ring_words.specs.Words.{stateOf}
 use Rattle.ring_words.proofs.Words.{count-word}
 use Rattle.ring_guarantees.specs.Conservation.{Conserved, isVerdict, timesAnswered}
-use Rattle.ring_guarantees.specs.Handed.{Request, answerOf, askArrival, askDeparture, askTick}
+use Rattle.calls.specs.Requests.{Request, askArrival, askDeparture, askTick}
+use Rattle.ring.specs.Calls.{answerOf}
 use Rattle.ring_guarantees.proofs.Conservation.{conservation}
 use Rattle.ring_guarantees.proofs.Replies.{at-one-reply}
 use Rattle.ring_c_guarantees.specs.CConservation.{CConservation, CConserved, arrivalsAnswered, isArrival}
-use Rattle.ring_c_guarantees.specs.CHanded.{CQueue, admittedIn, cCallOf, codeFor, finalQueue, freshQueue, handedOutIn, logOf, queueLeft}
-use Rattle.ring_c_guarantees.specs.CHanded.{queueOf}
+use Rattle.ring_words.specs.Lent.{Lent, callTo, codeTo, leaves}
+use Rattle.ring_c_guarantees.specs.CHanded.{admittedIn, finalQueue, freshQueue, handedOutIn, logOf}
+use Rattle.ring_words.specs.Lent.{queueOf}
 use Rattle.ring_c_guarantees.specs.Fields.{verdictsIn}
 use Rattle.ring_c_guarantees.proofs.CFirstInFirstOut.{fresh-made}
 use Rattle.ring_c_guarantees.proofs.Codes.{code-refused}
@@ -28,25 +30,25 @@ use Rattle.ring_c_guarantees.proofs.RunsJoined.{answersTo, run-same, ru
 
 -- ── the numbers of arrivals ──
 
-answered-same : (v : Verdict) (q : CQueue) (r : Request) →
-    isArrival r && eqb (placeOf v) (codeFor q r) ≡ isVerdict v (answerOf (queueOf q) r)
+answered-same : (v : Verdict) (q : Lent) (r : Request) →
+    isArrival r && eqb (placeOf v) (codeTo q r) ≡ isVerdict v (answerOf (queueOf q) r)
 answered-same v q (askArrival clock handle size ecn u) =
     let r = askArrival clock handle size ecn u in
-    at-one-reply (λ p. eqb (placeOf v) (codeOf (p .answer)) ≡ isVerdict v (p .answer)) (stateOf (q .words)) (cCallOf q r)
+    at-one-reply (λ p. eqb (placeOf v) (codeOf (p .answer)) ≡ isVerdict v (p .answer)) (stateOf (q .words)) (callTo q r)
     (λ number. not-refused v number)
     (λ a. refl)
   where
     not-refused : (v : Verdict) (number : ℕ) → eqb (placeOf v) (100 + number) ≡ false
     not-refused v number = ne-eqb (placeOf v) (100 + number) (λ e. omega (arith, place-lt v))
 answered-same v q (askDeparture clock) =
-    at-one-reply (λ p. false ≡ isVerdict v (p .answer)) (stateOf (q .words)) (cCallOf q (askDeparture clock)) (λ number. refl) (λ a. refl)
+    at-one-reply (λ p. false ≡ isVerdict v (p .answer)) (stateOf (q .words)) (callTo q (askDeparture clock)) (λ number. refl) (λ a. refl)
 answered-same v q (askTick clock) =
-    at-one-reply (λ p. false ≡ isVerdict v (p .answer)) (stateOf (q .words)) (cCallOf q (askTick clock)) (λ number. refl) (λ a. refl)
+    at-one-reply (λ p. false ≡ isVerdict v (p .answer)) (stateOf (q .words)) (callTo q (askTick clock)) (λ number. refl) (λ a. refl)
 
-times-same : (v : Verdict) (q : CQueue) (requests : List Request) →
+times-same : (v : Verdict) (q : Lent) (requests : List Request) →
     arrivalsAnswered (placeOf v) (logOf q requests) ≡ timesAnswered v (answersTo q requests)
 times-same v q [] = refl
-times-same v q (r ∷ requests) = rw (answered-same v q r, times-same v (queueLeft q r) requests)
+times-same v q (r ∷ requests) = rw (answered-same v q r, times-same v (leaves q r) requests)
 
 -- a claim about each number below 5, by the verdict that it is the place of
 each-place : (P : ℕ → Type 0) → ((v : Verdict) → P (placeOf v)) → (n : ℕ) → n < 5 → P n
@@ -59,7 +61,7 @@ each-place P p (suc (suc (suc (suc (suc n))))) h = absurd (omega arith)
 
 -- ── the words ──
 
-conserved : (q : CQueue) (requests : List Request) →
+conserved : (q : Lent) (requests : List Request) →
     Conserved (runOf (finalQueue q requests) (admittedIn (logOf q requests)) (handedOutIn (logOf q requests)) (answersTo q requests)) →
     CConserved (finalQueue q requests) (logOf q requests)
 unfolding stateOf

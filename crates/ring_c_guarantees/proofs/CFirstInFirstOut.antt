@@ -4,16 +4,18 @@ use mathlib.Core.List.{List, _++_}
 use Prim.Native.Nat.{ℕ}
 use native.Mathlib.Omega.{arith}
 use Rattle.laws.proofs.Choice.{either}
-use Rattle.ring.specs.Answer.{Reply, made}
+use Rattle.ring.specs.Answer.{Reply}
+use Rattle.refusals.specs.Answer.{made}
 use Rattle.ring.specs.Fresh.{fresh, settingsOf}
 use Rattle.ring.specs.Refusals.{settingsRefused}
-use Rattle.ring_words.specs.Codes.{codeOf}
+use Rattle.refusals.specs.Codes.{codeOf}
 use Rattle.ring_words.specs.Words.{stateOf}
 use Rattle.ring_guarantees.specs.FirstInFirstOut.{InOrder}
 use Rattle.ring_guarantees.specs.Handed.{Run, queued}
 use Rattle.ring_guarantees.proofs.FirstInFirstOut.{first-in-first-out}
 use Rattle.ring_c_guarantees.specs.CFirstInFirstOut.{CFirstInFirstOut, CInOrder}
-use Rattle.ring_c_guarantees.specs.CHanded.{CQueue, Logged, freshCode, queueOf, queuedIn}
+use Rattle.ring_words.specs.Lent.{Lent, queueOf}
+use Rattle.ring_c_guarantees.specs.CHanded.{Logged, freshCode, queuedIn}
 use Rattle.ring_c_guarantees.specs.RunsJoined.{SameRun}
 use Rattle.ring_c_guarantees.proofs.RunsJoined.{runs-joined}
 
@@ -25,11 +27,11 @@ fresh-made target buffer slots profile clock =
     (λ e. absurd (omega arith))
     (λ e. refl)
 
-pub queued-held : (q : CQueue) → queuedIn q ≡ queued (queueOf q)
+pub queued-held : (q : Lent) → queuedIn q ≡ queued (queueOf q)
 unfolding stateOf
 queued-held q = refl
 
-in-order : (q : CQueue) (log : List Logged) (r : Run) → SameRun q log r → InOrder r → CInOrder q log
+in-order : (q : Lent) (log : List Logged) (r : Run) → SameRun q log r → InOrder r → CInOrder q log
 in-order q log r same ordered =
     same .admitted ∙ ordered ∙ sym (ap₂ _++_ (same .departed) (queued-held q ∙ ap queued (same .queue)))
 

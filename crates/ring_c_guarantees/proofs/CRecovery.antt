@@ -7,9 +7,10 @@ use native.Mathlib.Omega.{arith}
 use Rattle.ring.specs.Activity.{begun}
 use Rattle.ring.specs.Arrival.{verdictOf}
 use Rattle.ring.specs.declared.State.{State}
-use Rattle.ring_words.specs.Codes.{codeOf}
+use Rattle.refusals.specs.Codes.{codeOf}
 use Rattle.ring_words.specs.Words.{stateOf}
-use Rattle.ring_guarantees.specs.Calls.{Call, Entry, arrive, depart, reply, update}
+use Rattle.ring.specs.Calls.{Call, arrive, depart, reply, update}
+use Rattle.ring_guarantees.specs.Calls.{Entry}
 use Rattle.ring_guarantees.specs.Recovery.{RecoversAfter, RecoveredAfter, Tally, noted, nothingYet, queuedBy, tally}
 use Rattle.ring_guarantees.proofs.Recovery.{recovery}
 use Rattle.ring_guarantees.proofs.Replies.{at-reply}

@@ -9,9 +9,9 @@ use Rattle.ring.specs.Departure.{departedState}
 use Rattle.ring.specs.Tick.{tickedState}
 use Rattle.ring_words.specs.Codes.{wordsAfter}
 use Rattle.ring_words.specs.Words.{stateOf}
-use Rattle.ring_guarantees.specs.Calls.{Call, reply}
+use Rattle.ring.specs.Calls.{Call, reply}
 use Rattle.ring_guarantees.proofs.Replies.{at-reply}
-use Rattle.ring_c_guarantees.specs.CCalls.{wordsLeft}
+use Rattle.ring_words.specs.Lent.{wordsLeft}
 use Rattle.ring_c_guarantees.proofs.Decoding.{decoding}
 
 -- a refused call leaves the words that hold its state; any other call writes its state's words

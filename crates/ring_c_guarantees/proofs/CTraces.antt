@@ -9,15 +9,17 @@ use lib.Dec.{eqb, ltb}
 use Rattle.pie.specs.Verdicts.{placeOf}
 use Rattle.pie.specs.declared.Verdict.{Verdict}
 use Rattle.pie.specs.declared.Verdict.the-variants.{Enqueued, DroppedBytes, DroppedSlots}
-use Rattle.ring.specs.Answer.{ticked, verdict}
+use Rattle.refusals.specs.Answer.{ticked, verdict}
 use Rattle.ring.specs.Activity.{begun}
 use Rattle.ring.specs.Arrival.{verdictOf}
 use Rattle.ring.specs.declared.State.{State}
-use Rattle.ring_words.specs.Codes.{codeOf}
+use Rattle.refusals.specs.Codes.{codeOf}
 use Rattle.ring_words.specs.Words.{stateOf}
-use Rattle.ring_guarantees.specs.Calls.{ByLimitsBefore, Call, Entry, arrive, entry, limitsVerdict, reply, trace, update}
+use Rattle.ring_guarantees.specs.Calls.{ByLimitsBefore, Entry, entry, limitsVerdict, trace}
+use Rattle.ring.specs.Calls.{Call, arrive, reply, update}
 use Rattle.ring_guarantees.proofs.Replies.{at-one-reply}
-use Rattle.ring_c_guarantees.specs.CCalls.{CEntry, CodeByLimitsBefore, cEntry, cTrace, limitsCode, wordsLeft}
+use Rattle.ring_c_guarantees.specs.CCalls.{CEntry, CodeByLimitsBefore, cEntry, cTrace, limitsCode}
+use Rattle.ring_words.specs.Lent.{wordsLeft}
 use Rattle.ring_c_guarantees.specs.TracesJoined.{TraceLine, lineOfStates, lineOfWords}
 use Rattle.ring_c_guarantees.specs.Fields.{bufferIn, bytesIn, countIn, slotsIn}
 use Rattle.ring_c_guarantees.proofs.CReplies.{words-left}

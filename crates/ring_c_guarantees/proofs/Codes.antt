@@ -9,8 +9,8 @@ use Rattle.pie.specs.Verdicts.{admitted, placeOf}
 use Rattle.pie.specs.declared.Verdict.{Verdict}
 use Rattle.pie.specs.declared.Verdict.the-variants.{Enqueued, Marked, DroppedBytes, DroppedSlots, DroppedEarly}
 use Rattle.pie.proofs.Counts.{place-lt}
-use Rattle.ring.specs.Answer.{Answer, departed, made, refused, ticked, verdict}
-use Rattle.ring_words.specs.Codes.{codeOf}
+use Rattle.refusals.specs.Answer.{Answer, departed, made, refused, ticked, verdict}
+use Rattle.refusals.specs.Codes.{codeOf}
 
 -- a refusal's number is none below 100
 pub refused-not : (number code : ℕ) → code < 100 → eqb (100 + number) code ≡ false

@@ -4,8 +4,10 @@ use mathlib.Core.List.{List, [], _∷_, map}
 use Prim.Native.Nat.{ℕ}
 use Rattle.ring.specs.declared.State.{State}
 use Rattle.ring_words.specs.Words.{stateOf}
-use Rattle.ring_guarantees.specs.Calls.{Call, entry, reply, trace}
-use Rattle.ring_c_guarantees.specs.CCalls.{cEntry, cTrace, codeGiven, packetWritten, wordsLeft}
+use Rattle.ring.specs.Calls.{Call, reply}
+use Rattle.ring_guarantees.specs.Calls.{entry, trace}
+use Rattle.ring_c_guarantees.specs.CCalls.{cEntry, cTrace}
+use Rattle.ring_words.specs.Lent.{codeGiven, packetWritten, wordsLeft}
 use Rattle.ring_c_guarantees.specs.TracesJoined.{TraceLine, TracesJoined, lineOfStates, lineOfWords}
 use Rattle.ring_c_guarantees.proofs.CReplies.{words-left}
 

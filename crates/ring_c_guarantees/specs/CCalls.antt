@@ -5,28 +5,9 @@ use mathlib.Core.Bool.{Bool, cond}
 use mathlib.Core.List.{List, [], _∷_}
 use Prim.Native.Nat.{ℕ, _+_, _<_}
 use lib.Dec.{eqb, ltb}
-use Rattle.ring.specs.Answer.{Answer}
-use Rattle.ring_words.specs.Codes.{codeOf, packetOf, wordsAfter}
-use Rattle.ring_words.specs.Words.{stateOf}
-use Rattle.ring_guarantees.specs.Calls.{Call, arrive, depart, reply, update}
+use Rattle.ring.specs.Calls.{Call, arrive}
 use Rattle.ring_c_guarantees.specs.Fields.{bufferIn, bytesIn, countIn, slotsIn}
-
--- the number that the call answers
-abbrev pub codeGiven : (words : List ℕ) → Call → ℕ
-codeGiven w c = codeOf ((reply (stateOf w) c) .answer)
-
--- the words that it leaves
-abbrev pub wordsLeft : (words : List ℕ) → Call → List ℕ
-wordsLeft w c = wordsAfter (reply (stateOf w) c) w
-
--- the handle and the size that a departure with this answer writes to its packet; no other call is lent one
-abbrev pub packetFor : Call → Answer → List ℕ
-packetFor (arrive handles sizes clock handle size ecn u) a = []
-packetFor (depart handles sizes clock) a = packetOf a
-packetFor (update clock) a = []
-
-abbrev pub packetWritten : (words : List ℕ) → Call → List ℕ
-packetWritten w c = packetFor c ((reply (stateOf w) c) .answer)
+use Rattle.ring_words.specs.Lent.{codeGiven, wordsLeft, packetWritten}
 
 -- one call of a list, the words that it was given, the number that it answered, the packet that it wrote, and the words that it left
 pub record CEntry : Type 0 where

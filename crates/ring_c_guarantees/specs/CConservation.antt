@@ -8,8 +8,9 @@ use Prim.Native.Nat.{ℕ, _+_, _-_, _≤_, _<_}
 use lib.Dec.{eqb}
 use lib.ListN.{length}
 use Rattle.calls.specs.Packets.{bytesOf}
-use Rattle.ring_guarantees.specs.Handed.{Request, askArrival, askDeparture, askTick}
-use Rattle.ring_c_guarantees.specs.CHanded.{CQueue, Logged, codeFor, finalQueue, freshCode, freshQueue, logOf, queuedIn}
+use Rattle.calls.specs.Requests.{Request, askArrival, askDeparture, askTick}
+use Rattle.ring_words.specs.Lent.{Lent, codeTo}
+use Rattle.ring_c_guarantees.specs.CHanded.{Logged, finalQueue, freshCode, freshQueue, logOf, queuedIn}
 use Rattle.ring_c_guarantees.specs.CHanded.{admittedIn, handedOutIn}
 use Rattle.ring_c_guarantees.specs.Fields.{bytesIn, countIn, verdictsIn}
 
@@ -23,7 +24,7 @@ abbrev pub arrivalsAnswered : (code : ℕ) → List Logged → ℕ
 arrivalsAnswered code [] = 0
 arrivalsAnswered code (e ∷ es) = cond (isArrival (e .asked) && eqb code (e .code)) 1 0 + arrivalsAnswered code es
 
-pub record CConserved (q : CQueue) (log : List Logged) : Type 0 where
+pub record CConserved (q : Lent) (log : List Logged) : Type 0 where
   -- the word `bytes`: bytes of the packets admitted − bytes of those handed out, a true difference; and so the word `count`
   pub bytes : bytesIn (q .words) ≡ bytesOf (admittedIn log) - bytesOf (handedOutIn log)
   pub bytes-cover : bytesOf (handedOutIn log) ≤ bytesOf (admittedIn log)
@@ -34,10 +35,10 @@ pub record CConserved (q : CQueue) (log : List Logged) : Type 0 where
   -- verdicts[0] to verdicts[4]: the numbers of arrivals so answered
   pub verdicts : (code : ℕ) → code < 5 → verdictsIn (q .words) code ≡ arrivalsAnswered code log
   -- whatever call comes next, it is not answered 102 or 109
-  pub never-102 : (r : Request) → codeFor q r ≢ 102
-  pub never-109 : (r : Request) → codeFor q r ≢ 109
+  pub never-102 : (r : Request) → codeTo q r ≢ 102
+  pub never-109 : (r : Request) → codeTo q r ≢ 109
 
 abbrev pub CConservation : Type 0
 CConservation =
-    (given : CQueue) (target buffer slots profile clock : ℕ) (requests : List Request) → freshCode target buffer slots profile clock ≡ 0 →
+    (given : Lent) (target buffer slots profile clock : ℕ) (requests : List Request) → freshCode target buffer slots profile clock ≡ 0 →
     let start = freshQueue given target buffer slots profile clock in CConserved (finalQueue start requests) (logOf start requests)

@@ -4,13 +4,14 @@
 use mathlib.Core.Path.{_≡_}
 use mathlib.Core.List.{List, _++_}
 use Prim.Native.Nat.{ℕ}
-use Rattle.ring_guarantees.specs.Handed.{Request}
-use Rattle.ring_c_guarantees.specs.CHanded.{CQueue, Logged, admittedIn, finalQueue, freshCode, freshQueue, handedOutIn, logOf, queuedIn}
+use Rattle.calls.specs.Requests.{Request}
+use Rattle.ring_words.specs.Lent.{Lent}
+use Rattle.ring_c_guarantees.specs.CHanded.{Logged, admittedIn, finalQueue, freshCode, freshQueue, handedOutIn, logOf, queuedIn}
 
-abbrev pub CInOrder : CQueue → List Logged → Type 0
+abbrev pub CInOrder : Lent → List Logged → Type 0
 CInOrder q log = admittedIn log ≡ handedOutIn log ++ queuedIn q
 
 abbrev pub CFirstInFirstOut : Type 0
 CFirstInFirstOut =
-    (given : CQueue) (target buffer slots profile clock : ℕ) (requests : List Request) → freshCode target buffer slots profile clock ≡ 0 →
+    (given : Lent) (target buffer slots profile clock : ℕ) (requests : List Request) → freshCode target buffer slots profile clock ≡ 0 →
     let start = freshQueue given target buffer slots profile clock in CInOrder (finalQueue start requests) (logOf start requests)

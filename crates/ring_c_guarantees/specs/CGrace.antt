@@ -5,7 +5,7 @@ use mathlib.Core.Path.{_≡_}
 use mathlib.Core.List.{List, _∷_, _++_, List·Memᴰ}
 use Prim.Native.Nat.{ℕ, _+_}
 use Rattle.pie.specs.Constants.{fullAllowance}
-use Rattle.ring_guarantees.specs.Calls.{Call, update}
+use Rattle.ring.specs.Calls.{Call, update}
 use Rattle.ring_c_guarantees.specs.CCalls.{CEntry, CodeByLimitsBefore, cTrace}
 use Rattle.ring_c_guarantees.specs.Fields.{allowanceIn}
 

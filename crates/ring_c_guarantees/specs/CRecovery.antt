@@ -9,7 +9,7 @@ use Rattle.units.specs.Kinds.{none}
 use Rattle.pie.specs.Constants.{fullAllowance}
 use Rattle.ring.specs.State.{wellFormed}
 use Rattle.ring_words.specs.Words.{stateOf}
-use Rattle.ring_guarantees.specs.Calls.{Call, arrive, depart, update}
+use Rattle.ring.specs.Calls.{Call, arrive, depart, update}
 use Rattle.ring_guarantees.specs.Recovery.{Tally, nothingYet, queuedBy}
 use Rattle.ring_c_guarantees.specs.CCalls.{CEntry, CodeByLimitsBefore, cTrace}
 use Rattle.ring_c_guarantees.specs.Fields.{countIn, probabilityIn}

@@ -4,11 +4,13 @@ use mathlib.Core.Path.{_≡_}
 use mathlib.Core.List.{List, map}
 use Prim.Native.Nat.{ℕ}
 use Rattle.ring.specs.Fresh.{settingsOf}
-use Rattle.ring_words.specs.Codes.{codeOf}
-use Rattle.ring_guarantees.specs.Handed.{Request, Run, run}
-use Rattle.ring_c_guarantees.specs.CHanded.{CQueue, Logged, admittedIn, finalQueue, freshQueue, handedOutIn, logOf, queueOf}
+use Rattle.refusals.specs.Codes.{codeOf}
+use Rattle.calls.specs.Requests.{Request}
+use Rattle.ring_guarantees.specs.Handed.{Run, run}
+use Rattle.ring_words.specs.Lent.{Lent, queueOf}
+use Rattle.ring_c_guarantees.specs.CHanded.{Logged, admittedIn, finalQueue, freshQueue, handedOutIn, logOf}
 
-pub record SameRun (q : CQueue) (log : List Logged) (r : Run) : Type 0 where
+pub record SameRun (q : Lent) (log : List Logged) (r : Run) : Type 0 where
   -- the state that the words hold, and the tables
   pub queue : queueOf q ≡ r .queue
   pub codes : map (λ e. e .code) log ≡ map codeOf (r .answers)
@@ -18,7 +20,7 @@ pub record SameRun (q : CQueue) (log : List Logged) (r : Run) : Type 0 where
 
 abbrev pub RunsJoined : Type 0
 RunsJoined =
-    (given : CQueue) (target buffer slots profile clock : ℕ) (requests : List Request) →
+    (given : Lent) (target buffer slots profile clock : ℕ) (requests : List Request) →
     let start = freshQueue given target buffer slots profile clock in
     SameRun (finalQueue start requests) (logOf start requests)
     (run (settingsOf target buffer slots profile) clock (given .handles) (given .sizes) requests)

@@ -4,10 +4,12 @@ use mathlib.Core.Path.{_≡_}
 use mathlib.Core.List.{List, map}
 use Prim.Native.Nat.{ℕ}
 use Rattle.ring.specs.declared.State.{State}
-use Rattle.ring_words.specs.Codes.{codeOf}
+use Rattle.refusals.specs.Codes.{codeOf}
 use Rattle.ring_words.specs.Words.{stateOf}
-use Rattle.ring_guarantees.specs.Calls.{Call, Entry, trace}
-use Rattle.ring_c_guarantees.specs.CCalls.{CEntry, cTrace, packetFor}
+use Rattle.ring.specs.Calls.{Call}
+use Rattle.ring_guarantees.specs.Calls.{Entry, trace}
+use Rattle.ring_c_guarantees.specs.CCalls.{CEntry, cTrace}
+use Rattle.ring_words.specs.Lent.{packetFor}
 
 -- a call, the state that it was given, the number that it answered, the packet that it wrote, and the state that it returned
 pub record TraceLine : Type 0 where

@@ -7,7 +7,8 @@ use Rattle.pie_guarantees.specs.AllowanceLasts as general
 use Rattle.pie_guarantees.specs.Shedding.{limited}
 use Rattle.pie_guarantees.proofs.AllowanceLasts as proved
 use Rattle.ring_guarantees.specs.AllowanceLasts.{AllowanceLasts, lastsUntil}
-use Rattle.ring_guarantees.specs.Calls.{ByLimitsBefore, Call, Entry}
+use Rattle.ring_guarantees.specs.Calls.{ByLimitsBefore, Entry}
+use Rattle.ring.specs.Calls.{Call}
 use Rattle.ring_guarantees.proofs.RingSheds.{clockIn, ring-sheds, ringShedding, tells}
 
 -- an arrival's own numbers, in place of what is read of a call

@@ -13,11 +13,11 @@ use Rattle.pie.specs.declared.Verdict.{Verdict}
 use Rattle.pie.proofs.Counts.{length-raised, place-lt}
 use Rattle.ring.specs.declared.State.{State}
 use Rattle.ring.specs.Activity.{begun}
-use Rattle.ring.specs.Answer.{Answer, departed, made, refused, ticked, verdict}
+use Rattle.refusals.specs.Answer.{Answer, departed, made, refused, ticked, verdict}
 use Rattle.ring.specs.Arrival.{arrivedState}
 use Rattle.ring.specs.Departure.{departedState}
 use Rattle.ring.specs.Tick.{tickedState}
-use Rattle.ring_guarantees.specs.Calls.{Call, reply}
+use Rattle.ring.specs.Calls.{Call, reply}
 use Rattle.ring_guarantees.specs.Conservation.{isVerdict}
 use Rattle.ring_guarantees.proofs.Replies.{at-reply}
 

@@ -6,12 +6,13 @@ use native.Mathlib.Omega.{arith}
 use Rattle.pie.specs.Constants.{period}
 use Rattle.calls.proofs.Traces.{Cut, cut}
 use Rattle.pie_guarantees.proofs.AllowanceLasts as proved
-use Rattle.ring.specs.Answer.{ticked}
+use Rattle.refusals.specs.Answer.{ticked}
 use Rattle.ring.specs.Fresh.{fresh, freshState}
 use Rattle.ring.specs.declared.State.{State}
 use Rattle.ring.proofs.Kept.{made-accepted}
 use Rattle.ring_guarantees.specs.AllowanceLasts.{periods}
-use Rattle.ring_guarantees.specs.Calls.{ByLimitsBefore, Entry, ringCalls, update}
+use Rattle.ring_guarantees.specs.Calls.{ByLimitsBefore, Entry, ringCalls}
+use Rattle.ring.specs.Calls.{update}
 use Rattle.ring_guarantees.specs.Grace.{Grace}
 use Rattle.ring_guarantees.specs.FreshGrace.{FreshGrace}
 use Rattle.ring_guarantees.proofs.AllowanceLasts.{allowance-lasts, by-limits}

@@ -8,7 +8,8 @@ use lib.ListN.{length}
 use Rattle.pie.specs.Verdicts.{admitted}
 use Rattle.pie.specs.declared.Verdict.{Verdict}
 use Rattle.ring.specs.Activity.{begun}
-use Rattle.ring.specs.Answer.{Reply, verdict}
+use Rattle.ring.specs.Answer.{Reply}
+use Rattle.refusals.specs.Answer.{verdict}
 use Rattle.ring.specs.Arrival.{arrivedState, stored, verdictOf}
 use Rattle.ring.specs.Departure.{departedState, headOf}
 use Rattle.ring.specs.Tick.{tickedState}
@@ -17,8 +18,10 @@ use Rattle.ring.proofs.WhenAccepted.{ArrivalAccepted, DepartureAccepted}
 use Rattle.calls.specs.Packets.{Packet, Sized, bytesOf}
 use Rattle.calls.specs.Ring.{slot}
 use Rattle.calls.proofs.Ring.{enters, leaves}
-use Rattle.ring_guarantees.specs.Handed.{Queue, Request, admittedBy, after, answerOf, callOf, departedBy, queued, returned}
-use Rattle.ring_guarantees.specs.Handed.{askArrival, askDeparture, askTick}
+use Rattle.ring.specs.Calls.{Queue, after, answerOf, callOf, returned}
+use Rattle.ring_guarantees.specs.Handed.{queued}
+use Rattle.calls.specs.Requests.{Request, admittedBy, departedBy}
+use Rattle.calls.specs.Requests.{askArrival, askDeparture, askTick}
 use Rattle.ring_guarantees.proofs.Replies.{Accepted, acceptance, at-one-reply, refusalOf}
 
 -- the packets that enter come after those queued, and those that leave come before those that stay; the bytes move alike

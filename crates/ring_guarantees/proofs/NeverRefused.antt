@@ -7,7 +7,7 @@ use Prim.Native.Nat.{ℕ, _+_, _-_, _%_, _<_}
 use native.Mathlib.Omega.{arith}
 use lib.ListN.{length}
 use Rattle.ring.specs.declared.State.{State}
-use Rattle.ring.specs.Answer.{refused}
+use Rattle.refusals.specs.Answer.{refused}
 use Rattle.ring.specs.Departure.{headOf}
 use Rattle.refusals.specs.Tests.{headRefused}
 use Rattle.refusals.proofs.Fitting.{fitting-head}
@@ -15,12 +15,14 @@ use Rattle.refusals.proofs.Ordered.{afterFirst, firstTest, past-first, test-fai
 use Rattle.ring.specs.Refusals.{emptyRefused}
 use Rattle.ring.specs.State.{wellFormed}
 use Rattle.ring.proofs.Facts.{facts}
-use Rattle.ring_guarantees.specs.Calls.{Call, arrive, depart, update, reply}
+use Rattle.ring.specs.Calls.{Call, arrive, depart, update, reply}
 use Rattle.calls.specs.Packets.{Packet, Sized, bytesOf}
 use Rattle.calls.specs.Ring.{ring, slot}
 use Rattle.calls.proofs.Packets.{sized-bytes}
 use Rattle.calls.proofs.Ring.{leaves, length-listed}
-use Rattle.ring_guarantees.specs.Handed.{Queue, Request, askArrival, askDeparture, askTick, queued}
+use Rattle.ring.specs.Calls.{Queue}
+use Rattle.ring_guarantees.specs.Handed.{queued}
+use Rattle.calls.specs.Requests.{Request, askArrival, askDeparture, askTick}
 use Rattle.ring_guarantees.specs.Refusals.{Applies, rowsOf}
 use Rattle.ring_guarantees.proofs.Refusals.{calls-refused}
 

@@ -18,7 +18,7 @@ use Rattle.ring.specs.Tick.{tickedState}
 use Rattle.ring.specs.declared.State.{State}
 use Rattle.ring.proofs.Facts.{facts}
 use Rattle.ring_guarantees.specs.BeforeProfiles as before
-use Rattle.ring_guarantees.specs.Calls.{Call, arrive, depart, reply, update}
+use Rattle.ring.specs.Calls.{Call, arrive, depart, reply, update}
 use Rattle.ring_guarantees.specs.PlainAsBefore.{PlainAsBefore, PlainFreshAsBefore, beforeProfiles, givenWith, now, plain, plainEntry}
 use Rattle.ring_guarantees.specs.PlainAsBefore.{plainSettings, without}
 use Rattle.ring_guarantees.specs.Refusals.{rowsOf}

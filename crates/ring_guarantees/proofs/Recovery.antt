@@ -9,7 +9,7 @@ use Rattle.pie_guarantees.specs.Recovery as general
 use Rattle.pie_guarantees.specs.TicksToRecover.{mostLeft, rowBefore}
 use Rattle.pie_guarantees.proofs.Bound.{bound}
 use Rattle.pie_guarantees.proofs.Recovery as proved
-use Rattle.ring.specs.Answer.{Answer, departed, made, refused, ticked, verdict}
+use Rattle.refusals.specs.Answer.{Answer, departed, made, refused, ticked, verdict}
 use Rattle.ring.specs.State.{wellFormed}
 use Rattle.ring.specs.declared.State.{State}
 use Rattle.ring.proofs.Facts.{facts}

@@ -6,12 +6,13 @@ use Rattle.ring.specs.declared.Settings.{Settings}
 use Rattle.ring.specs.declared.State.{State}
 use Rattle.ring.specs.State.{wellFormed}
 use Rattle.ring.specs.Fresh.{fresh}
-use Rattle.ring.specs.Answer.{refused}
+use Rattle.refusals.specs.Answer.{refused}
 use Rattle.refusals.specs.Rows.{Ascending, firstRefusal}
 use Rattle.refusals.proofs.Ordered.{lowest-given}
 use Rattle.ring.proofs.Kept.{fresh-well-formed}
-use Rattle.ring_guarantees.specs.Calls.{Call, arrive, depart, update}
-use Rattle.ring_guarantees.specs.Handed.{Queue, Request, after, answerOf, askArrival, askDeparture, askTick, callOf, returned}
+use Rattle.ring.specs.Calls.{Call, arrive, depart, update}
+use Rattle.ring.specs.Calls.{Queue, after, answerOf, callOf, returned}
+use Rattle.calls.specs.Requests.{Request, askArrival, askDeparture, askTick}
 use Rattle.ring_guarantees.specs.Refusals.{Applies, FreshInOrder, RefusedInOrder, Refusals, rowsOf}
 use Rattle.ring_guarantees.proofs.Replies.{by-number, acceptance-not-refused, number-refuses, refusalOf, refused-by-number}
 

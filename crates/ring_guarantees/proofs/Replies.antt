@@ -9,7 +9,8 @@ use native.Mathlib.Omega.{arith}
 use lib.ListN.{length}
 use Rattle.pie.specs.declared.Verdict.{Verdict}
 use Rattle.ring.specs.Activity.{begun}
-use Rattle.ring.specs.Answer.{Reply, departed, refused, ticked, unlessRefused, verdict}
+use Rattle.ring.specs.Answer.{Reply, unlessRefused}
+use Rattle.refusals.specs.Answer.{departed, refused, ticked, verdict}
 use Rattle.ring.specs.Arrival.{arrival, arrivalRefusal, arrivedState, verdictOf}
 use Rattle.ring.specs.Departure.{departedState, departure, departureRefusal, headOf}
 use Rattle.refusals.specs.Rows.{firstRefusal}
@@ -18,7 +19,7 @@ use Rattle.ring.specs.Tick.{tick, tickRefusal, tickedState}
 use Rattle.ring.specs.declared.State.{State}
 use Rattle.ring.proofs.Kept.{arrived-well-formed, departed-well-formed, ticked-well-formed}
 use Rattle.ring.proofs.WhenAccepted.{ArrivalAccepted, DepartureAccepted, TickAccepted, arrival-accepted, departure-accepted, tick-accepted}
-use Rattle.ring_guarantees.specs.Calls.{Call, arrive, depart, reply, update}
+use Rattle.ring.specs.Calls.{Call, arrive, depart, reply, update}
 use Rattle.ring_guarantees.specs.Refusals.{rowsOf}
 
 abbrev pub refusalOf : State → (number : ℕ) → Reply

@@ -13,13 +13,15 @@ use Rattle.pie.specs.Verdicts.{placeOf}
 use Rattle.pie.specs.declared.Verdict.{Verdict}
 use Rattle.pie.specs.declared.Verdict.the-variants.{Enqueued, Marked, DroppedBytes, DroppedSlots, DroppedEarly}
 use Rattle.ring.specs.declared.Settings.{Settings}
-use Rattle.ring.specs.Answer.{made, refused}
+use Rattle.refusals.specs.Answer.{made, refused}
 use Rattle.ring.specs.Fresh.{fresh}
 use Rattle.ring.specs.State.{wellFormed}
 use Rattle.ring.proofs.Kept.{fresh-well-formed, made-accepted}
-use Rattle.ring_guarantees.specs.Calls.{arrive, depart, reply, update}
+use Rattle.ring.specs.Calls.{arrive, depart, reply, update}
 use Rattle.ring_guarantees.specs.Conservation.{isVerdict}
-use Rattle.ring_guarantees.specs.Handed.{Queue, Request, after, answerOf, askArrival, askDeparture, askTick, begin, callOf, ringQueue}
+use Rattle.ring.specs.Calls.{Queue, after, answerOf, callOf}
+use Rattle.ring_guarantees.specs.Handed.{begin, ringQueue}
+use Rattle.calls.specs.Requests.{Request, askArrival, askDeparture, askTick}
 use Rattle.ring_guarantees.proofs.Answers.{reply-counted, reply-five}
 use Rattle.ring_guarantees.proofs.Moves.{moved}
 use Rattle.ring_guarantees.proofs.NeverRefused.{at-request, head-leaves, not-given, not-given-first, not-given-past-6}

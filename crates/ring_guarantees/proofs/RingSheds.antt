@@ -14,7 +14,7 @@ use Rattle.laws.proofs.Tests.{and-right}
 use Rattle.pie_guarantees.specs.Shedding as general
 use Rattle.pie_guarantees.specs.Shedding.{Activated, Begun, Does, InRange, Shedding, Sheds, Told}
 use Rattle.ring.specs.Activity.{aboveThird, begun, isCalm}
-use Rattle.ring.specs.Answer.{Answer, departed, made, refused, ticked, verdict}
+use Rattle.refusals.specs.Answer.{Answer, departed, made, refused, ticked, verdict}
 use Rattle.ring.specs.Arrival as queue
 use Rattle.ring.specs.Arrival.{arrivedPie, arrivedState, verdictOf}
 use Rattle.ring.specs.Departure.{departedState}
@@ -22,7 +22,8 @@ use Rattle.ring.specs.State.{wellFormed}
 use Rattle.ring.specs.Tick.{tickedState}
 use Rattle.ring.specs.declared.State.{State}
 use Rattle.ring.proofs.Facts.{facts}
-use Rattle.ring_guarantees.specs.Calls.{Call, arrive, depart, reply, ringCalls, update}
+use Rattle.ring.specs.Calls.{Call, arrive, depart, reply, update}
+use Rattle.ring_guarantees.specs.Calls.{ringCalls}
 use Rattle.ring_guarantees.proofs.Replies.{at-reply, reply-well-formed}
 
 -- ── what is read ──

@@ -6,7 +6,7 @@ use Rattle.pie.specs.declared.Verdict.{Verdict}
 use Rattle.pie.specs.declared.Verdict.the-variants.{Enqueued, Marked, DroppedBytes, DroppedSlots, DroppedEarly}
 use Rattle.pie_guarantees.specs.Spacing as general
 use Rattle.pie_guarantees.proofs.Spacing as proved
-use Rattle.ring.specs.Answer.{Answer, departed, made, refused, ticked, verdict}
+use Rattle.refusals.specs.Answer.{Answer, departed, made, refused, ticked, verdict}
 use Rattle.ring.specs.declared.State.{State}
 use Rattle.ring_guarantees.specs.Calls.{Entry}
 use Rattle.ring_guarantees.specs.Spacing.{added, addedAt, addedBy, isEarlyAnswer}

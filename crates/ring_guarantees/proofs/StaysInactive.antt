@@ -11,7 +11,8 @@ use Rattle.ring.specs.Departure.{departedState}
 use Rattle.ring.specs.Tick.{tickedState}
 use Rattle.ring.specs.declared.State.{State}
 use Rattle.ring.proofs.Activation.{verdict-begun}
-use Rattle.ring_guarantees.specs.Calls.{ByLimits, Call, entry, limitsVerdict, reply}
+use Rattle.ring_guarantees.specs.Calls.{ByLimits, entry, limitsVerdict}
+use Rattle.ring.specs.Calls.{Call, reply}
 use Rattle.ring_guarantees.specs.StaysInactive.{AtMostAThird, StaysInactive}
 use Rattle.ring_guarantees.proofs.Replies.{at-reply, decided-verdict}
 

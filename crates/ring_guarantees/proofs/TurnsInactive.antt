@@ -12,7 +12,7 @@ use Rattle.pie_guarantees.specs.Recovery as general
 use Rattle.pie_guarantees.proofs.Fading.{no-delay}
 use Rattle.pie_guarantees.proofs.Recovery as proved
 use Rattle.pie_guarantees.proofs.Tallies.{Tallied, at-start, counted-empty, next-tallied}
-use Rattle.ring.specs.Answer.{ticked}
+use Rattle.refusals.specs.Answer.{ticked}
 use Rattle.ring.specs.Arrival.{arrivedState}
 use Rattle.ring.specs.Activity.{begun, turnsInactive}
 use Rattle.ring.specs.Departure.{departedState}
@@ -21,7 +21,8 @@ use Rattle.ring.specs.Tick.{tickedPie, tickedState}
 use Rattle.ring.specs.declared.Settings.{Settings}
 use Rattle.ring.specs.declared.State.{State}
 use Rattle.ring.proofs.Facts.{Facts, facts}
-use Rattle.ring_guarantees.specs.Calls.{Call, Entry, reply, ringCalls, update}
+use Rattle.ring.specs.Calls.{Call, reply, update}
+use Rattle.ring_guarantees.specs.Calls.{Entry, ringCalls}
 use Rattle.ring_guarantees.specs.Recovery.{RecoversAfter}
 use Rattle.ring_guarantees.specs.TurnsInactive.{InactiveAfter, TurnsInactive}
 use Rattle.ring_guarantees.proofs.Recovery.{recovery, tally-same}

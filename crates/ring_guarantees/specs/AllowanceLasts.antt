@@ -5,7 +5,8 @@ use mathlib.Core.List.{List, List·Memᴰ}
 use Prim.Native.Nat.{ℕ, _+_, _-_, _*_, _/_}
 use Rattle.pie.specs.Constants.{period}
 use Rattle.ring.specs.declared.State.{State}
-use Rattle.ring_guarantees.specs.Calls.{ByLimitsBefore, Call, Entry, trace}
+use Rattle.ring_guarantees.specs.Calls.{ByLimitsBefore, Entry, trace}
+use Rattle.ring.specs.Calls.{Call}
 
 -- ⌈allowance / 15,000⌉
 abbrev pub periods : (allowance : ℕ) → ℕ

@@ -22,9 +22,9 @@ use Rattle.pie.specs.declared.Verdict.{Verdict}
 use Rattle.pie.specs.declared.Verdict.the-variants.{DroppedBytes, DroppedSlots}
 use Rattle.refusals.specs.Rows.{firstRefusal}
 use Rattle.refusals.specs.Tests.{headRefused, sizeRefused}
-use Rattle.ring.specs.Answer.{Answer, departed, refused, ticked, verdict}
+use Rattle.refusals.specs.Answer.{Answer, departed, refused, ticked, verdict}
 use Rattle.ring.specs.Departure.{departedPie}
-use Rattle.ring_guarantees.specs.Calls.{Call, arrive, depart, update}
+use Rattle.ring.specs.Calls.{Call, arrive, depart, update}
 
 -- ── the state record ──
 

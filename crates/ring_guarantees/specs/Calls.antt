@@ -8,21 +8,9 @@ use Rattle.pie.specs.declared.Verdict.the-variants.{Enqueued, DroppedBytes, Dro
 use Rattle.calls.specs.Kind.{Kind}
 use Rattle.calls.specs.Traces as general
 use Rattle.ring.specs.declared.State.{State}
-use Rattle.ring.specs.Answer.{Answer, Reply, verdict}
-use Rattle.ring.specs.Arrival.{arrival, bytesFull, slotsFull}
-use Rattle.ring.specs.Departure.{departure}
-use Rattle.ring.specs.Tick.{tick}
-
--- a call with its arguments, and the contents of the tables that are lent to it
-pub data Call : Type 0 where
-  arrive : (handles sizes : List ℕ) (clock handle size : ℕ) (ecn : Bool) (u : ℕ) → Call
-  depart : (handles sizes : List ℕ) (clock : ℕ) → Call
-  update : (clock : ℕ) → Call
-
-abbrev pub reply : State → Call → Reply
-reply s (arrive handles sizes clock handle size ecn u) = arrival s handles sizes clock size ecn u
-reply s (depart handles sizes clock) = departure s handles sizes clock
-reply s (update clock) = tick s clock
+use Rattle.refusals.specs.Answer.{Answer, verdict}
+use Rattle.ring.specs.Arrival.{bytesFull, slotsFull}
+use Rattle.ring.specs.Calls.{Call, arrive, reply}
 
 -- the ring queue's states and calls, as a kind (crate calls)
 abbrev pub ringCalls : Kind

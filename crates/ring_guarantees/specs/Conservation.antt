@@ -12,9 +12,11 @@ use Rattle.calls.specs.Packets.{bytesOf}
 use Rattle.pie.specs.Verdicts.{placeOf}
 use Rattle.pie.specs.declared.Verdict.{Verdict}
 use Rattle.ring.specs.declared.Settings.{Settings}
-use Rattle.ring.specs.Answer.{Answer, departed, made, refused, ticked, verdict}
+use Rattle.refusals.specs.Answer.{Answer, departed, made, refused, ticked, verdict}
 use Rattle.ring.specs.Fresh.{fresh}
-use Rattle.ring_guarantees.specs.Handed.{Request, Run, answerOf, queued, run}
+use Rattle.calls.specs.Requests.{Request}
+use Rattle.ring_guarantees.specs.Handed.{Run, queued, run}
+use Rattle.ring.specs.Calls.{answerOf}
 
 abbrev pub isVerdict : Verdict → Answer → Bool
 isVerdict v (refused number) = false

@@ -6,7 +6,8 @@ use mathlib.Core.List.{List, [], _∷_, _++_}
 use Prim.Native.Nat.{_*_, _≤_}
 use Rattle.units.specs.Kinds.{whole}
 use Rattle.ring.specs.declared.State.{State}
-use Rattle.ring_guarantees.specs.Calls.{Call, Entry, trace}
+use Rattle.ring.specs.Calls.{Call}
+use Rattle.ring_guarantees.specs.Calls.{Entry, trace}
 use Rattle.ring_guarantees.specs.Spacing.{isEarlyAnswer, added}
 
 abbrev pub EarlyAtLeastApart : Type 0

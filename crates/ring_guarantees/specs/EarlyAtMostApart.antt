@@ -7,7 +7,8 @@ use Prim.Native.Nat.{_<_}
 use Rattle.pie.specs.Constants.{mostAccumulated}
 use Rattle.ring.specs.declared.State.{State}
 use Rattle.ring.specs.State.{wellFormed}
-use Rattle.ring_guarantees.specs.Calls.{Call, Entry, trace}
+use Rattle.ring.specs.Calls.{Call}
+use Rattle.ring_guarantees.specs.Calls.{Entry, trace}
 use Rattle.ring_guarantees.specs.Spacing.{isEarlyAnswer, added}
 
 -- an inactive queue turns active: what it has accumulated is 0 then (Q-12)

@@ -4,9 +4,10 @@ use mathlib.Core.Path.{_≡_}
 use mathlib.Core.List.{List, _++_}
 use Prim.Native.Nat.{ℕ}
 use Rattle.ring.specs.declared.Settings.{Settings}
-use Rattle.ring.specs.Answer.{made}
+use Rattle.refusals.specs.Answer.{made}
 use Rattle.ring.specs.Fresh.{fresh}
-use Rattle.ring_guarantees.specs.Handed.{Request, Run, queued, run}
+use Rattle.calls.specs.Requests.{Request}
+use Rattle.ring_guarantees.specs.Handed.{Run, queued, run}
 
 abbrev pub InOrder : Run → Type 0
 InOrder r = r .admitted ≡ r .departed ++ queued (r .queue)

@@ -6,9 +6,10 @@ use mathlib.Core.List.{List, List·Memᴰ}
 use Prim.Native.Nat.{ℕ, _+_}
 use Rattle.pie.specs.Constants.{fullAllowance}
 use Rattle.ring.specs.declared.Settings.{Settings}
-use Rattle.ring.specs.Answer.{made}
+use Rattle.refusals.specs.Answer.{made}
 use Rattle.ring.specs.Fresh.{fresh}
-use Rattle.ring_guarantees.specs.Calls.{ByLimitsBefore, Call, Entry, trace}
+use Rattle.ring_guarantees.specs.Calls.{ByLimitsBefore, Entry, trace}
+use Rattle.ring.specs.Calls.{Call}
 
 abbrev pub FreshGrace : Type 0
 FreshGrace =

@@ -5,8 +5,9 @@ use mathlib.Core.List.{List, _∷_, _++_, List·Memᴰ}
 use Prim.Native.Nat.{ℕ, _+_}
 use Rattle.pie.specs.Constants.{fullAllowance}
 use Rattle.ring.specs.declared.State.{State}
-use Rattle.ring.specs.Answer.{ticked}
-use Rattle.ring_guarantees.specs.Calls.{ByLimitsBefore, Call, Entry, trace, update}
+use Rattle.refusals.specs.Answer.{ticked}
+use Rattle.ring_guarantees.specs.Calls.{ByLimitsBefore, Entry, trace}
+use Rattle.ring.specs.Calls.{Call, update}
 
 -- from any state and over any list of calls: after an accepted tick that fills the allowance, at the clock t, each accepted arrival with a
 -- clock below t + 150,000 is answered by rules 1 and 2 alone

@@ -6,7 +6,8 @@ use mathlib.Core.List.{List, List·Memᴰ}
 use Prim.Native.Nat.{_<_}
 use Rattle.ring.specs.declared.State.{State}
 use Rattle.ring.specs.State.{wellFormed}
-use Rattle.ring_guarantees.specs.Calls.{Call, Entry, trace}
+use Rattle.ring.specs.Calls.{Call}
+use Rattle.ring_guarantees.specs.Calls.{Entry, trace}
 
 abbrev pub QueuedIfMeasuring : State → Type 0
 QueuedIfMeasuring s = s .pie .rate .measuring ≡ true → 0 < s .backlog .count

@@ -7,9 +7,10 @@ use Prim.Native.Nat.{ℕ, _+_, _≤_, _<_}
 use Rattle.pie.specs.Constants.{threshold}
 use Rattle.ring.specs.declared.Settings.{Settings}
 use Rattle.ring.specs.declared.State.{State}
-use Rattle.ring.specs.Answer.{departed, made}
+use Rattle.refusals.specs.Answer.{departed, made}
 use Rattle.ring.specs.Fresh.{fresh}
-use Rattle.ring_guarantees.specs.Calls.{Call, Entry, trace}
+use Rattle.ring.specs.Calls.{Call}
+use Rattle.ring_guarantees.specs.Calls.{Entry, trace}
 
 -- while a measurement runs, counted bytes and queued bytes come to at least 16,384
 abbrev pub EnoughQueued : State → Type 0

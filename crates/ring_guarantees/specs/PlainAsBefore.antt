@@ -6,14 +6,14 @@ use mathlib.Core.List.{List, [], map}
 use Prim.Native.Nat.{ℕ}
 use Rattle.calls.specs.Kind.{Kind}
 use Rattle.calls.specs.Traces.{Entry, trace}
-use Rattle.ring.specs.Answer.{Answer, made, refused}
+use Rattle.refusals.specs.Answer.{Answer, made, refused}
 use Rattle.ring.specs.Arrival.{stored}
 use Rattle.ring.specs.Fresh.{fresh, zeroState}
 use Rattle.ring.specs.State.{wellFormed}
 use Rattle.ring.specs.declared.Settings.{Settings}
 use Rattle.ring.specs.declared.State.{State}
 use Rattle.ring_guarantees.specs.BeforeProfiles as before
-use Rattle.ring_guarantees.specs.Calls.{Call, arrive, depart, reply, update}
+use Rattle.ring.specs.Calls.{Call, arrive, depart, reply, update}
 
 -- what a call gives back besides the state: the answer, and the tables that were lent as the call leaves them (none to a tick)
 pub record Given : Type 0 where

@@ -10,8 +10,9 @@ use Rattle.pie.specs.Constants.{fullAllowance}
 use Rattle.pie.specs.Verdicts.{admitted}
 use Rattle.ring.specs.declared.State.{State}
 use Rattle.ring.specs.State.{wellFormed}
-use Rattle.ring.specs.Answer.{Answer, departed, made, refused, ticked, verdict}
-use Rattle.ring_guarantees.specs.Calls.{ByLimitsBefore, Call, Entry, trace, update}
+use Rattle.refusals.specs.Answer.{Answer, departed, made, refused, ticked, verdict}
+use Rattle.ring_guarantees.specs.Calls.{ByLimitsBefore, Entry, trace}
+use Rattle.ring.specs.Calls.{Call, update}
 
 -- what the answers so far come to
 pub record Tally : Type 0 where

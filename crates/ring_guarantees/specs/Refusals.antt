@@ -8,14 +8,15 @@ use lib.ListN.{length}
 use Rattle.ring.specs.declared.Settings.{Settings}
 use Rattle.ring.specs.declared.State.{State}
 use Rattle.ring.specs.State.{wellFormed}
-use Rattle.ring.specs.Answer.{made, refused}
+use Rattle.refusals.specs.Answer.{made, refused}
 use Rattle.ring.specs.Fresh.{fresh, zeroState}
 use Rattle.ring.specs.Refusals.{settingsRefused}
 use Rattle.ring.specs.Arrival.{arrivalRefusals}
 use Rattle.ring.specs.Departure.{departureRefusals, headOf}
 use Rattle.ring.specs.Tick.{tickRefusals}
-use Rattle.ring_guarantees.specs.Calls.{Call, arrive, depart, update, reply}
-use Rattle.ring_guarantees.specs.Handed.{Queue, Request, after, answerOf}
+use Rattle.ring.specs.Calls.{Call, arrive, depart, update, reply}
+use Rattle.ring.specs.Calls.{Queue, after, answerOf}
+use Rattle.calls.specs.Requests.{Request}
 
 -- the call's rows of the table of refusals: each number with its test
 abbrev pub rowsOf : State → Call → List (ℕ × Bool)

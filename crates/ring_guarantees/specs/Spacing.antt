@@ -8,7 +8,7 @@ use Rattle.pie.specs.Verdicts.{isEarly}
 use Rattle.pie.specs.declared.Verdict.{Verdict}
 use Rattle.pie.specs.declared.Verdict.the-variants.{Enqueued, Marked, DroppedBytes, DroppedSlots, DroppedEarly}
 use Rattle.ring.specs.declared.State.{State}
-use Rattle.ring.specs.Answer.{Answer, departed, made, refused, ticked, verdict}
+use Rattle.refusals.specs.Answer.{Answer, departed, made, refused, ticked, verdict}
 use Rattle.ring_guarantees.specs.Calls.{Entry}
 
 -- a mark or an early drop

@@ -5,7 +5,8 @@ use mathlib.Core.Bool.{false}
 use mathlib.Core.List.{List, List·Memᴰ}
 use Prim.Native.Nat.{_*_, _≤_}
 use Rattle.ring.specs.declared.State.{State}
-use Rattle.ring_guarantees.specs.Calls.{ByLimits, Call, Entry, trace}
+use Rattle.ring_guarantees.specs.Calls.{ByLimits, Entry, trace}
+use Rattle.ring.specs.Calls.{Call}
 
 -- three times the queued bytes are at most the buffer
 abbrev pub AtMostAThird : State → Type 0

@@ -4,10 +4,11 @@ use mathlib.Core.Path.{_≡_}
 use mathlib.Core.Bool.{true, false}
 use mathlib.Core.List.{List, [], _∷_, _++_}
 use Prim.Native.Nat.{ℕ, _≤_}
-use Rattle.ring.specs.Answer.{ticked}
+use Rattle.refusals.specs.Answer.{ticked}
 use Rattle.ring.specs.State.{wellFormed}
 use Rattle.ring.specs.declared.State.{State}
-use Rattle.ring_guarantees.specs.Calls.{Call, Entry, trace}
+use Rattle.ring.specs.Calls.{Call}
+use Rattle.ring_guarantees.specs.Calls.{Entry, trace}
 use Rattle.ring_guarantees.specs.Recovery.{tally}
 
 -- wherever the trace is cut; `tally` counts the ticks

@@ -10,8 +10,8 @@ use Rattle.pie.specs.Constants.{mostAccumulated, smallQueue}
 use Rattle.pie.specs.declared.Verdict.{Verdict}
 use Rattle.pie.specs.declared.Verdict.the-variants.{Enqueued, Marked, DroppedBytes, DroppedSlots, DroppedEarly}
 use Rattle.ring.specs.declared.State.{State}
-use Rattle.ring.specs.Answer.{verdict}
-use Rattle.ring_guarantees.specs.Calls.{arrive, reply}
+use Rattle.refusals.specs.Answer.{verdict}
+use Rattle.ring.specs.Calls.{arrive, reply}
 
 -- what each rule asks
 abbrev pub Rule1 : State → (size : ℕ) → Type 0

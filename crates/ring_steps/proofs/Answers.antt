@@ -7,13 +7,14 @@ use native.Mathlib.Omega.{arith}
 use lib.ListN.{length}
 use Rattle.pie.proofs.Counts.{place-lt}
 use Rattle.ring.specs.declared.State.{State}
-use Rattle.ring.specs.Answer.{Reply, sizeIn, unlessRefused}
+use Rattle.ring.specs.Answer.{Reply, unlessRefused}
+use Rattle.refusals.specs.Answer.{sizeIn}
 use Rattle.ring.specs.Activity.{begun}
 use Rattle.ring.specs.Arrival.{arrival, arrivalRefusal, arrivalRefusals, verdictOf}
 use Rattle.ring.specs.Departure.{departure, departureRefusal, departureRefusals, headOf}
 use Rattle.ring.specs.Tick.{tick, tickRefusal, tickRefusals}
 use Rattle.ring.proofs.WhenAccepted.{departure-accepted}
-use Rattle.ring_words.specs.Codes.{codeOf}
+use Rattle.refusals.specs.Codes.{codeOf}
 use Rattle.ring_guarantees.proofs.Replies.{arrivalOf, departureOf, tickOf}
 use Rattle.bursts.specs.Answers.{answerWord}
 use Rattle.bursts.proofs.Answers.{first-low}

@@ -10,17 +10,19 @@ use Rattle.pie.proofs.Counts.{length-raised, total-raised}
 use Rattle.ring.specs.declared.Settings.{Settings}
 use Rattle.ring.specs.declared.State.{State}
 use Rattle.ring.specs.Activity.{begun}
-use Rattle.ring.specs.Answer.{Answer, Reply, admits}
+use Rattle.refusals.specs.Answer.{Answer, admits}
+use Rattle.ring.specs.Answer.{Reply}
 use Rattle.ring.specs.Arrival.{arrivedState, stored, tailPlace, verdictOf}
 use Rattle.ring.specs.Departure.{departedState}
 use Rattle.ring.specs.Tick.{tickedState}
 use Rattle.ring_words.specs.Codes.{wordsAfter}
 use Rattle.ring_words.proofs.Words.{back, five-counts, words-long}
 use Rattle.ring_words.specs.Words.{stateOf, stateWords}
-use Rattle.ring_guarantees.specs.Calls.{Call, arrive, depart, reply, update}
-use Rattle.ring_guarantees.specs.Handed.{Request, after, askArrival, askDeparture, askTick, callOf}
+use Rattle.ring.specs.Calls.{Call, arrive, depart, reply, update}
+use Rattle.calls.specs.Requests.{Request, askArrival, askDeparture, askTick}
+use Rattle.ring.specs.Calls.{after, callOf}
 use Rattle.ring_guarantees.proofs.Replies.{acceptance, at-one-reply, reply-well-formed}
-use Rattle.ring_steps.specs.Lent.{Lent, leaves, queueOf, replyTo}
+use Rattle.ring_words.specs.Lent.{Lent, leaves, queueOf, replyTo}
 use Rattle.ring_steps.specs.Fitting.{Ready}
 
 abbrev Replied : (w : List ℕ) → Reply → Type 0

@@ -13,7 +13,8 @@ use Rattle.refusals.specs.Tests.{headRefused, sizeRefused}
 use Rattle.ring.specs.declared.State.{State}
 use Rattle.ring.specs.Activity.{begun}
 use Rattle.ring.specs.State.{wellFormed}
-use Rattle.ring.specs.Answer.{Reply, verdict}
+use Rattle.ring.specs.Answer.{Reply}
+use Rattle.refusals.specs.Answer.{verdict}
 use Rattle.ring.specs.Refusals.{clockRefused, emptyRefused, tooSoonRefused}
 use Rattle.ring.specs.Arrival.{arrival, arrivalRefusal, arrivedState, verdictOf}
 use Rattle.ring.specs.Departure.{departure, departureRefusal, headOf}

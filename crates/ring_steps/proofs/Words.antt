@@ -24,7 +24,7 @@ use Rattle.ring.specs.Tick.{tickedState}
 use Rattle.pie_words.specs.Flags.{isSet}
 use Rattle.ring_words.specs.Words.{restartedWords, stateOf, stateWords}
 use Rattle.pie_words.proofs.Flags.{flag-kept, flag-off}
-use Rattle.ring_words.proofs.Written.{listed, written-out}
+use Rattle.laws.proofs.Written.{listed, written-out}
 use Rattle.pie_words.specs.Words.{pieAt, rateAt, rateWords, updatedWords}
 use Rattle.ring_steps.specs.Words.{decidedWords}
 

@@ -7,7 +7,7 @@ use Rattle.pie.specs.Constants.{mostVerdicts}
 use Rattle.pie.specs.Verdicts.{total}
 use Rattle.ring.specs.State.{wellFormed}
 use Rattle.ring_words.specs.Words.{stateOf}
-use Rattle.ring_steps.specs.Lent.{Lent}
+use Rattle.ring_words.specs.Lent.{Lent}
 
 -- twenty-three words of a well-formed state, and tables that fit it
 abbrev pub Fitting : Lent → Type 0

@@ -29,13 +29,14 @@ ghost use Rattle.units.specs.Kinds.{whole};
 ghost use Rattle.pie.specs.Constants.{largest, mostAccumulated};
 ghost use Rattle.pie.specs.DropDecision.{drawn};
 ghost use Rattle.pie.specs.Verdicts.{placeOf};
-ghost use Rattle.ring.specs.Answer.{verdict};
+ghost use Rattle.refusals.specs.Answer.{verdict};
 ghost use Rattle.ring.specs.Arrival.{arrival, arrivedState, stored, verdictOf};
 ghost use Rattle.ring.specs.State.{wellFormed};
-ghost use Rattle.ring_words.specs.Codes.{codeOf, wordsAfter};
+ghost use Rattle.refusals.specs.Codes.{codeOf};
+ghost use Rattle.ring_words.specs.Codes.{wordsAfter};
 ghost use Rattle.pie_words.specs.Words.{pieAt};
 ghost use Rattle.ring_words.specs.Words.{restartedWords, stateOf, stateWords};
-ghost use Rattle.ring_steps.specs.Lent.{lent};
+ghost use Rattle.ring_words.specs.Lent.{lent};
 ghost use Rattle.ring_steps.specs.Fitting.{Ready};
 ghost use Rattle.ring_steps.specs.Words.{decidedWords, drawnWords};
 

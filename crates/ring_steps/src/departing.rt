@@ -22,7 +22,7 @@ ghost use Rattle.ring.specs.Departure.{departure};
 ghost use Rattle.ring_words.specs.Codes.{wordsAfter};
 ghost use Rattle.ring_words.specs.Words.{stateOf};
 ghost use Rattle.bursts.specs.Answers.{answerWord};
-ghost use Rattle.ring_steps.specs.Lent.{lent};
+ghost use Rattle.ring_words.specs.Lent.{lent};
 ghost use Rattle.ring_steps.specs.Fitting.{Fitting};
 
 // The head leaves.

@@ -21,7 +21,8 @@ ghost use lib.ListN.{length};
 ghost use Rattle.ring.specs.Activity.{isCalm};
 ghost use Rattle.ring.specs.State.{wellFormed};
 ghost use Rattle.ring.specs.Tick.{tick, tickedState};
-ghost use Rattle.ring_words.specs.Codes.{codeOf, wordsAfter};
+ghost use Rattle.refusals.specs.Codes.{codeOf};
+ghost use Rattle.ring_words.specs.Codes.{wordsAfter};
 ghost use Rattle.ring_words.specs.Words.{stateOf, stateWords};
 
 // The tick of a calm queue: an inactive one's clocks alone; an active one may turn inactive (Q-12).

@@ -3,7 +3,7 @@ use pie::Backlog;
 use pie::Pie;
 use pie::Rate;
 use refusals::Accepted;
-use ring::ArrivalAnswer;
+use refusals::ArrivalAnswer;
 use ring::Settings;
 use ring::State;
 use units::Bytes;

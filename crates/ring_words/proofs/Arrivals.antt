@@ -17,7 +17,7 @@ use Rattle.ring.specs.declared.State.{State}
 use Rattle.pie_words.specs.Flags.{isSet}
 use Rattle.ring_words.specs.Words.{arrivalWords, restartedWords, stateOf, stateWords}
 use Rattle.pie_words.proofs.Flags.{flag-kept, flag-off}
-use Rattle.ring_words.proofs.Written.{listed, written-out}
+use Rattle.laws.proofs.Written.{listed, written-out}
 
 or-no : (b : Bool) → (b || false) ≡ b
 or-no true = refl

@@ -6,13 +6,15 @@ use Rattle.pie.specs.declared.Verdict.{Verdict}
 use Rattle.pie.specs.Verdicts.{placeOf}
 use Rattle.refusals.specs.declared.Accepted.{Accepted}
 use Rattle.refusals.specs.declared.Accepted.the-variants.{Yes, No}
-use Rattle.ring.specs.declared.ArrivalAnswer.{ArrivalAnswer}
-use Rattle.ring.specs.declared.ArrivalAnswer.the-variants.{Decided, Refused}
+use Rattle.refusals.specs.declared.ArrivalAnswer.{ArrivalAnswer}
+use Rattle.refusals.specs.declared.ArrivalAnswer.the-variants.{Decided, Refused}
 use Rattle.refusals.specs.declared.Refusal.{Refusal}
 use Rattle.ring.specs.declared.State.{State}
-use Rattle.ring.specs.Answer.{Answer, Reply, acceptedAnswer, arrivalAnswer, departed, made, ticked}
+use Rattle.refusals.specs.Answer.{Answer, acceptedAnswer, arrivalAnswer, departed, made, ticked}
+use Rattle.ring.specs.Answer.{Reply}
 use Rattle.refusals.specs.Numbers.{numberOf}
-use Rattle.ring_words.specs.Codes.{codeOf, wordsAfter, wordsFor}
+use Rattle.refusals.specs.Codes.{codeOf}
+use Rattle.ring_words.specs.Codes.{wordsAfter, wordsFor}
 use Rattle.ring_words.specs.Words.{stateWords}
 
 abbrev Given : Reply → (code : ℕ) (before after : List ℕ) → Type 0

@@ -15,7 +15,7 @@ use Rattle.ring.specs.declared.State.{State}
 use Rattle.pie_words.specs.Flags.{flagWord, isSet}
 use Rattle.ring_words.specs.Words.{stateOf, stateWords}
 use Rattle.pie_words.proofs.Flags.{flag-kept}
-use Rattle.ring_words.proofs.Written.{listed, written-out}
+use Rattle.laws.proofs.Written.{listed, written-out}
 
 -- a rate that has counted bytes after a departure was counting before it: the others of its numbers stay
 rate-kept : (average : ℕ) (runs : Bool) (start counted clock size packets left : ℕ) →

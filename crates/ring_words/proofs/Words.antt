@@ -9,7 +9,7 @@ use Rattle.pie.specs.declared.Verdict.the-variants.{Enqueued, Marked, DroppedBy
 use Rattle.ring.specs.declared.State.{State}
 use Rattle.ring_words.specs.Words.{stateOf, stateWords}
 use Rattle.pie_words.proofs.Flags.{flag-says}
-use Rattle.ring_words.proofs.Written.{written-out}
+use Rattle.laws.proofs.Written.{written-out}
 
 -- the counts are five words in a row
 pub count-word : (w : List ℕ) (v : Verdict) → getD (stateOf w .verdicts) (placeOf v) 0 ≡ getD w (16 + placeOf v) 0

@@ -1,17 +1,9 @@
--- The number that a C caller gets for each answer, as include/obikuteru.h names them.
-use mathlib.Core.List.{List, [], _∷_}
-use Prim.Native.Nat.{ℕ, _+_}
-use Rattle.pie.specs.Verdicts.{placeOf}
-use Rattle.ring.specs.Answer.{Answer, Reply, departed, handleIn, made, refused, sizeIn, ticked, verdict}
+-- The words after a call.
+use mathlib.Core.List.{List}
+use Prim.Native.Nat.{ℕ}
+use Rattle.refusals.specs.Answer.{Answer, departed, made, refused, ticked, verdict}
+use Rattle.ring.specs.Answer.{Reply}
 use Rattle.ring_words.specs.Words.{stateWords}
-
--- 0 to 4 for a verdict, in the order of the counts; 100 and the number for a refusal; 0 for any other call that is accepted
-abbrev pub codeOf : Answer → ℕ
-codeOf (refused number) = 100 + number
-codeOf made = 0
-codeOf (verdict v) = placeOf v
-codeOf (departed handle size) = 0
-codeOf ticked = 0
 
 -- the words after a call: a refused call leaves them as they were
 abbrev pub wordsFor : Answer → (words returned : List ℕ) → List ℕ
@@ -23,7 +15,3 @@ wordsFor ticked words returned = returned
 
 abbrev pub wordsAfter : Reply → (words : List ℕ) → List ℕ
 wordsAfter r words = wordsFor (r .answer) words (stateWords words (r .state))
-
--- what a departure writes for its packet: handle and size, or 0 and 0
-abbrev pub packetOf : Answer → List ℕ
-packetOf a = handleIn a ∷ sizeIn a ∷ []

@@ -7,7 +7,8 @@ use Prim.Native.String as Text
 use Rattle.decimal.specs.Digits.{digitsOf}
 use Rattle.pie.specs.declared.Verdict.{Verdict}
 use Rattle.pie.specs.declared.Verdict.the-variants.{Enqueued, Marked, DroppedBytes, DroppedSlots, DroppedEarly}
-use Rattle.ring.specs.Answer.{Answer, Reply, departed, made, refused, ticked, verdict}
+use Rattle.refusals.specs.Answer.{Answer, departed, made, refused, ticked, verdict}
+use Rattle.ring.specs.Answer.{Reply}
 use Rattle.ring.specs.declared.State.{State}
 
 -- the bytes of a text in ASCII

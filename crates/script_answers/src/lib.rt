@@ -3,8 +3,8 @@ use decimal::put;
 use decimal::put_number;
 use pie::Verdict;
 use refusals::Accepted;
+use refusals::ArrivalAnswer;
 use refusals::Refusal;
-use ring::ArrivalAnswer;
 use ring::State;
 ghost use mathlib.Core.Path.{_≡_};
 ghost use Prim.Native.Nat.{ℕ, _+_, _≤_};
@@ -12,7 +12,7 @@ ghost use mathlib.Core.List.{_++_};
 ghost use lib.ListN.{length};
 ghost use Rattle.decimal.specs.Digits.{digitsOf};
 ghost use Rattle.decimal.specs.Written.{Wrote};
-ghost use Rattle.ring.specs.Answer.{acceptedAnswer, arrivalAnswer, departed, made, refused, ticked};
+ghost use Rattle.refusals.specs.Answer.{acceptedAnswer, arrivalAnswer, departed, made, refused, ticked};
 ghost use Rattle.refusals.specs.Numbers.{numberOf};
 ghost use Rattle.script_answers.specs.Output.{ascii, badText, numbersText, stateText, verdictWord, wordOf};
 

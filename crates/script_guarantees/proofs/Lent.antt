@@ -6,15 +6,17 @@ use Prim.Native.Nat.{ℕ}
 use lib.ListN.{length, length-replicate, length-set, replicate}
 use Rattle.laws.proofs.Choice.{at-cond}
 use Rattle.ring.specs.Activity.{begun}
-use Rattle.ring.specs.Answer.{Answer, Reply, admits}
+use Rattle.refusals.specs.Answer.{Answer, admits}
+use Rattle.ring.specs.Answer.{Reply}
 use Rattle.ring.specs.Arrival.{arrivedState, stored}
 use Rattle.ring.specs.Departure.{departedState}
 use Rattle.ring.specs.Fresh.{fresh, settingsOf, zeroState}
 use Rattle.ring.specs.Refusals.{settingsRefused}
 use Rattle.ring.specs.Tick.{tickedState}
 use Rattle.ring.specs.declared.State.{State}
-use Rattle.ring_guarantees.specs.Calls.{Call, reply}
-use Rattle.ring_guarantees.specs.Handed.{Queue, Request, after, askArrival, askDeparture, askTick, callOf}
+use Rattle.ring.specs.Calls.{Call, reply}
+use Rattle.ring.specs.Calls.{Queue, after, callOf}
+use Rattle.calls.specs.Requests.{Request, askArrival, askDeparture, askTick}
 use Rattle.ring_guarantees.proofs.Replies.{at-reply}
 use Rattle.script_guarantees.specs.Entries.{opened}
 use Rattle.script_guarantees.proofs.Idle.{idle-reply}

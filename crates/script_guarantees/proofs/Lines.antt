@@ -16,7 +16,8 @@ use Rattle.ring.specs.State.{wellFormed}
 use Rattle.ring.specs.Tick.{tick, tickRefusal}
 use Rattle.script_answers.specs.Output.{badText}
 use Rattle.ring_guarantees.specs.Calls.{Entry, entry}
-use Rattle.ring_guarantees.specs.Handed.{Queue, Request, after, askArrival, askDeparture, askTick, callOf}
+use Rattle.ring.specs.Calls.{Queue, after, callOf}
+use Rattle.calls.specs.Requests.{Request, askArrival, askDeparture, askTick}
 use Rattle.script.specs.Answering.{laterLine, nextLine, outcome}
 use Rattle.script.specs.Script.{ScriptRun, answerLine}
 use Rattle.script.specs.declared.Stage.the-variants.{Running, Ended}

@@ -3,8 +3,10 @@ use mathlib.Core.Path.{_≡_, refl, sym, ap, _∙_}
 use mathlib.Core.List.{List, [], _∷_, _++_, append-assoc, append-nil, flatMap, foldl, map}
 use Rattle.ring.specs.declared.State.{State}
 use Rattle.ring_guarantees.specs.Calls.{Entry, entry}
-use Rattle.ring_guarantees.specs.Handed.{Queue, Request, Run, admittedBy, after, answerOf, begin, callOf, step}
-use Rattle.ring_guarantees.specs.Handed.{askArrival, askDeparture, askTick}
+use Rattle.ring.specs.Calls.{Queue, after, answerOf, callOf}
+use Rattle.ring_guarantees.specs.Handed.{Run, begin, step}
+use Rattle.calls.specs.Requests.{Request, admittedBy}
+use Rattle.calls.specs.Requests.{askArrival, askDeparture, askTick}
 use Rattle.script_guarantees.specs.Entries.{admittedIn, departedIn, traceOf}
 use Rattle.script_guarantees.specs.RunTrace.{RunTrace, stateAfter}
 use Rattle.script_guarantees.proofs.Lines.{trace-on}

@@ -11,7 +11,9 @@ use Rattle.script_command.specs.declared.Command.the-variants.{Bad, Configure, 
 use Rattle.ring.specs.Fresh.{fresh, settingsOf, zeroState}
 use Rattle.ring.specs.declared.State.{State}
 use Rattle.script_answers.specs.Output.{badText, replyText}
-use Rattle.ring_guarantees.specs.Handed.{Queue, Request, Run, after, begin, step}
+use Rattle.ring.specs.Calls.{Queue, after}
+use Rattle.ring_guarantees.specs.Handed.{Run, begin, step}
+use Rattle.calls.specs.Requests.{Request}
 use Rattle.script.specs.Answering.{firstLine, outcome}
 use Rattle.script.specs.Lines.{linesOf}
 use Rattle.script.specs.Script.{ScriptRun, answerLine, noPackets, startRun}

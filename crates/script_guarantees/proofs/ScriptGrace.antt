@@ -5,7 +5,7 @@ use Prim.Native.Nat.{ℕ, _+_}
 use native.Mathlib.Omega.{arith}
 use Rattle.pie.specs.Constants.{fullAllowance}
 use Rattle.ring_guarantees.specs.Calls.{ByLimitsBefore, Entry, ringCalls}
-use Rattle.ring_guarantees.specs.Handed.{Request}
+use Rattle.calls.specs.Requests.{Request}
 use Rattle.ring_guarantees.proofs.Grace.{ticked-by-limits}
 use Rattle.calls.proofs.Traces.{cut}
 use Rattle.script_guarantees.specs.Asked.{asked}

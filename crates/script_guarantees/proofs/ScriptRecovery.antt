@@ -3,12 +3,14 @@ use mathlib.Core.Path.{_≡_, refl, sym, ap, _∙_}
 use mathlib.Core.List.{List, _∷_, _++_}
 use Prim.Native.Nat.{ℕ}
 use native.Mathlib.Omega.{arith}
-use Rattle.ring.specs.Answer.{Reply, made, refused, ticked}
+use Rattle.ring.specs.Answer.{Reply}
+use Rattle.refusals.specs.Answer.{made, refused, ticked}
 use Rattle.ring.specs.Fresh.{fresh, settingsOf, zeroState}
 use Rattle.ring.specs.declared.State.{State}
 use Rattle.ring.proofs.Kept.{fresh-well-formed, made-accepted}
-use Rattle.ring_guarantees.specs.Calls.{Call, Entry, entry, reply, ringCalls}
-use Rattle.ring_guarantees.specs.Handed.{Request}
+use Rattle.ring.specs.Calls.{Call, reply}
+use Rattle.ring_guarantees.specs.Calls.{Entry, entry, ringCalls}
+use Rattle.calls.specs.Requests.{Request}
 use Rattle.ring_guarantees.specs.Recovery.{RecoveredAfter, Tally, noted, nothingYet, tally}
 use Rattle.ring_guarantees.proofs.Recovery.{recovery}
 use Rattle.calls.proofs.Traces.{cut}

@@ -9,14 +9,18 @@ use lib.Dec.{eqb}
 use lib.ListN.{length, length-replicate, replicate}
 use Rattle.laws.specs.Every.{Every}
 use Rattle.laws.proofs.Choice.{at-cond, either}
-use Rattle.ring.specs.Answer.{Reply, made, refused}
+use Rattle.ring.specs.Answer.{Reply}
+use Rattle.refusals.specs.Answer.{made, refused}
 use Rattle.ring.specs.Fresh.{fresh, settingsOf, zeroState}
 use Rattle.refusals.specs.Rows.{firstRefusal}
 use Rattle.ring.specs.Refusals.{settingsRefused, tablesRefused}
 use Rattle.ring.specs.declared.State.{State}
 use Rattle.ring.proofs.Kept.{made-accepted}
-use Rattle.ring_guarantees.specs.Calls.{Entry, reply, ringCalls}
-use Rattle.ring_guarantees.specs.Handed.{Queue, Request, Run, answerOf, askArrival, askDeparture, askTick, begin, callOf, step}
+use Rattle.ring_guarantees.specs.Calls.{Entry, ringCalls}
+use Rattle.ring.specs.Calls.{reply}
+use Rattle.ring.specs.Calls.{Queue, answerOf, callOf}
+use Rattle.ring_guarantees.specs.Handed.{Run, begin, step}
+use Rattle.calls.specs.Requests.{Request, askArrival, askDeparture, askTick}
 use Rattle.ring_guarantees.specs.Refusals.{rowsOf}
 use Rattle.ring_guarantees.proofs.Conservation.{conservation}
 use Rattle.ring_guarantees.proofs.Replies.{numberGiven, refused-by-number}

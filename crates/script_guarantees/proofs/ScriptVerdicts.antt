@@ -5,8 +5,9 @@ use mathlib.Core.List.{List, List·Memᴰ}
 use mathlib.Core.Logic.{_↔_}
 use Prim.Native.Nat.{ℕ}
 use Rattle.pie.specs.declared.Verdict.{Verdict}
-use Rattle.ring.specs.Answer.{verdict}
-use Rattle.ring_guarantees.specs.Calls.{Call, Entry, arrive, reply, ringCalls}
+use Rattle.refusals.specs.Answer.{verdict}
+use Rattle.ring.specs.Calls.{Call, arrive, reply}
+use Rattle.ring_guarantees.specs.Calls.{Entry, ringCalls}
 use Rattle.ring_guarantees.specs.WhichVerdict.{Grounds}
 use Rattle.ring_guarantees.proofs.WhichVerdict.{which-verdict}
 use Rattle.calls.proofs.Traces.{along}

@@ -5,13 +5,17 @@ use mathlib.Core.List.{List, [], _∷_, _++_, foldl}
 use Prim.Native.Nat.{ℕ, zero, suc}
 use lib.ListN.{length, take}
 use lib.Seq.{take-append-seam}
-use Rattle.ring.specs.Answer.{Reply, made, refused}
+use Rattle.ring.specs.Answer.{Reply}
+use Rattle.refusals.specs.Answer.{made, refused}
 use Rattle.ring.specs.Fresh.{fresh, settingsOf, zeroState}
 use Rattle.ring.specs.Refusals.{settingsRefused}
 use Rattle.ring.specs.declared.State.{State}
-use Rattle.ring_guarantees.specs.Calls.{Entry, entry, reply}
+use Rattle.ring_guarantees.specs.Calls.{Entry, entry}
+use Rattle.ring.specs.Calls.{reply}
 use Rattle.calls.specs.Packets.{bytesOf}
-use Rattle.ring_guarantees.specs.Handed.{Queue, Request, Run, after, answerOf, callOf, queued, step}
+use Rattle.ring.specs.Calls.{Queue, after, answerOf, callOf}
+use Rattle.ring_guarantees.specs.Handed.{Run, queued, step}
+use Rattle.calls.specs.Requests.{Request}
 use Rattle.ring_guarantees.proofs.Conservation.{conservation}
 use Rattle.ring_guarantees.proofs.FirstInFirstOut.{first-in-first-out}
 use Rattle.ring_guarantees.proofs.Refusals.{refusals}

@@ -5,7 +5,7 @@ use Prim.Native.Nat.{ℕ}
 use Rattle.script_command.specs.Line.{readLine}
 use Rattle.script_command.specs.declared.Command.{Command}
 use Rattle.script_command.specs.declared.Command.the-variants.{Bad, Configure, Arrival, Departure, Tick}
-use Rattle.ring_guarantees.specs.Handed.{Request, askArrival, askDeparture, askTick}
+use Rattle.calls.specs.Requests.{Request, askArrival, askDeparture, askTick}
 use Rattle.script.specs.Lines.{linesOf}
 
 -- the lines after the `c`

@@ -3,11 +3,14 @@ use mathlib.Core.Bool.{cond}
 use mathlib.Core.List.{List, [], _∷_}
 use Prim.Native.Nat.{ℕ}
 use lib.ListN.{replicate}
-use Rattle.ring.specs.Answer.{admits}
+use Rattle.refusals.specs.Answer.{admits}
 use Rattle.ring.specs.Fresh.{settingsOf}
-use Rattle.ring_guarantees.specs.Calls.{Call, Entry, arrive, depart, trace, update}
+use Rattle.ring.specs.Calls.{Call, arrive, depart, update}
+use Rattle.ring_guarantees.specs.Calls.{Entry, trace}
 use Rattle.calls.specs.Packets.{Packet}
-use Rattle.ring_guarantees.specs.Handed.{Queue, Request, Run, after, begin, callOf, departedBy, run}
+use Rattle.ring.specs.Calls.{Queue, after, callOf}
+use Rattle.ring_guarantees.specs.Handed.{Run, begin, run}
+use Rattle.calls.specs.Requests.{Request, departedBy}
 use Rattle.script_guarantees.specs.Asked.{Asked, nothing, started, unstarted}
 
 -- requests as calls: each is lent the tables as the one before it left them

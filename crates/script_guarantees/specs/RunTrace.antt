@@ -5,7 +5,8 @@ use Prim.Native.Nat.{ℕ}
 use Rattle.ring.specs.declared.Settings.{Settings}
 use Rattle.ring.specs.declared.State.{State}
 use Rattle.ring_guarantees.specs.Calls.{Entry}
-use Rattle.ring_guarantees.specs.Handed.{Request, Run, begin, run}
+use Rattle.calls.specs.Requests.{Request}
+use Rattle.ring_guarantees.specs.Handed.{Run, begin, run}
 use Rattle.script_guarantees.specs.Entries.{admittedIn, departedIn, traceOf}
 
 -- the state that the last entry returned

@@ -4,8 +4,9 @@ use mathlib.Core.Path.{_≡_}
 use mathlib.Core.List.{List, _∷_, _++_, List·Memᴰ}
 use Prim.Native.Nat.{ℕ, _+_}
 use Rattle.pie.specs.Constants.{fullAllowance}
-use Rattle.ring.specs.Answer.{ticked}
-use Rattle.ring_guarantees.specs.Calls.{ByLimitsBefore, Entry, update}
+use Rattle.refusals.specs.Answer.{ticked}
+use Rattle.ring_guarantees.specs.Calls.{ByLimitsBefore, Entry}
+use Rattle.ring.specs.Calls.{update}
 use Rattle.script_guarantees.specs.Asked.{asked}
 use Rattle.script_guarantees.specs.Entries.{entriesOf}
 

@@ -3,7 +3,7 @@ use mathlib.Core.Path.{_≡_}
 use mathlib.Core.Logic.{_≢_}
 use mathlib.Core.List.{List, List·Memᴰ}
 use Prim.Native.Nat.{ℕ}
-use Rattle.ring.specs.Answer.{made, refused}
+use Rattle.refusals.specs.Answer.{made, refused}
 use Rattle.ring.specs.Fresh.{fresh, settingsOf}
 use Rattle.ring_guarantees.specs.Calls.{Entry}
 use Rattle.script_guarantees.specs.Asked.{Body, asked, started}

@@ -5,8 +5,9 @@ use mathlib.Core.List.{List, List·Memᴰ}
 use mathlib.Core.Logic.{_↔_}
 use Prim.Native.Nat.{ℕ}
 use Rattle.pie.specs.declared.Verdict.{Verdict}
-use Rattle.ring.specs.Answer.{verdict}
-use Rattle.ring_guarantees.specs.Calls.{Entry, arrive}
+use Rattle.refusals.specs.Answer.{verdict}
+use Rattle.ring_guarantees.specs.Calls.{Entry}
+use Rattle.ring.specs.Calls.{arrive}
 use Rattle.ring_guarantees.specs.WhichVerdict.{Grounds}
 use Rattle.script_guarantees.specs.Asked.{asked}
 use Rattle.script_guarantees.specs.Entries.{entriesOf}

@@ -9,7 +9,7 @@ use denote.Ref.{now}
 use Rattle.bursts.specs.Burst.{burst, done}
 use Rattle.bursts.proofs.Steps.{one-more}
 use Rattle.ring_burst.specs.Calls.{callAt}
-use Rattle.ring_steps.specs.Lent.{Lent, lent}
+use Rattle.ring_words.specs.Lent.{Lent, lent}
 use Rattle.ring_burst.specs.Burst.{ringBursts}
 use Rattle.ring_burst.proofs.Kept.{after-long}
 

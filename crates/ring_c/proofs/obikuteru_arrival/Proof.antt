@@ -1,6 +1,7 @@
 -- `obikuteru_arrival`: the reply's number and words, and the tables as the queue left them.
 use mathlib.Core.Path.{ap, sym, _∙_}
-use Rattle.ring.specs.Answer.{Reply, arrivalAnswer}
+use Rattle.ring.specs.Answer.{Reply}
+use Rattle.refusals.specs.Answer.{arrivalAnswer}
 use Rattle.ring_words.proofs.Codes.{arrival-decided, arrival-refused}
 use Rattle.ring_c.proofs.Replies.{count-lt, words-of}
 use borrow.Author.Needs.{needs}

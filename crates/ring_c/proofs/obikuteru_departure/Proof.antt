@@ -1,5 +1,5 @@
 -- `obikuteru_departure`: the reply's number, words and packet.
-use Rattle.ring.specs.Answer.{departed}
+use Rattle.refusals.specs.Answer.{departed}
 use Rattle.ring_words.proofs.Codes.{departure-made, refused}
 use Rattle.ring_c.proofs.Replies.{departed-as}
 use borrow.Author.Needs.{needs}

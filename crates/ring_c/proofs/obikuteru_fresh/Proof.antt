@@ -2,7 +2,7 @@
 use mathlib.Core.Path.{refl, _∙_}
 use mathlib.Core.List.{[]}
 use lib.ListN.{replicate}
-use Rattle.ring.specs.Answer.{made}
+use Rattle.refusals.specs.Answer.{made}
 use Rattle.ring_words.proofs.Codes.{fresh-made, refused}
 use Rattle.ring_words.proofs.Words.{over-zeros}
 use borrow.Author.Needs.{needs}

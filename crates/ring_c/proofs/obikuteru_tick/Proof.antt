@@ -1,5 +1,5 @@
 -- `obikuteru_tick`: the reply's number and words.
-use Rattle.ring.specs.Answer.{ticked}
+use Rattle.refusals.specs.Answer.{ticked}
 use Rattle.ring_words.proofs.Codes.{refused, tick-made}
 use borrow.Author.Needs.{needs}
 use Rattle.ring_c.proofs.obikuteru_tick.Statement.{statement}

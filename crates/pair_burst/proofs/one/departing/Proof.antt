@@ -7,7 +7,7 @@ use native.Mathlib.Omega.{arith}
 use lib.Dec.{eqb}
 use denote.Ref.{now}
 use Rattle.bursts.specs.Numbers.{wordOf}
-use Rattle.ring.specs.Answer.{Answer, handleIn, sizeIn}
+use Rattle.refusals.specs.Answer.{Answer, handleIn, sizeIn}
 use Rattle.pair_rules.specs.declared.Pair.{Pair}
 use Rattle.pair_rules.specs.Departure.{departure}
 use Rattle.pair_words.specs.Words.{pairOf, whichOf}

@@ -7,7 +7,7 @@ use lib.ListN.{length}
 use denote.Ref.{now}
 use Rattle.ring_words.specs.Words.{stateOf}
 use Rattle.log.specs.Layout.{recordsFrom}
-use Rattle.ring_steps.specs.Lent.{Lent, lent}
+use Rattle.ring_words.specs.Lent.{Lent, lent}
 use Rattle.ring_steps.specs.Fitting.{Ready}
 use Rattle.ring_steps.proofs.Kept.{leaves-long, ready-one}
 use Rattle.replay.specs.Agreement.{requestOf}

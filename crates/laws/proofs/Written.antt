@@ -1,4 +1,4 @@
--- Words, written out.
+-- A list of numbers, written out.
 use mathlib.Core.Path.{_≡_, refl, ap}
 use mathlib.Core.List.{List, [], _∷_}
 use Prim.Native.Nat.{ℕ, zero, suc}

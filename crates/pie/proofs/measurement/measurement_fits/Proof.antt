@@ -1,14 +1,14 @@
--- `well_formed::measurement_fits`: a start and counted bytes of 0 are in range.
+-- `measurement::measurement_fits`: a start and counted bytes of 0 are in range.
 use borrow.Author.Needs.{needs}
 use borrow.Author.Tests.{eqb-true, le-leb, lt-ltb}
 use mathlib.Core.Path.{_≡_, refl}
 use mathlib.Core.Bool.{Bool, true, false, _&&_, and-false, and-true}
 use Prim.Native.Nat.{ℕ}
 use lib.Dec.{eqb, leb, ltb}
 use Rattle.pie.specs.Constants.{threshold}
 use native.Mathlib.Omega.{arith}
-use Rattle.ring.proofs.well_formed.measurement_fits.Statement.{statement}
-use Rattle.ring.proofs.well_formed.measurement_fits.Tie as tie
+use Rattle.pie.proofs.measurement.measurement_fits.Statement.{statement}
+use Rattle.pie.proofs.measurement.measurement_fits.Tie as tie
 
 none-runs : (start counted clock : ℕ) →
     (eqb start 0 && eqb counted 0) ≡ (leb start clock && ltb counted threshold && eqb start 0 && eqb counted 0)
