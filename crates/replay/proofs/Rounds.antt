@@ -11,7 +11,7 @@ use Rattle.ring.specs.Calls.{Queue, after, answerOf}
 use Rattle.calls.specs.Requests.{Request, askArrival, askDeparture, askTick}
 use Rattle.log.specs.Layout.{recordsFrom}
 use Rattle.ring_words.specs.Lent.{Lent, leaves}
-use Rattle.ring_steps.specs.Lent.{queueOf as lentQueue}
+use Rattle.ring_words.specs.Lent.{queueOf as lentQueue}
 use Rattle.ring_steps.specs.Fitting.{Ready}
 use Rattle.ring_steps.proofs.Kept.{leaves-queue, ready-kept, stored-long}
 use Rattle.replay.specs.Agreement.{disagreement, disagreements, refusalIn, requestOf, verdictIn}
