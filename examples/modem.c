@@ -12,8 +12,8 @@
 
 enum {
     FLOWS = OBIKUTERU_MODEM_FLOWS,
+    SLOTS = 128,
     BUFFER = 120000,
-    SLOTS = BUFFER / 64, /* a third of the buffer is reached before the slots are full, also with packets of 64 bytes */
     PEAK = 2500000,     /* bytes per second: 20 Mbit/s */
     SUSTAINED = 625000, /* 5 Mbit/s */
     BUCKET = 20000,     /* most credits that a flow saves up */

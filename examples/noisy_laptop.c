@@ -1,30 +1,22 @@
 /*
  * One noisy laptop. Behind a link of 8 Mbit/s a laptop floods the gateway with more than twice what can
- * leave, beside a telephone call, two people who browse, and a sensor. The same packets arrive at one queue
- * for all of them, and at 64 flows, where the five keys of these senders give five flows: each sender has a
- * queue of its own and its turn. Two runs more show what flows do not do: the buffer's bytes are shared, so that
- * a small one is full of the flood until that is shed; and a flow is a connection's, not a sender's, so that a
- * flood from many ports takes many flows, others' among them.
+ * leave, beside a telephone call, two people who browse, and a sensor. The same packets arrive twice: at
+ * one queue for all of them, and at 64 flows in which each sender has a queue of its own and its turn.
  */
 #include <obikuteru.h>
 
 #include <inttypes.h>
 #include <stdio.h>
 #include <stdlib.h>
-#include <string.h>
 
 enum {
     TARGET = 15000,
     BUFFER = 600000,
-    SMALL_BUFFER = 64000,
-    SLOTS = BUFFER / 64, /* bytes, not slots, are to be what runs out */
+    SLOTS = 1024,
     STEP = 100,          /* microseconds of one step */
     DURATION = 5000000,
     MOST_PACKETS = 16384,
-    SENDERS = 5,
-    LAPTOP = 0,
-    MANY_PORTS = 64,
-    SOURCE_PORT = 8      /* its place in a key, high byte first */
+    SENDERS = 5
 };
 
 /* A sender's packets: their size, and the time from one to the next. */
@@ -40,15 +32,7 @@ static const struct sender senders[SENDERS] = {
     {"telephone call", {10, 0, 0, 2, 203, 0, 113, 5, 0x13, 0xC4, 0x13, 0xC4, 17}, 200, 20000},
     {"browser", {10, 0, 0, 3, 198, 51, 100, 20, 0xD0, 0x10, 0x01, 0xBB, 6}, 1000, 20000},
     {"another browser", {10, 0, 0, 4, 198, 51, 100, 33, 0xE1, 0x07, 0x01, 0xBB, 6}, 1000, 25000},
-    {"sensor", {10, 0, 0, 5, 192, 0, 2, 77, 0x9C, 0x43, 0x07, 0x5B, 17}, 80, 100000},
-};
-
-/* One run: one queue or 64 flows, the buffer, and from how many ports the laptop sends, in turn. */
-struct scene {
-    const char *title;
-    bool by_flow;
-    uint64_t buffer;
-    uint32_t ports;
+    {"sensor", {10, 0, 0, 5, 192, 0, 2, 77, 0x9C, 0x42, 0x07, 0x5B, 17}, 80, 100000},
 };
 
 /* Either one queue or 64 flows, and the tables. */
@@ -89,59 +73,20 @@ static uint32_t accepted(uint32_t answer, const char *call)
     return answer;
 }
 
-/* Writes a sender's key, with its source port and `more` for the port. */
-static void key_of(size_t sender, uint32_t more, uint8_t key[13])
-{
-    uint32_t port;
-
-    memcpy(key, senders[sender].key, 13);
-    port = 256u * key[SOURCE_PORT] + key[SOURCE_PORT + 1] + more;
-    key[SOURCE_PORT] = (uint8_t)(port / 256);
-    key[SOURCE_PORT + 1] = (uint8_t)port;
-}
-
-/* Two senders whose keys give one flow would share a queue and a turn. No salt changes which do. */
-static void stop_if_a_flow_is_shared(void)
-{
-    for (size_t s = 0; s < SENDERS; s++)
-        for (size_t t = 0; t < s; t++)
-            if (obikuteru_fq_flow(senders[s].key, 0) == obikuteru_fq_flow(senders[t].key, 0)) {
-                fprintf(stderr, "noisy_laptop: '%s' and '%s' share a flow.\n", senders[s].name, senders[t].name);
-                exit(1);
-            }
-}
-
-/* How many flows the laptop's ports give. */
-static size_t flows_of_laptop(uint32_t ports)
-{
-    bool taken[64] = {false};
-    uint8_t key[13];
-    size_t flows = 0;
-
-    for (uint32_t port = 0; port < ports; port++) {
-        uint32_t flow;
-        key_of(LAPTOP, port, key);
-        flow = obikuteru_fq_flow(key, 0);
-        flows += !taken[flow];
-        taken[flow] = true;
-    }
-    return flows;
-}
-
-static void begin(struct gateway *g, uint64_t buffer, uint32_t salt)
+static void begin(struct gateway *g, uint32_t salt)
 {
     if (g->by_flow)
-        accepted(obikuteru_fq_fresh(&g->fq, TARGET, buffer, SLOTS, salt, 0), "fresh");
+        accepted(obikuteru_fq_fresh(&g->fq, TARGET, BUFFER, SLOTS, salt, 0), "fresh");
     else
-        accepted(obikuteru_fresh(&g->queue, TARGET, buffer, SLOTS, OBIKUTERU_PLAIN, 0), "fresh");
+        accepted(obikuteru_fresh(&g->queue, TARGET, BUFFER, SLOTS, OBIKUTERU_PLAIN, 0), "fresh");
 }
 
-static uint32_t arrive(struct gateway *g, uint64_t clock, const uint8_t key[13], uint32_t handle, uint32_t size, uint32_t u)
+static uint32_t arrive(struct gateway *g, uint64_t clock, const struct sender *sender, uint32_t handle, uint32_t u)
 {
     if (g->by_flow)
-        return accepted(obikuteru_fq_arrival(&g->fq, g->handles, SLOTS, g->sizes, SLOTS, clock, key, handle, size, false, u),
-                        "an arrival");
-    return accepted(obikuteru_arrival(&g->queue, g->handles, SLOTS, g->sizes, SLOTS, clock, handle, size, false, u),
+        return accepted(obikuteru_fq_arrival(&g->fq, g->handles, SLOTS, g->sizes, SLOTS, clock, sender->key, handle,
+                                             sender->size, false, u), "an arrival");
+    return accepted(obikuteru_arrival(&g->queue, g->handles, SLOTS, g->sizes, SLOTS, clock, handle, sender->size, false, u),
                     "an arrival");
 }
 
@@ -172,19 +117,17 @@ static void tick_if_due(struct gateway *g, uint64_t clock)
 }
 
 /* The packets that arrive at this step. */
-static void receive(struct gateway *g, const struct scene *scene, uint64_t clock, uint64_t *seed, struct outcome *outcomes)
+static void receive(struct gateway *g, uint64_t clock, uint64_t *seed, struct outcome *outcomes)
 {
     static uint32_t number; /* handles go round: far fewer packets are queued at a time */
-    uint8_t key[13];
 
     for (size_t s = 0; s < SENDERS; s++) {
         if (clock % senders[s].period != 0)
             continue;
         number = (number + 1) % MOST_PACKETS;
         packets[number] = (struct packet){clock, s};
-        key_of(s, s == LAPTOP ? (uint32_t)(outcomes[s].arrived % scene->ports) : 0, key);
         outcomes[s].arrived++;
-        outcomes[s].dropped += arrive(g, clock, key, number, senders[s].size, next_random(seed)) > OBIKUTERU_MARKED;
+        outcomes[s].dropped += arrive(g, clock, &senders[s], number, next_random(seed)) > OBIKUTERU_MARKED;
     }
 }
 
@@ -212,38 +155,29 @@ static void report(const struct outcome *outcomes)
     }
 }
 
-/* All packets of the run, until the last has left. */
-static void run(const struct scene *scene)
+/* All packets of the run, at one queue or at 64 flows, until the last has left. */
+static void run(const char *title, bool by_flow)
 {
     static struct gateway g;
     struct outcome outcomes[SENDERS] = {{0}};
     uint64_t seed = 8033, free_at = 0;
 
-    g.by_flow = scene->by_flow;
-    begin(&g, scene->buffer, next_random(&seed));
+    g.by_flow = by_flow;
+    begin(&g, next_random(&seed));
     for (uint64_t clock = STEP; clock <= DURATION || holds_packets(&g); clock += STEP) {
         if (clock <= DURATION)
-            receive(&g, scene, clock, &seed, outcomes);
+            receive(&g, clock, &seed, outcomes);
         if (free_at <= clock && holds_packets(&g))
             free_at = send(&g, clock, outcomes);
         tick_if_due(&g, clock);
     }
-    printf("%s\n", scene->title);
+    printf("%s\n", title);
     report(outcomes);
 }
 
 int main(void)
 {
-    static const struct scene scenes[] = {
-        {"One queue for all senders:", false, BUFFER, 1},
-        {"64 flows, served in turn:", true, BUFFER, 1},
-        {"64 flows, with a buffer of 64,000 bytes:", true, SMALL_BUFFER, 1},
-        {"64 flows, and the laptop floods from 64 ports:", true, BUFFER, MANY_PORTS},
-    };
-
-    stop_if_a_flow_is_shared();
-    for (size_t i = 0; i < sizeof scenes / sizeof scenes[0]; i++)
-        run(&scenes[i]);
-    printf("  The laptop's %d ports gave %zu of the 64 flows.\n", MANY_PORTS, flows_of_laptop(MANY_PORTS));
+    run("One queue for all senders:", false);
+    run("64 flows, served in turn:", true);
     return 0;
 }

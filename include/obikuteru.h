@@ -44,19 +44,6 @@
  *   A late tick is accepted. However late, it makes one update and spends 15,000 of the
  *   allowance, so what takes a number of ticks, recovery say, takes longer in time.
  *
- * Slots and buffer
- *   Early shedding goes by bytes, so slots that are full of small packets can keep it off for ever:
- *   every packet that finds no slot is then dropped, and none early.
- *     - Every queue but the modem measures how fast it drains only where a departure leaves 16,384
- *       bytes queued. Until it has, its delay is 0 and it drops nothing early and marks nothing: for
- *       ever, if slots or buffer never let so much be queued.
- *     - A calm queue turns active where more than a third of the buffer is queued, a modem's flow
- *       leaves inactive where a third is. With packets of one size, where 3 * (slots - 1) * size is
- *       below the buffer, the flow never does; and the calm queue at full slots at most, and may
- *       turn inactive again at the next tick.
- *   So have more slots than buffer / (3 * the smallest packet) + 1, better buffer / 64, and a buffer
- *   of 49,152 bytes or more: a third of it is then 16,384.
- *
  * Random numbers
  *   Each arrival needs a number `u` of its own, uniform over all 32 bits: from getrandom, or from
  *   a good generator seeded by it. rand() will not do. Where it gives 31 bits, `u` is below 2^31:
@@ -121,10 +108,8 @@ struct obikuteru_state {
     uint64_t probability; /* drop probability, 0 to 2^32 */
     uint64_t old_delay;   /* queueing delay at the last tick, at most 10,000,000 */
     uint64_t allowance;   /* burst allowance that is left, at most 150,000 */
-    uint64_t accumulated; /* probabilities added since the last early verdict, or since a calm queue
-                             turned active; below 36,507,222,016 */
-    uint64_t average;     /* average time for 16,384 bytes to leave; 0: none measured yet, or none
-                             since a calm queue turned active */
+    uint64_t accumulated; /* probabilities since the last early verdict, below 36,507,222,016 */
+    uint64_t average;     /* average time for 16,384 bytes to leave; 0: none measured yet */
     uint64_t measuring;   /* not 0: a measurement of the departure rate runs; 0 where count is 0 */
     uint64_t start;       /* clock at which it started; 0 if none runs */
     uint64_t counted;     /* bytes that have left since, below 16,384; 0 if none runs */
@@ -172,8 +157,7 @@ static inline bool obikuteru_refused(uint32_t answer) { return 100u < answer; }
 
 /*
  * A fresh queue at `clock`. Answers ACCEPTED or REFUSED_SETTINGS. The record's memory and the
- * tables need no preparation: lend any two of `slots` numbers to the calls that follow. How many
- * slots a buffer needs stands above, under 'Slots and buffer'.
+ * tables need no preparation: lend any two of `slots` numbers to the calls that follow.
  */
 uint32_t obikuteru_fresh(struct obikuteru_state *state, uint64_t target, uint64_t buffer,
                          uint64_t slots, uint64_t profile, uint64_t clock);
@@ -251,9 +235,8 @@ uint32_t obikuteru_calls(struct obikuteru_state *state, uint32_t *handles, size_
 
 /*
  * How many accepted ticks in succession, each finding the queue empty, bring a queue of this
- * target back from any well-formed state: the probability is then 0, and for 150,000 microseconds
- * after the last of them only a full buffer or full slots turn a packet away. A tick that finds a
- * packet queued starts the count anew. 557 at a target of 1,000, 212 at 15,000, 71 at 100,000;
+ * target back from any state: the probability is then 0, and for 150,000 microseconds only a full
+ * buffer or full slots turn a packet away. 557 at a target of 1,000, 212 at 15,000, 71 at 100,000;
  * 0 for a target out of range. It holds of this queue, of either queue of a pair, and of each of 64
  * flows, by the ticks that find that flow empty; of the modem it is not claimed.
  */
@@ -266,10 +249,6 @@ uint64_t obikuteru_ticks_to_recover(uint64_t target);
  *
  * Records and settings stand in the log byte by byte as the two structs below stand in memory on a
  * little-endian machine. The library reads and writes them as bytes, at any address.
- *
- * A log does not say by which release's rules it was made, and a replay runs the present ones:
- * docs/LOG.md says what of older logs it then accepts. Put the release in the note, or keep it
- * beside the log.
  */
 struct obikuteru_settings {
     uint64_t target;    /* 1,000 to 100,000 */
@@ -316,8 +295,8 @@ static inline size_t obikuteru_log_length(const struct obikuteru_log *log) {
 #define OBIKUTERU_REFUSED_ROOM 114u      /* writer: note too long, no room, or 100,000 records */
 
 /*
- * Begins a log: writes 48 bytes and the note, and makes `log` its state, whatever it held. Answers
- * ACCEPTED, 112 or 114; a refused call changes neither `log` nor a byte.
+ * Begins a log: writes 48 bytes and the note. Answers ACCEPTED, 112 or 114. A refused call
+ * leaves the bytes and makes `log` all zero, which add refuses.
  */
 uint32_t obikuteru_log_begin(struct obikuteru_log *log, const struct obikuteru_settings *settings,
                              const uint8_t *note, size_t note_len, uint8_t *bytes,
@@ -392,12 +371,7 @@ struct obikuteru_compared {
     struct obikuteru_part part; /* the longer log's remaining records, in its bytes */
 };
 
-/*
- * Compares two logs, each read whole before, the first's refusal ahead of the second's. Everything
- * is compared: settings with the start clock, the note, and of each record all fields. Two gateways
- * that shall log the same run need the same start clock, the same note and the same calls, clocks,
- * handles and random numbers among them (docs/LOG.md).
- */
+/* Compares two logs, each read whole before, the first's refusal ahead of the second's. */
 uint32_t obikuteru_compare(const uint8_t *first, size_t first_len, const uint8_t *second,
                            size_t second_len, struct obikuteru_compared *found);
 
@@ -415,12 +389,7 @@ uint32_t obikuteru_compare(const uint8_t *first, size_t first_len, const uint8_t
  *
  * What is said of the queue holds here too (units, memory, clock, random numbers, what a refused
  * call leaves), but for this:
- *   - Rates are bytes per second. Peak and sustained may be equal, or either the larger; a flow
- *     without a limit has the link's own rate. They stay for the flow's life: other rates need
- *     a fresh flow. docs/DOCSIS-PIE.md says more for the modem's maker: what `size` counts, what
- *     the credits of an overdrawn bucket are, and what to do with more than sixteen flows.
- *   - A flow sheds early from a third of its buffer on, and full slots can keep that off for ever:
- *     see 'Slots and buffer' above.
+ *   - Rates are bytes per second. Peak and sustained may be equal, or either the larger.
  *   - The table of counts needs no preparation: an accepted fresh sets its row to 0.
  *   - The table of counts is aligned to 8 bytes, and it belongs to one thread at a time together
  *     with all flows that use it.
@@ -454,7 +423,7 @@ struct obikuteru_modem_state {
 /* Raised whenever the layout or the meaning of the modem's state record changes. */
 #define OBIKUTERU_MODEM_RECORD_VERSION 1u
 
-/* RFC 8034's own target delay, 10 ms. Pass it to fresh: a target of 0 is refused, not replaced. */
+/* The target delay for a flow that is given none: 10 ms. It is not put in for a target of 0. */
 #define OBIKUTERU_MODEM_TARGET 10000u
 
 /* Least time from one accepted tick of a flow to its next. */
@@ -540,14 +509,8 @@ uint32_t obikuteru_modem_calls(struct obikuteru_modem_state *state, uint64_t cou
  *
  * Each queue has a reserve of slots, which the other cannot take. What both reserves leave of the
  * slots is common: a queue takes from it where its count is at or above its reserve, first come,
- * first served. So a queue that has fewer packets than its reserve whenever one arrives is answered
- * alike whatever the other one does; only the places of its packets in the tables may differ. A
- * packet that finds as many as the reserve needs a common slot, and may be dropped for want of one.
- *
- * That is of the same calls, departures too. Which queue sends next is the caller's choice, and the
- * library has no part in it: to keep the intercom's waits its own, send from the intercom whenever
- * it has a packet, and from the passengers only where it has none. An intercom packet then waits for
- * its own queue, and for at most one packet of theirs, the one that is being sent.
+ * first served. So a queue that never has more packets than its reserve is answered alike whatever
+ * the other one does; only the places of its packets in the tables may differ.
  *
  * The slots are no ring: packets of both queues stand anywhere in the tables, each with a link to
  * the next one of its queue. A word of the table of sizes is a size in its low 16 bits and a link
@@ -587,7 +550,7 @@ struct obikuteru_pair_queue {
     uint64_t probability; /* drop probability, 0 to 2^32 */
     uint64_t old_delay;   /* queueing delay at the last tick, at most 10,000,000 */
     uint64_t allowance;   /* burst allowance that is left, at most 150,000 */
-    uint64_t accumulated; /* probabilities added since the last early verdict; below 36,507,222,016 */
+    uint64_t accumulated; /* probabilities since the last early verdict, below 36,507,222,016 */
     uint64_t average;     /* average time for 16,384 bytes to leave; 0: none measured yet */
     uint64_t measuring;   /* not 0: a measurement of the departure rate runs; 0 where count is 0 */
     uint64_t start;       /* clock at which it started; 0 if none runs */
@@ -729,7 +692,7 @@ uint32_t obikuteru_pair_calls(struct obikuteru_shared *shared,
 /*
  * 64 flows in one pair of tables: FQ-PIE. docs/SHARED-TABLES.md has its rules. Each flow sheds load
  * by itself, with a PIE state of its own, and they are served in turn (deficit round robin, a
- * quantum of 1,514 bytes), so that a flood with one key is shed from its own flow. A set of flows is
+ * quantum of 1,514 bytes), so that one sender's flood is shed from its own flow. A set of flows is
  * three things that the caller owns and lends to each call:
  *
  *   - a record, struct obikuteru_fq;
@@ -739,18 +702,6 @@ uint32_t obikuteru_pair_calls(struct obikuteru_shared *shared,
  * and destination port, 2 each, and protocol, 1, in whatever order of bytes the caller keeps to.
  * The salt is added to the hash and moves all flows alike. So two keys share a flow whatever the
  * salt is, or never do: what is kept apart are flows, not senders who choose to share one.
- *
- * What flows do not do:
- *   - A key is a connection, not a sender. Who sends from many ports has many flows, others' among
- *     them: 64 ports take 40 to 50 of the 64.
- *   - Of 20 keys, some two share a flow with a chance of 96 in 100, and a given one shares its
- *     flow with a chance of 26 in 100.
- *   - Bytes and slots are common: a flood fills them until it is shed, and others' packets are
- *     dropped for bytes or slots meanwhile. In examples/noisy_laptop.c a buffer of 64 ms of the link
- *     costs two others two packets of five, one of 600 ms none.
- *   - A flow's drain is measured only where a departure leaves 16,384 bytes in that flow. Flows that
- *     stay below it are never shed early: thirty that keep 15,000 bytes each wait 450 ms at a byte
- *     a microsecond, whatever the target.
  *
  * What is said of the queue and of the pair's tables holds here too, but for this:
  *   - One clock and one tick serve all flows. A tick updates all 64.

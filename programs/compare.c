@@ -3,7 +3,6 @@
  * which one ends first; or `refused N` and whose log it is.
  */
 #include "shared/call_text.h"
-#include "shared/log_fault.h"
 #include "shared/log_file.h"
 #include "shared/say.h"
 
@@ -48,14 +47,13 @@ static void print_difference(uint32_t answer, const struct obikuteru_compared *f
     }
 }
 
-static int compare(char **names)
+static int compare(void)
 {
     struct obikuteru_compared found;
     uint32_t answer = obikuteru_compare(first.bytes, first.length, second.bytes, second.length, &found);
 
     if (obikuteru_refused(answer)) {
         printf("refused %" PRIu32 " %s\n", answer - 100, found.whose == 1 ? "first" : "second");
-        say_fault(names[found.whose == 1 ? 0 : 1], found.whose == 1 ? &first : &second, answer);
         return FAILED;
     }
     if (answer != OBIKUTERU_ACCEPTED) {
@@ -74,5 +72,5 @@ int main(int argc, char **argv)
         return say("compare takes two logs.");
     both = read_log(argv[1], &first);
     both = read_log(argv[2], &second) && both;
-    return both ? finish(compare(argv + 1)) : FAILED;
+    return both ? finish(compare()) : FAILED;
 }

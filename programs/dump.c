@@ -3,7 +3,6 @@
  * lines before it, then `refused N`.
  */
 #include "shared/call_text.h"
-#include "shared/log_fault.h"
 #include "shared/log_file.h"
 #include "shared/say.h"
 
@@ -76,7 +75,6 @@ int main(int argc, char **argv)
         answer = print_records(&place);
     if (obikuteru_refused(answer)) {
         printf("refused %" PRIu32 "\n", answer - 100);
-        say_fault(argv[1], &file, answer);
         return finish(FAILED);
     }
     printf("end %" PRIu64 "\n", place);

@@ -3,7 +3,6 @@
  * was recorded and what the rules say, or `refused N`. Exits with the greatest of the statuses.
  */
 #include "shared/call_text.h"
-#include "shared/log_fault.h"
 #include "shared/log_file.h"
 #include "shared/progress.h"
 #include "shared/say.h"
@@ -54,7 +53,7 @@ static int print_disagreement(uint32_t answer, const struct obikuteru_replayed *
 }
 
 /* Replays the log that was read, over tables of its slots. */
-static int replay(const char *log)
+static int replay(void)
 {
     struct obikuteru_settings settings;
     struct obikuteru_replayed found;
@@ -66,7 +65,6 @@ static int replay(const char *log)
     if (obikuteru_refused(answer)) {
         begin_line("refused");
         printf("%" PRIu32 "\n", answer - 100);
-        say_fault(log, &file, answer);
         return FAILED;
     }
     if (answer != OBIKUTERU_ACCEPTED)
@@ -88,7 +86,7 @@ int main(int argc, char **argv)
         name = argc > 2 ? argv[i] : NULL;
         if (read_log(argv[i], &file)) {
             show_progress("replay: log", i, argc - 1);
-            status = replay(argv[i]);
+            status = replay();
         }
         greatest = status > greatest ? status : greatest;
     }

@@ -66,12 +66,13 @@ static void put_trailer(const struct plain_log *log, uint8_t *bytes)
 uint32_t plain_log_begin(struct plain_log *log, const struct plain_settings *settings,
                          const uint8_t *note, size_t note_len, uint8_t *bytes, size_t bytes_len)
 {
+    log->offset = 0;
+    log->count = 0;
     if (settings_fault(settings))
         return PLAIN_REFUSED_HEADER; /* 12 */
     if (MOST_NOTE < note_len || bytes_len < length(PLAIN_SETTINGS + note_len, 0))
         return PLAIN_REFUSED_ROOM; /* 14 */
     log->offset = PLAIN_SETTINGS + (uint32_t)note_len;
-    log->count = 0;
     memcpy(bytes, settings, PLAIN_SETTINGS);
     memcpy(bytes + PLAIN_SETTINGS, note, note_len);
     put_trailer(log, bytes);

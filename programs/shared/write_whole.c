@@ -36,8 +36,6 @@ static bool replace(const char *name, mode_t mode, const uint8_t *bytes, size_t 
 
     if (whole) {
         whole = write_all(file, bytes, length);
-        /* On the disk before the name leads to it: a power cut shall not leave an empty file. */
-        whole = whole && fsync(file) == 0;
         whole = close(file) == 0 && whole && rename(beside, name) == 0;
         if (!whole)
             unlink(beside);

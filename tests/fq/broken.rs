@@ -5,12 +5,10 @@ use crate::flows::formed::{AT_DEFICITS, AT_FLOWS, AT_LISTS, FLOW_CONDITIONS};
 use crate::flows::{Record, FLOWS};
 use crate::model::numbers::*;
 use crate::records::{change, empty, fit, hold, settle};
-use crate::shared::drawn;
 use crate::shared::numbers::{above, outside, too_many, wild};
 use crate::shared::random::Random;
 
-/// The flow and the condition of its queue that a condition is about, in the numbers of
-/// `formed::queue_conditions`.
+/// The flow and the queue's condition of a flow's condition, in the numbers of `formed::OF_QUEUE`.
 fn of_flow(condition: usize) -> (usize, usize) {
     let place = condition - AT_FLOWS;
     (place / FLOW_CONDITIONS, 4 + place % FLOW_CONDITIONS)
@@ -52,10 +50,17 @@ fn prepare_flow(r: &mut Random, record: &mut Record, (flow, condition): (usize, 
 pub fn scramble(r: &mut Random, record: &mut Record) {
     let times = r.pick(&[1, 1, 2, 3, 21]);
     match r.range(0, 3) {
-        0 => drawn::scramble(r, record.common.words_mut(), times),
-        1 => drawn::scramble(r, &mut record.order, times),
-        2 => drawn::scramble(r, record.flow_words_mut(), times),
+        0 => scramble_words(r, record.common.words_mut(), times),
+        1 => scramble_words(r, &mut record.order, times),
+        2 => scramble_words(r, record.flow_words_mut(), times),
         _ => record.deficits[r.range(0, 63) as usize] = r.number() as u32,
+    }
+}
+
+fn scramble_words(r: &mut Random, words: &mut [u64], times: u64) {
+    for _ in 0..times {
+        let place = r.range(0, words.len() as u64 - 1) as usize;
+        words[place] = wild(r, words[place]);
     }
 }
 

@@ -7,11 +7,9 @@
 //!   tick:      any two of 2, 4, 5
 //! Refusal 1 stands alone: it is the only one of fresh.
 
-use crate::edges::chain::{self, Chain};
-use crate::edges::{ends, lists, refused, rules, totals};
+use crate::edges::{ends, lists, refused, rules, store, totals};
 use crate::flows::formed::*;
 use crate::flows::rules::{decide, fresh};
-use crate::flows::schedule::choose;
 use crate::flows::{Settings, FLOWS};
 use crate::kind::{arriving, fresh_call, Call, Flows, Side, NOBODY};
 use crate::model::numbers::BANDS;
@@ -46,33 +44,6 @@ fn arrived(before: &Side, after: &Side) -> [Queue; 2] {
 
 fn left(before: &Side, after: &Side) -> [Queue; 2] {
     called(before, after, after.packet.flow)
-}
-
-/// A flow in the store.
-fn chain<'a>(before: &'a Side, after: &Side, flow: u32) -> Chain<'a> {
-    let flows = before.state.flows.iter().enumerate();
-    let others = flows.filter(|(place, f)| *place as u32 != flow && f.count > 0);
-    Chain {
-        store: [before.state.store(), after.state.store()],
-        queue: called(before, after, flow),
-        heads: others.map(|(_, f)| f.head).collect(),
-        sizes: &before.sizes,
-        answer: after.answer,
-    }
-}
-
-/// The flow that a call is about.
-fn of_call(call: &Call, after: &Side) -> u32 {
-    match call.what {
-        What::Arrival(_) => after.flow,
-        _ => after.packet.flow,
-    }
-}
-
-fn leaving(before: &Side, after: &Side) -> Found {
-    let mut found = chain::leaving(&chain(before, after, after.packet.flow));
-    found.push(("the last packet of all", before.state.common.count == 1));
-    found
 }
 
 /// What a tick does to at least one flow.
@@ -119,7 +90,7 @@ impl Covered for Flows {
     }
 
     fn holding(before: &Side, _: &Call) -> Option<Vec<bool>> {
-        Some(conditions(&before.state))
+        Some(conditions(&before.state).to_vec())
     }
 
     fn condition_label(place: usize) -> usize {
@@ -165,22 +136,20 @@ impl Covered for Flows {
             list("totals at an arrival", About::Arrivals, BOTH, totals::arrival),
             list("totals at an arrival, edges", About::Arrivals, SINGLE, totals::arrival_edges),
             list("lists at an arrival", About::Arrivals, BOTH, lists::arrival),
-            list("place of an arrival", About::Arrivals, BOTH, |b, _, a| chain::entering(&chain(b, a, a.flow))),
-            list("damage that an arrival does not see", About::Arrivals, SINGLE, |b, _, a| chain::entering_damaged(&chain(b, a, a.flow))),
-            list("arrival refused by 9", About::WrongArrivals, SINGLE, |b, _, a| refused::arrival(&chain(b, a, a.flow), b)),
+            list("place of an arrival", About::Arrivals, BOTH, store::entering),
+            list("damage that an arrival does not see", About::Arrivals, SINGLE, store::entering_damaged),
+            list("arrival refused by 9", About::WrongArrivals, SINGLE, refused::arrival),
             list("departure", About::Departures, SINGLE, |b, _, a| rules::departure(&left(b, a), a.packet.size)),
             list("departure, edges of rules", About::Departures, SINGLE,
                 |b, _, a| rules::departure_edges(&left(b, a), a.packet.size)),
             list("choosing", About::Departures, BOTH, lists::choosing),
             list("choosing, edges", About::Departures, SINGLE, lists::choosing_edges),
-            list("place of a departure", About::Departures, BOTH, |b, _, a| leaving(b, a)),
-            list("damage that a departure does not see", About::Departures, SINGLE,
-                |b, _, a| chain::leaving_damaged(&chain(b, a, a.packet.flow))),
-            list("departure refused by 6 or 9", About::RefusedDepartures, SINGLE,
-                |b, _, a| refused::departure(&chain(b, a, choose(&b.state).flow as u32), b)),
+            list("place of a departure", About::Departures, BOTH, store::leaving),
+            list("damage that a departure does not see", About::Departures, SINGLE, store::leaving_damaged),
+            list("departure refused by 6 or 9", About::RefusedDepartures, SINGLE, refused::departure),
             list("tick of some flow", About::Ticks, BOTH, |b, _, a| ticks(b, a)),
             list("end of a range", About::Sound, SINGLE, ends::ends),
-            list("tables of whole pages", About::Sound, BOTH, |b, c, a| chain::whole_pages(&chain(b, a, of_call(c, a)))),
+            list("tables of whole pages", About::Sound, BOTH, ends::whole_pages),
         ]
     }
 

@@ -1,5 +1,14 @@
 //! Compares the library's 64 flows with a model of their rules, call by call.
-//! Its words stand in `shared::program`; `fq script` answers the script on standard input by the model.
+//!
+//!   fq               the fixed seed; the same calls each time
+//!   fq counts        the same, and prints how often each thing was reached
+//!   fq seed N        one round with the seed N
+//!   fq soak SECONDS  rounds with new seeds until the time is over
+//!   fq guard         calls with memory that stands beside or between guarded pages
+//!   fq script        answers the script on standard input by the model
+//!
+//! It ends with 1 at the first difference, with 2 if calls but a soak's did not reach everything, and
+//! with 3 if it was not understood.
 //!
 //! The rules of one queue, the store and what makes random queues are the pair's: `model` and the
 //! modules from its folder.
@@ -50,7 +59,7 @@ fn main() {
         batches: 120,
         runs: 2 * plans::KINDS,
         guarded: (50, plans::KINDS),
-        figures: ("the page's worked cases", shared::worked::run),
+        figures: ("the page's worked cases", worked::run),
     };
     round.main();
 }

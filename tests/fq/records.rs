@@ -5,7 +5,6 @@ use crate::flows::{Record, FLOWS};
 use crate::layout;
 use crate::model::numbers::*;
 use crate::model::Queue;
-use crate::shared::drawn;
 use crate::shared::random::Random;
 use crate::states;
 
@@ -20,7 +19,7 @@ pub fn record(r: &mut Random) -> Record {
     (c.target, c.buffer, c.clock, c.last) = (q.target, q.buffer, q.clock, q.last);
     c.slots = states::slots(r);
     c.salt = r.pick(&[0, 5, u64::from(u32::MAX), any, any]);
-    c.verdicts = drawn::sound_counts(r);
+    c.verdicts = states::sound_counts(r);
     fill(r, &mut record);
     for flow in 0..FLOWS {
         change(&mut record, flow, |q| {

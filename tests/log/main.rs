@@ -15,8 +15,8 @@ mod compare;
 mod coverage;
 mod failure;
 mod log;
-#[allow(dead_code, unused_imports)]
-#[path = "../ring/model/mod.rs"]
+#[allow(dead_code)]
+#[path = "../ring/model.rs"]
 mod model;
 #[path = "../ring/own.rs"]
 mod own;

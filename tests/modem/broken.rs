@@ -3,8 +3,7 @@
 use crate::kind::{state_of, words};
 use crate::model::numbers::*;
 use crate::model::State;
-use crate::shared::drawn::{self, break_backlog, Backlog};
-use crate::shared::numbers::{above, outside};
+use crate::shared::numbers::{above, outside, wild};
 use crate::shared::random::Random;
 use crate::states;
 
@@ -14,12 +13,14 @@ pub const ROW: usize = 21;
 /// Puts wild numbers into a few words of the record, whatever that breaks.
 pub fn scramble(r: &mut Random, s: &mut State) {
     let mut words = words(s);
-    let times = r.pick(&[1, 1, 2, 3, 16]);
-    drawn::scramble(r, &mut words, times);
+    for _ in 0..r.pick(&[1, 1, 2, 3, 16]) {
+        let place = r.range(0, 15) as usize;
+        words[place] = wild(r, words[place]);
+    }
     *s = state_of(&words);
 }
 
-/// Breaks one condition, and no other where that can be. Numbers as in `model::conditions`.
+/// Breaks one condition, and no other where that can be. Numbers as in `model::CONDITIONS`.
 pub fn break_one(r: &mut Random, s: &mut State, condition: usize) {
     let set = &mut s.settings;
     match condition {
@@ -34,17 +35,43 @@ pub fn break_one(r: &mut Random, s: &mut State, condition: usize) {
         8 => s.accumulated = above(r, s.accumulated, HIGH),
         9 => s.old_delay = above(r, s.old_delay, DELAY_MAX),
         13 => s.first = above(r, s.first, s.settings.slots - 1),
-        14..=17 => {
-            let State { count, bytes, settings, .. } = s;
-            let (buffer, slots) = (&mut settings.buffer, settings.slots);
-            break_backlog(r, Backlog { count, bytes, buffer, slots }, condition - 14);
-        }
+        14..=17 => break_queue(r, s, condition),
         _ => break_activity(r, s, condition),
     }
     if condition == 1 && r.one_in(4) {
         s.settings.buffer = 0;
         (s.count, s.bytes) = (0, 0);
     }
+}
+
+fn break_queue(r: &mut Random, s: &mut State, condition: usize) {
+    if r.one_in(8) {
+        // Far outside; more than one condition breaks.
+        let field = r.pick(&[0, 1]);
+        *(if field == 0 { &mut s.count } else { &mut s.bytes }) = wild(r, s.count);
+        return;
+    }
+    match condition {
+        14 => {
+            s.count = s.settings.slots + 1;
+            s.bytes = s.bytes.max(s.count);
+        }
+        15 => {
+            s.count = s.count.max(1);
+            s.bytes = s.count - 1;
+        }
+        16 => {
+            s.count = s.count.min(255);
+            s.bytes = SIZE.1 * s.count + 1;
+        }
+        _ => {
+            s.count = s.count.max(1);
+            s.bytes = s.bytes.max(2).max(s.count);
+            s.settings.buffer = s.bytes - 1;
+            return;
+        }
+    }
+    s.settings.buffer = s.settings.buffer.max(s.bytes);
 }
 
 /// Allowance, reset time and activity, alone and in what they ask of each other.

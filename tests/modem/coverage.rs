@@ -40,14 +40,14 @@ impl Covered for Modem {
     const NO_BURST: &'static [&'static str] = &["ready: calm", "ready: marked"];
 
     fn conditions() -> Vec<String> {
-        owned(&model::conditions(&State::default(), &[0; 5]).map(|(name, _)| name))
+        owned(&model::CONDITIONS)
     }
 
     /// Those of a flow that has a row.
     fn holding(before: &Side, call: &Call) -> Option<Vec<bool>> {
         let s = &before.state;
         let row = s.counts.get(call.to as usize)?;
-        Some(model::conditions(&s.record, row).map(|(_, holds)| holds).to_vec())
+        Some(model::conditions(&s.record, row).to_vec())
     }
 
     fn rule(before: &Side, call: &Call, _: &Side) -> usize {

@@ -1,5 +1,13 @@
 //! Compares the library's modem with a model of its rules, call by call.
-//! Its words stand in `shared::program`.
+//!
+//!   modem               the fixed seed; the same calls each time
+//!   modem counts        the same, and prints how often each thing was reached
+//!   modem seed N        one round with the seed N
+//!   modem soak SECONDS  rounds with new seeds until the time is over
+//!   modem guard         calls with memory that stands beside or between guarded pages
+//!
+//! It ends with 1 at the first difference, with 2 if calls but a soak's did not reach everything, and
+//! with 3 if it was not understood.
 
 mod aims;
 mod broken;

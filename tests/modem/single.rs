@@ -6,7 +6,6 @@ use crate::kind::{self, Call, Modem, Side};
 use crate::model::numbers::*;
 use crate::model::{self, Row, Settings, State};
 use crate::shared::bursts::{Bursting, Standing};
-use crate::shared::drawn;
 use crate::shared::kind::{Arriving, Refusals, What};
 use crate::shared::numbers;
 use crate::shared::pair::Failure;
@@ -131,7 +130,7 @@ fn aim(r: &mut Random, what: Do, size: u32, s: &mut State) -> u32 {
 /// The row of the call's flow; record and row are broken where refusal 2 is wanted.
 fn damage(r: &mut Random, what: Do, wanted: &Refusals, s: &mut State) -> Row {
     let full = wanted[8] || (what != Do::Arrival && r.one_in(8));
-    let mut row = if full { numbers::split(r, COUNTS_MAX) } else { drawn::sound_counts(r) };
+    let mut row = if full { numbers::split(r, COUNTS_MAX) } else { states::sound_row(r) };
     if wanted[2] && r.one_in(6) {
         broken::scramble(r, s);
     } else if wanted[2] {

@@ -2,7 +2,6 @@
 
 use crate::model::numbers::*;
 use crate::model::{Counts, Row, State};
-use crate::shared::drawn;
 use crate::shared::numbers::split;
 use crate::shared::random::Random;
 
@@ -11,7 +10,7 @@ pub fn well_formed(r: &mut Random) -> State {
     let mut s = State::default();
     settings(r, &mut s);
     queue(r, &mut s);
-    (s.clock, s.last) = drawn::clocks(r, 16_000);
+    clocks(r, &mut s);
     control(r, &mut s);
     activity(r, &mut s);
     s
@@ -23,7 +22,12 @@ fn settings(r: &mut Random, s: &mut State) {
     set.target = r.pick(&[1_000, 1_001, 4_999, 10_000, 10_000, 10_001, 99_999, 100_000, any, any]);
     let (any, most) = (r.spread(1, BUFFER.1), BUFFER.1);
     set.buffer = r.pick(&[1, 2, 3, 2_048, 6_144, 30_000, any, any, most - 1, most, most, most]);
-    set.slots = drawn::slots(r);
+    set.slots = match r.range(0, 299) {
+        0 => r.pick(&[65_535, 65_536]),
+        1..=9 => r.range(100, 400),
+        10..=14 => 1_024 * r.range(1, 4), // tables of whole pages
+        _ => r.pick(&[1, 2, 3, 4, 5, 8, 17]),
+    };
     (set.peak, set.sustained) = (rate(r), rate(r));
     if r.one_in(8) {
         set.peak = set.sustained;
@@ -51,6 +55,14 @@ fn queue(r: &mut Random, s: &mut State) {
     }
     let (any, last) = (r.range(0, s.settings.slots - 1), s.settings.slots - 1);
     s.first = r.pick(&[0, last, any, any]);
+}
+
+fn clocks(r: &mut Random, s: &mut State) {
+    let (any, small) = (r.range(0, CLOCK_MAX), r.spread(0, CLOCK_MAX));
+    let list = [0, 1, 16_000, CLOCK_MAX, CLOCK_MAX - 1, CLOCK_MAX - 16_000, any, any, small, small];
+    s.clock = r.pick(&list);
+    let ago = r.spread(0, s.clock);
+    s.last = s.clock.saturating_sub(r.pick(&[0, 1, 15_999, 16_000, 16_001, ago, ago]));
 }
 
 fn control(r: &mut Random, s: &mut State) {
@@ -118,4 +130,9 @@ pub fn counts(r: &mut Random, flow: u32, row: Row) -> Counts {
         *own = row;
     }
     counts
+}
+
+pub fn sound_row(r: &mut Random) -> Row {
+    let sum = r.pick(&[0, 1, 5, COUNTS_MAX - 1, 1_000_000, COUNTS_MAX / 2]);
+    split(r, sum)
 }

@@ -4,8 +4,7 @@ use crate::broken_queue::break_queue;
 use crate::model::formed::{common_slots, common_use, CONDITIONS, QUEUE_CONDITIONS};
 use crate::model::numbers::*;
 use crate::model::Records;
-use crate::shared::drawn;
-use crate::shared::numbers::{above, outside};
+use crate::shared::numbers::{above, outside, wild};
 use crate::shared::random::Random;
 use crate::words::{queue_of, queue_words, shared_of, shared_words};
 
@@ -15,14 +14,21 @@ pub fn scramble(r: &mut Random, records: &mut Records) {
     match r.range(0, 2) as usize {
         2 => {
             let mut words = shared_words(&records.shared);
-            drawn::scramble(r, &mut words, times);
+            scramble_words(r, &mut words, times);
             records.shared = shared_of(&words);
         }
         queue => {
             let mut words = queue_words(&records.queues[queue]);
-            drawn::scramble(r, &mut words, times);
+            scramble_words(r, &mut words, times);
             records.queues[queue] = queue_of(&words);
         }
+    }
+}
+
+fn scramble_words(r: &mut Random, words: &mut [u64], times: u64) {
+    for _ in 0..times {
+        let place = r.range(0, words.len() as u64 - 1) as usize;
+        words[place] = wild(r, words[place]);
     }
 }
 

@@ -5,8 +5,7 @@ use crate::model::Queue;
 use crate::shared::numbers::{above, outside, too_many, wild};
 use crate::shared::random::Random;
 
-/// Breaks one condition on a queue, and no other where that can be. Numbers as in
-/// `formed::queue_conditions`.
+/// Breaks one condition on a queue, and no other where that can be. Numbers as in `formed::OF_QUEUE`.
 pub fn break_queue(r: &mut Random, q: &mut Queue, slots: u64, condition: usize) {
     match condition {
         0 => q.target = outside(r, q.target, TARGET),

@@ -7,7 +7,7 @@
 //!   tick:      any two of 2, 4, 5
 //! Refusal 1 stands alone: it is the only one of fresh.
 
-use crate::edges::{chain, ends, rules, store};
+use crate::edges::{ends, refused, rules, store};
 use crate::kind::{arriving, fresh_call, Call, Side, Two, QUEUES};
 use crate::model::arrival::decide;
 use crate::model::formed::{condition_names, conditions};
@@ -55,7 +55,7 @@ impl Covered for Two {
     }
 
     fn holding(before: &Side, _: &Call) -> Option<Vec<bool>> {
-        Some(conditions(&before.state))
+        Some(conditions(&before.state).to_vec())
     }
 
     fn rule(before: &Side, call: &Call, _: &Side) -> usize {
@@ -92,17 +92,16 @@ impl Covered for Two {
             list("slots at an arrival", About::Arrivals, BOTH, store::slots),
             list("place of an arrival", About::Arrivals, BOTH, store::entering),
             list("damage that an arrival does not see", About::Arrivals, SINGLE, store::entering_damaged),
-            list("arrival refused by 9", About::WrongArrivals, SINGLE, |b, c, a| store::refused(chain::entering_refused, b, c, a)),
+            list("arrival refused by 9", About::WrongArrivals, SINGLE, refused::arrival),
             list("departure", About::Departures, BOTH, |b, c, a| rules::departure(&called(b, c, a), a.packet.size)),
             list("departure, edges of rules", About::Departures, SINGLE,
                 |b, c, a| rules::departure_edges(&called(b, c, a), a.packet.size)),
             list("place of a departure", About::Departures, BOTH, store::leaving),
-            list("damage that a departure does not see", About::Departures, SINGLE,
-                |b, c, a| chain::leaving_damaged(&store::chain(b, c, a))),
-            list("departure refused by 9", About::WrongDepartures, SINGLE, |b, c, a| store::refused(chain::leaving_refused, b, c, a)),
+            list("damage that a departure does not see", About::Departures, SINGLE, store::leaving_damaged),
+            list("departure refused by 9", About::WrongDepartures, SINGLE, refused::departure),
             list("tick", About::Ticks, BOTH, |b, c, a| rules::tick(&called(b, c, a))),
             list("end of a range", About::Sound, SINGLE, ends::ends),
-            list("tables of whole pages", About::Sound, BOTH, |b, c, a| chain::whole_pages(&store::chain(b, c, a))),
+            list("tables of whole pages", About::Sound, BOTH, ends::whole_pages),
         ]
     }
 

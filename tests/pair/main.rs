@@ -1,5 +1,14 @@
 //! Compares the library's pair of queues with a model of its rules, call by call.
-//! Its words stand in `shared::program`; `pair script` answers the script on standard input by the model.
+//!
+//!   pair               the fixed seed; the same calls each time
+//!   pair counts        the same, and prints how often each thing was reached
+//!   pair seed N        one round with the seed N
+//!   pair soak SECONDS  rounds with new seeds until the time is over
+//!   pair guard         calls with memory that stands beside or between guarded pages
+//!   pair script        answers the script on standard input by the model
+//!
+//! It ends with 1 at the first difference, with 2 if calls but a soak's did not reach everything, and
+//! with 3 if it was not understood.
 
 mod aims;
 mod alone;
@@ -39,7 +48,7 @@ fn main() {
         batches: 500,
         runs: 4 * plans::KINDS,
         guarded: (60, plans::KINDS),
-        figures: ("the page's worked cases", shared::worked::run),
+        figures: ("the page's worked cases", worked::run),
     };
     round.main();
 }

@@ -13,12 +13,12 @@ use crate::shared::coverage::Coverage;
 use crate::shared::flow::Flow;
 use crate::shared::kind::{Arriving, Kind, What};
 use crate::shared::lend::Lender;
-use crate::shared::numbers::split;
 use crate::shared::pair::{Failure, Pair};
 use crate::shared::random::Random;
 use crate::shared::runs::{phase_calls, Run, Running};
 use crate::shared::shadow::{sound, Shadow};
 use crate::shared::traffic::{Phase, Traffic};
+use crate::states;
 
 /// Calls of one run, and of one with 65,536 slots.
 const CALLS: (u64, u64) = (40_000, 8_000);
@@ -140,7 +140,7 @@ fn begin<'a>(
         pair.noted(&fresh_call(slots, settings), coverage)?;
     }
     for (queue, plan) in plans.iter().enumerate().filter(|(_, plan)| plan.arrivals_left > 0) {
-        let counts = split(r, COUNTS_MAX - plan.arrivals_left);
+        let counts = states::split(r, COUNTS_MAX - plan.arrivals_left);
         pair.change(|side| side.state.queues[queue].verdicts = counts);
     }
     Ok(pair)

@@ -10,7 +10,7 @@ use crate::model::numbers::*;
 use crate::model::{Queue, Records, Settings};
 use crate::shared::bursts::{Bursting, Standing};
 use crate::shared::kind::{Arriving, Refusals};
-use crate::shared::numbers::{around_ends, split};
+use crate::shared::numbers::around_ends;
 use crate::shared::pair::Failure;
 use crate::shared::random::Random;
 use crate::shared::single::{self, some_refusals, Do, Drawn};
@@ -114,7 +114,7 @@ fn prepare(r: &mut Random, what: Do, wanted: &Refusals, q: &mut Queue) {
         (q.count, q.bytes) = (1, q.buffer.min(r.spread(1, SIZE.1)));
     }
     if wanted[8] || (what != Do::Arrival && r.one_in(8)) {
-        q.verdicts = split(r, COUNTS_MAX);
+        q.verdicts = states::split(r, COUNTS_MAX);
     }
     if what == Do::Arrival && wanted[9] && r.one_in(2) {
         q.allowance = FULL_ALLOWANCE;

@@ -2,8 +2,8 @@
 
 use crate::model::numbers::*;
 use crate::model::{self, Queue, Records};
-use crate::shared::drawn;
 use crate::shared::kind::{Arriving, View};
+pub use crate::shared::numbers::split;
 use crate::shared::random::Random;
 
 /// Slots, counts and all that is not storage. Reserves and places come from `layout::lay_out`, together
@@ -20,7 +20,7 @@ pub fn records(r: &mut Random) -> Records {
         clocks(r, q);
         control(r, q);
         measurement(r, q);
-        q.verdicts = drawn::sound_counts(r);
+        q.verdicts = sound_counts(r);
         left -= q.count;
     }
     records
@@ -59,7 +59,11 @@ fn contents(r: &mut Random, q: &mut Queue, left: u64) {
 }
 
 pub fn clocks(r: &mut Random, q: &mut Queue) {
-    (q.clock, q.last) = drawn::clocks(r, TICK_PERIOD);
+    let (any, small) = (r.range(0, CLOCK_MAX), r.spread(0, CLOCK_MAX));
+    let list = [0, 1, 15_000, CLOCK_MAX, CLOCK_MAX - 1, CLOCK_MAX - 15_000, any, any, small, small];
+    q.clock = r.pick(&list);
+    let ago = r.spread(0, q.clock);
+    q.last = q.clock.saturating_sub(r.pick(&[0, 1, 14_999, 15_000, 15_001, ago, ago]));
 }
 
 pub fn control(r: &mut Random, q: &mut Queue) {
@@ -100,7 +104,17 @@ pub fn measurement(r: &mut Random, q: &mut Queue) {
     if q.count == 0 || r.one_in(3) {
         return;
     }
-    (q.measuring, q.start, q.counted) = drawn::measurement(r, q.clock);
+    q.measuring = r.pick(&[1, 1, 1, 1, 2, 256, 1 << 32, 1 << 63, u64::MAX]);
+    let ago = r.spread(0, q.clock);
+    let list = [0, 1, 2, TIME_MAX - 1, TIME_MAX, TIME_MAX + 1, ago, ago, q.clock];
+    q.start = q.clock.saturating_sub(r.pick(&list));
+    let any = r.range(0, RATE_THRESHOLD - 1);
+    q.counted = r.pick(&[0, 1, 16_382, 16_383, any, any]);
+}
+
+pub fn sound_counts(r: &mut Random) -> [u64; 5] {
+    let sum = r.pick(&[0, 1, 5, COUNTS_MAX - 1, 1_000_000, COUNTS_MAX / 2]);
+    split(r, sum)
 }
 
 /// The model's arguments of an arrival.

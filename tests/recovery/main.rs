@@ -7,8 +7,8 @@
 //!
 //! It ends with 1 where the library's number is below the worst, or above 1.1 times it and 8.
 
-#[allow(dead_code, unused_imports)]
-#[path = "../ring/model/mod.rs"]
+#[allow(dead_code)]
+#[path = "../ring/model.rs"]
 mod model;
 #[allow(dead_code)]
 #[path = "../shared/random.rs"]

@@ -3,20 +3,21 @@
 use crate::kind::{state_of, words};
 use crate::library::WORDS;
 use crate::model::{self, State, CLOCK_MAX, FORCED, TIME_MAX, WHOLE};
-use crate::shared::drawn::{self, break_backlog, Backlog};
-use crate::shared::numbers::{above, outside, too_many};
+use crate::shared::numbers::{above, outside, too_many, wild};
 use crate::shared::random::Random;
 use crate::states::{activate, empty, measurement, probability};
 
 /// Puts wild numbers into a few words of the state, whatever that breaks.
 pub fn scramble(r: &mut Random, s: &mut State) {
     let mut words = words(s);
-    let times = r.pick(&[1, 1, 2, 3, WORDS]);
-    drawn::scramble(r, &mut words, times);
+    for _ in 0..r.pick(&[1, 1, 2, 3, WORDS]) {
+        let place = r.range(0, WORDS as u64 - 1) as usize;
+        words[place] = wild(r, words[place]);
+    }
     *s = state_of(&words);
 }
 
-/// Breaks one condition, and no other where that can be. Numbers as in `model::conditions`.
+/// Breaks one condition, and no other where that can be. Numbers as in `model::CONDITIONS`.
 pub fn break_one(r: &mut Random, s: &mut State, condition: usize) {
     match condition {
         0 => s.target = outside(r, s.target, model::TARGET),
@@ -32,10 +33,7 @@ pub fn break_one(r: &mut Random, s: &mut State, condition: usize) {
         7 => s.allowance = above(r, s.allowance, 150_000),
         8 => s.average = above(r, s.average, TIME_MAX),
         9 => s.first = above(r, s.first, s.slots - 1),
-        10..=13 => {
-            let State { count, bytes, buffer, slots, .. } = s;
-            break_backlog(r, Backlog { count, bytes, buffer, slots: *slots }, condition - 10);
-        }
+        10..=13 => break_queue(r, s, condition),
         14..=18 => break_measurement(r, s, condition),
         19 => s.accumulated = above(r, s.accumulated, FORCED - 1),
         20 => {
@@ -53,6 +51,36 @@ pub fn break_one(r: &mut Random, s: &mut State, condition: usize) {
     if condition == 1 && r.one_in(4) {
         s.buffer = 0;
         empty(s);
+    }
+}
+
+fn break_queue(r: &mut Random, s: &mut State, condition: usize) {
+    if r.one_in(8) {
+        // Far outside; more than one condition breaks.
+        let field = r.pick(&[0, 1]);
+        *(if field == 0 { &mut s.count } else { &mut s.bytes }) = wild(r, s.count);
+        return;
+    }
+    match condition {
+        10 => {
+            s.count = s.slots + 1;
+            s.bytes = s.bytes.max(s.count);
+            s.buffer = s.buffer.max(s.bytes);
+        }
+        11 => {
+            s.count = s.count.max(1);
+            s.bytes = s.count - 1;
+        }
+        12 => {
+            s.count = s.count.min(255);
+            s.bytes = 65_535 * s.count + 1;
+            s.buffer = s.buffer.max(s.bytes);
+        }
+        _ => {
+            s.count = s.count.max(1);
+            s.bytes = s.bytes.max(2).max(s.count);
+            s.buffer = s.bytes - 1;
+        }
     }
 }
 

@@ -10,7 +10,7 @@
 use crate::calm;
 use crate::events;
 use crate::kind::{arriving, Call, Ring, Side};
-use crate::model::{self, Asked, State};
+use crate::model::{self, Asked};
 use crate::shared::coverage::{list, About, Covered, List, BOTH, SINGLE};
 use crate::shared::groups::owned;
 use crate::shared::kind::{Arriving, Lent};
@@ -35,11 +35,11 @@ impl Covered for Ring {
     const NO_BURST: &'static [&'static str] = &["a flow above 15"];
 
     fn conditions() -> Vec<String> {
-        owned(&model::conditions(&State::default()).map(|(name, _)| name))
+        owned(&model::CONDITIONS)
     }
 
     fn holding(before: &Side, _: &Call) -> Option<Vec<bool>> {
-        Some(model::conditions(&before.state).map(|(_, holds)| holds).to_vec())
+        Some(model::conditions(&before.state).to_vec())
     }
 
     fn rule(before: &Side, call: &Call, _: &Side) -> usize {
@@ -58,30 +58,16 @@ impl Covered for Ring {
     fn lists() -> Vec<List<Ring>> {
         let list = list::<Ring>;
         vec![
-            list("fresh", About::Fresh, BOTH, events::fresh),
-            list("arrival", About::Arrivals, BOTH, events::arrival),
-            list("departure", About::Departures, BOTH, events::departure),
             list("measurement", About::Departures, BOTH, events::measurement),
-            list("tick", About::Ticks, BOTH, events::tick),
-            list("last clock", About::Accepted, BOTH, events::last_clock),
-            list("allowance at a tick", About::Ticks, SINGLE, events::small_allowance),
-            list("word of a measurement", About::Accepted, SINGLE, events::word_kept),
-            list("bytes that a departure leaves", About::Departures, SINGLE, events::left_bytes),
-            list("head refused", About::WrongDepartures, SINGLE, events::wrong_head),
+            list("event", About::All, BOTH, events::events),
+            list("event of single calls", About::All, SINGLE, events::singles),
             list("end of a range", About::Sound, SINGLE, events::ends),
             list("tables of whole pages", About::Accepted, BOTH, events::whole_pages),
             list("early packet beside one tenth", About::Arrivals, SINGLE, events::early),
             list("measurement, few packets left", About::Departures, SINGLE, events::given_up),
             list("sum of probabilities", About::Arrivals, SINGLE, events::sums),
-            list("calm profile, fresh refused", About::All, SINGLE, calm::fresh_refused),
-            list("calm profile, arrival", About::Arrivals, BOTH, |b, c, a| calm::arrival(b, c, a).0),
-            list("calm profile, arrival, edges", About::Arrivals, SINGLE, |b, c, a| calm::arrival(b, c, a).1),
-            list("calm profile, departure", About::Departures, BOTH, |b, _, a| calm::departure(b, a).0),
-            list("calm profile, departure, edges", About::Departures, SINGLE, |b, _, a| calm::departure(b, a).1),
-            list("calm profile, inactive tick", About::Ticks, BOTH, |b, _, _| calm::idle_tick(b).0),
-            list("calm profile, inactive tick, edge", About::Ticks, SINGLE, |b, _, _| calm::idle_tick(b).1),
-            list("calm profile, tick", About::Ticks, BOTH, |b, _, a| calm::tick(b, a).0),
-            list("calm profile, tick, edges", About::Ticks, SINGLE, |b, _, a| calm::tick(b, a).1),
+            list("calm profile", About::All, BOTH, |b, c, a| events::named(&calm::CALM_EVENTS, calm::found(b, c, a).0)),
+            list("calm profile, edges", About::All, SINGLE, |b, c, a| events::named(&calm::CALM_EDGES, calm::found(b, c, a).1)),
         ]
     }
 

@@ -1,17 +1,75 @@
 //! Names the things that happen at a call, from the state before it and the state after it.
 
+use crate::calm;
 use crate::kind::{arriving, Call, Side};
 use crate::model::{self, Rule, State};
 use crate::shared::area::PAGE;
-use crate::shared::coverage::{only, Found};
+use crate::shared::coverage::Found;
 use crate::shared::kind::What;
 
-pub fn fresh(_: &Side, call: &Call, _: &Side) -> Found {
-    let calm = matches!(call.what, What::Fresh(asked) if asked.profile == model::CALM);
-    vec![("fresh accepted", true), ("calm queue made", calm)]
+const EVENTS: [&str; 25] = [
+    "fresh accepted",
+    "allowance loses 15,000",
+    "allowance stays at 0",
+    "allowance filled by rule 8",
+    "probability loses 1/64 by rule 5",
+    "probability limited to 0",
+    "probability limited to 2^32",
+    "delay limited to 10,000,000",
+    "sample raised to 1",
+    "sample limited to 10,000,000",
+    "sample becomes the average",
+    "sample mixed into the average",
+    "tail written below the head",
+    "head goes from the last place to 0",
+    "queue left empty",
+    "last slot taken",
+    "queue of one slot",
+    "queue of 65,536 slots",
+    "tick exactly when due",
+    "clock 2^48 accepted",
+    "ECN-capable packet dropped early",
+    "sum set to 0 by a drop",
+    "sum set to 0 by a mark",
+    "dropped early though u is not below the probability",
+    "marked though u is not below the probability",
+];
+
+const SINGLE_EVENTS: [&str; 9] = [
+    "allowance below 15,000 becomes 0",
+    "measuring other than 0 and 1 left as it is",
+    "head of size 0 refused",
+    "head above 65,535 refused",
+    "head refused: bytes would be below 0",
+    "head refused: bytes would be below count",
+    "head refused: bytes would be above 65,535 x count",
+    "head leaves bytes = count",
+    "head leaves bytes = 65,535 x count",
+];
+
+/// The names of a list, and which of them were found, by their places.
+pub fn named(names: &[&'static str], found: calm::Found) -> Found {
+    let mut all: Found = names.iter().map(|&name| (name, false)).collect();
+    for (holds, label) in found {
+        all[label].1 |= holds;
+    }
+    all
 }
 
-pub fn arrival(before: &Side, call: &Call, after: &Side) -> Found {
+pub fn events(before: &Side, call: &Call, after: &Side) -> Found {
+    let (b, a) = (&before.state, &after.state);
+    let found = match call.what {
+        _ if after.answer >= 100 => Vec::new(),
+        What::Fresh(_) => vec![(true, 0)],
+        What::Arrival(_) => arrival(before, call, after),
+        What::Departure => departure(b, a),
+        What::Tick(_) if b.active != 0 => tick(b, a),
+        What::Tick(_) => Vec::new(),
+    };
+    named(&EVENTS, found)
+}
+
+fn arrival(before: &Side, call: &Call, after: &Side) -> calm::Found {
     let (b, a, p) = (&before.state, &after.state, call.packet());
     let admitted = a.count > b.count;
     let (marked, dropped) = (after.answer == 1, after.answer == 4);
@@ -19,93 +77,78 @@ pub fn arrival(before: &Side, call: &Call, after: &Side) -> Found {
     let reset = begun.accumulated > 0 && a.accumulated == 0;
     let forced = u64::from(p.u) >= begun.probability;
     vec![
-        ("tail written below the head", admitted && b.first + b.count >= b.slots),
-        ("last slot taken", admitted && a.count == a.slots),
-        ("queue of one slot", a.slots == 1),
-        ("queue of 65,536 slots", a.slots == 65_536),
-        ("ECN-capable packet dropped early", dropped && p.ecn),
-        ("sum set to 0 by a drop", dropped && reset),
-        ("sum set to 0 by a mark", marked && reset),
-        ("dropped early though u is not below the probability", dropped && forced),
-        ("marked though u is not below the probability", marked && forced),
+        (admitted && b.first + b.count >= b.slots, 12),
+        (admitted && a.count == a.slots, 15),
+        (a.slots == 1, 16),
+        (a.slots == 65_536, 17),
+        (a.clock == model::CLOCK_MAX, 19),
+        (dropped && p.ecn, 20),
+        (dropped && reset, 21),
+        (marked && reset, 22),
+        (dropped && forced, 23),
+        (marked && forced, 24),
     ]
 }
 
-pub fn departure(before: &Side, _: &Call, after: &Side) -> Found {
-    let (b, a) = (&before.state, &after.state);
+fn departure(b: &State, a: &State) -> calm::Found {
     let ended = matches!(measured(b, a), Some(3 | 4));
     let time = a.clock.saturating_sub(b.start);
     vec![
-        ("head goes from the last place to 0", a.first == 0),
-        ("queue left empty", a.count == 0),
-        ("sample raised to 1", ended && time == 0),
-        ("sample limited to 10,000,000", ended && time > model::TIME_MAX),
-        ("sample becomes the average", ended && b.average == 0),
-        ("sample mixed into the average", ended && b.average != 0),
+        (a.first == 0, 13),
+        (a.count == 0, 14),
+        (ended && time == 0, 8),
+        (ended && time > model::TIME_MAX, 9),
+        (ended && b.average == 0, 10),
+        (ended && b.average != 0, 11),
     ]
 }
 
-/// A tick of an active queue.
-pub fn tick(before: &Side, _: &Call, after: &Side) -> Found {
-    let (b, a) = (&before.state, &after.state);
+fn tick(b: &State, a: &State) -> calm::Found {
     let delay = model::queueing_delay(b);
     let p = b.probability as i64 + model::step_taken(b, delay);
-    let found = vec![
-        ("allowance loses 15,000", b.allowance >= 15_000 && a.allowance == b.allowance - 15_000),
-        ("allowance stays at 0", b.allowance == 0 && a.allowance == 0),
-        ("allowance filled by rule 8", b.allowance < 150_000 && a.allowance == 150_000),
-        ("probability loses 1/64 by rule 5", delay == 0 && b.old_delay == 0 && p >= 64),
-        ("probability limited to 0", p < 0),
-        ("probability limited to 2^32", p > model::WHOLE as i64),
-        ("delay limited to 10,000,000", b.bytes * b.average / 16_384 > model::TIME_MAX),
-        ("tick exactly when due", a.clock == b.last + 15_000),
-    ];
-    only(b.active != 0, found)
-}
-
-/// The last clock of all, at an arrival or a tick.
-pub fn last_clock(_: &Side, call: &Call, after: &Side) -> Found {
-    let last = after.state.clock == model::CLOCK_MAX;
-    vec![("clock 2^48 accepted", last && !matches!(call.what, What::Departure))]
-}
-
-pub fn small_allowance(before: &Side, _: &Call, after: &Side) -> Found {
-    let (b, a) = (before.state.allowance, after.state.allowance);
-    vec![("allowance below 15,000 becomes 0", b > 0 && b < 15_000 && a == 0)]
-}
-
-pub fn word_kept(before: &Side, _: &Call, after: &Side) -> Found {
-    let (b, a) = (before.state.measuring, after.state.measuring);
-    vec![("measuring other than 0 and 1 left as it is", b > 1 && a == b)]
-}
-
-pub fn left_bytes(_: &Side, _: &Call, after: &Side) -> Found {
-    let a = &after.state;
     vec![
-        ("head leaves bytes = count", a.count > 0 && a.bytes == a.count),
-        ("head leaves bytes = 65,535 x count", a.count > 0 && a.bytes == 65_535 * a.count),
+        (b.allowance >= 15_000 && a.allowance == b.allowance - 15_000, 1),
+        (b.allowance == 0 && a.allowance == 0, 2),
+        (b.allowance < 150_000 && a.allowance == 150_000, 3),
+        (delay == 0 && b.old_delay == 0 && p >= 64, 4),
+        (p < 0, 5),
+        (p > model::WHOLE as i64, 6),
+        (b.bytes * b.average / 16_384 > model::TIME_MAX, 7),
+        (a.clock == b.last + 15_000, 18),
+        (a.clock == model::CLOCK_MAX, 19),
     ]
 }
 
-/// What refusal 9 finds at a head.
-pub fn wrong_head(before: &Side, _: &Call, _: &Side) -> Found {
+pub fn singles(before: &Side, call: &Call, after: &Side) -> Found {
+    let (b, a) = (&before.state, &after.state);
+    let mut found = Vec::new();
+    if after.answer < 100 && !call.is_fresh() {
+        found.push((b.allowance > 0 && b.allowance < 15_000 && a.allowance == 0, 0));
+        found.push((b.measuring > 1 && a.measuring == b.measuring, 1));
+    }
+    match (&call.what, after.answer) {
+        (What::Departure, 109) => found.extend(wrong_head(before)),
+        (What::Departure, 0) => {
+            found.push((a.count > 0 && a.bytes == a.count, 7));
+            found.push((a.count > 0 && a.bytes == 65_535 * a.count, 8));
+        }
+        _ => {}
+    }
+    named(&SINGLE_EVENTS, found)
+}
+
+fn wrong_head(before: &Side) -> calm::Found {
     let s = &before.state;
     let size = u64::from(before.sizes[s.first as usize]);
     let plain = (1..=65_535).contains(&size);
     let count = s.count - 1;
     let left = s.bytes.checked_sub(size);
     vec![
-        ("head of size 0 refused", size == 0),
-        ("head above 65,535 refused", size > 65_535),
-        ("head refused: bytes would be below 0", plain && left.is_none()),
-        (
-            "head refused: bytes would be below count",
-            plain && left.map_or(false, |bytes| bytes < count),
-        ),
-        (
-            "head refused: bytes would be above 65,535 x count",
-            plain && left.map_or(false, |bytes| bytes > 65_535 * count),
-        ),
+        (size == 0, 2),
+        (size > 65_535, 3),
+        (plain && left.is_none(), 4),
+        (plain && left.map_or(false, |bytes| bytes < count), 5),
+        (plain && left.map_or(false, |bytes| bytes > 65_535 * count), 6),
     ]
 }
 

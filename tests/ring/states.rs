@@ -1,7 +1,7 @@
 //! Random well-formed states, near the ends of every range.
 
-use crate::model::{self, State, BANDS, FORCED, TENTH, TIME_MAX, WHOLE};
-use crate::shared::drawn;
+use crate::model::{self, State, BANDS, CLOCK_MAX, FORCED, TENTH, TIME_MAX, WHOLE};
+use crate::shared::numbers::split;
 use crate::shared::random::Random;
 
 /// A well-formed state.
@@ -9,10 +9,11 @@ pub fn well_formed(r: &mut Random) -> State {
     let mut s = State::default();
     settings(r, &mut s);
     queue(r, &mut s);
-    (s.clock, s.last) = drawn::clocks(r, 15_000);
+    clocks(r, &mut s);
     control(r, &mut s);
     measurement(r, &mut s);
-    s.verdicts = drawn::sound_counts(r);
+    let sum = r.pick(&[0, 1, 5, CLOCK_MAX - 1, 1_000_000, CLOCK_MAX / 2]);
+    s.verdicts = split(r, sum);
     activity(r, &mut s);
     s
 }
@@ -37,7 +38,12 @@ fn settings(r: &mut Random, s: &mut State) {
     let any = r.spread(1, model::BUFFER.1);
     let most = model::BUFFER.1;
     s.buffer = r.pick(&[1, 2, 2_999, 3_001, 64_000, any, any, most - 1, most, most, most]);
-    s.slots = drawn::slots(r);
+    s.slots = match r.range(0, 299) {
+        0 => r.pick(&[65_535, 65_536]),
+        1..=9 => r.range(100, 400),
+        10..=14 => 1_024 * r.range(1, 4), // tables of whole pages
+        _ => r.pick(&[1, 2, 3, 4, 5, 8, 17]),
+    };
 }
 
 fn queue(r: &mut Random, s: &mut State) {
@@ -55,6 +61,14 @@ fn queue(r: &mut Random, s: &mut State) {
     }
     let any = r.range(0, s.slots - 1);
     s.first = r.pick(&[0, s.slots - 1, any, any]);
+}
+
+fn clocks(r: &mut Random, s: &mut State) {
+    let (any, small) = (r.range(0, CLOCK_MAX), r.spread(0, CLOCK_MAX));
+    let list = [0, 1, 15_000, CLOCK_MAX, CLOCK_MAX - 1, CLOCK_MAX - 15_000, any, any, small, small];
+    s.clock = r.pick(&list);
+    let ago = r.spread(0, s.clock);
+    s.last = s.clock.saturating_sub(r.pick(&[0, 1, 14_999, 15_000, 15_001, ago, ago]));
 }
 
 fn control(r: &mut Random, s: &mut State) {
@@ -98,7 +112,12 @@ pub fn measurement(r: &mut Random, s: &mut State) {
     if s.count == 0 || r.one_in(3) {
         return;
     }
-    (s.measuring, s.start, s.counted) = drawn::measurement(r, s.clock);
+    s.measuring = r.pick(&[1, 1, 1, 1, 2, 256, 1 << 32, 1 << 63, u64::MAX]);
+    let ago = r.spread(0, s.clock);
+    let list = [0, 1, 2, TIME_MAX - 1, TIME_MAX, TIME_MAX + 1, ago, ago, s.clock];
+    s.start = s.clock.saturating_sub(r.pick(&list));
+    let any = r.range(0, 16_383);
+    s.counted = r.pick(&[0, 1, 16_382, 16_383, any, any]);
 }
 
 /// Changes a well-formed state so that arrival rules 4 to 7 decide, near their edges.

@@ -53,20 +53,6 @@ impl Groups {
         self.0.push(Group { name, labels, counts, needed });
     }
 
-    /// The place of a group.
-    pub fn place(&self, name: &str) -> usize {
-        let place = self.0.iter().position(|group| group.name == name);
-        place.unwrap_or_else(|| panic!("there is no group '{name}'"))
-    }
-
-    /// Gives the labels of a group their names.
-    pub fn name<'a>(&mut self, group: usize, names: impl Iterator<Item = &'a str>) {
-        let labels = &mut self.0[group].labels;
-        for (label, name) in labels.iter_mut().zip(names).filter(|(label, name)| label != name) {
-            *label = name.to_string();
-        }
-    }
-
     pub fn hit(&mut self, group: usize, label: usize) {
         self.0[group].counts[label] += 1;
     }

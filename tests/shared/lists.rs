@@ -5,11 +5,6 @@ use super::kind::{CallOf, Kind, SideOf};
 /// Names, each with whether it happened.
 pub type Found = Vec<(&'static str, bool)>;
 
-/// The names, found only where this holds.
-pub fn only(holds: bool, found: Found) -> Found {
-    found.into_iter().map(|(label, happened)| (label, holds && happened)).collect()
-}
-
 /// The calls that a list is about.
 #[derive(Clone, Copy, PartialEq)]
 pub enum About {

@@ -1,13 +1,5 @@
-//! The program of a comparison: single calls, long runs and the papers' figures. For a kind of queue:
-//!
-//!   KIND               the fixed seed; the same calls each time
-//!   KIND counts        the same, and prints how often each thing was reached
-//!   KIND seed N        one round with the seed N
-//!   KIND soak SECONDS  rounds with new seeds until the time is over
-//!   KIND guard         calls with memory that stands beside or between guarded pages
-//!
-//! It ends with 1 at the first difference, with 2 if calls but a soak's did not reach everything, and
-//! with 3 if it was not understood.
+//! The program of a comparison: single calls, long runs and the papers' figures, on the fixed seed, on
+//! new seeds, or in guarded memory.
 
 use super::bursts::{self, Bursting};
 use super::coverage::Coverage;

@@ -5,7 +5,6 @@ ghost use Rattle.compare.specs.Compare.{compare};
 ghost use Rattle.compare.specs.Codes.{code_of, words_of};
 
 use log::Refusal;
-use refusals::REFUSED;
 
 mod comparing;
 mod longer;
@@ -46,11 +45,11 @@ pub extern "C" fn obikuteru_compare(first: &[u8], second: &[u8], words: &mut [u6
     match found {
         Compared::RefusedFirst(refusal) => {
             *words = [1, 0, 0, 0];
-            REFUSED + refusal.number()
+            100 + refusal.number()
         }
         Compared::RefusedSecond(refusal) => {
             *words = [2, 0, 0, 0];
-            REFUSED + refusal.number()
+            100 + refusal.number()
         }
         Compared::SettingsDiffer => {
             *words = [0, 0, 0, 0];

@@ -8,8 +8,7 @@ use native.Mathlib.Omega.{arith}
 use lib.ListN.{length, take, drop, get_or, set}
 use lib.Seq.{take-suc, take-suc-set}
 
-pub put_one : (out out₀ text : List ℕ) (at i : ℕ) → at + i < length out → i < length text → take (at + i) out ≡ take at out₀ ++ take i text →
-    take (at + (i + 1)) (set out (at + i) (get_or text i 0)) ≡ take at out₀ ++ take (i + 1) text
+pub put_one : (out out₀ text : List ℕ) (at i : ℕ) → at + i < length out → i < length text → take (at + i) out ≡ take at out₀ ++ take i text → take (at + (i + 1)) (set out (at + i) (get_or text i 0)) ≡ take at out₀ ++ take (i + 1) text
 put_one out out₀ text at i h k e =
     let s : at + (i + 1) ≡ suc (at + i) = omega arith in
     rw (s, take-suc-set out (at + i) (get_or text i 0) h, e, append_assoc, add-one i, take-suc text i 0 k)

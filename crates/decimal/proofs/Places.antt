@@ -10,16 +10,14 @@ use Rattle.laws.proofs.Choice.{either}
 use Rattle.decimal.specs.Digits.{digits_of, spelled}
 use Rattle.decimal.proofs.Lists.{drop-set}
 
-pub spell_last : (places n : ℕ) (text all : List ℕ) → 0 < places → places ≤ length text → n < 10 → spelled places n (drop places text) ≡ all →
-    drop (places - 1) (set text (places - 1) (48 + n % 10)) ≡ all
+pub spell_last : (places n : ℕ) (text all : List ℕ) → 0 < places → places ≤ length text → n < 10 → spelled places n (drop places text) ≡ all → drop (places - 1) (set text (places - 1) (48 + n % 10)) ≡ all
 unfolding spelled
 spell_last zero n text all p h k e = absurd (omega arith)
 spell_last (suc m) n text all p h k e =
     let s : suc m - 1 ≡ m = omega arith in
     rw (s, drop-set text m (48 + n % 10) h) (rw (lt-ltb n 10 k) at e)
 
-pub spell_next : (places n : ℕ) (text all : List ℕ) → 0 < places → places ≤ length text → 10 ≤ n → spelled places n (drop places text) ≡ all →
-    spelled (places - 1) (n / 10) (drop (places - 1) (set text (places - 1) (48 + n % 10))) ≡ all
+pub spell_next : (places n : ℕ) (text all : List ℕ) → 0 < places → places ≤ length text → 10 ≤ n → spelled places n (drop places text) ≡ all → spelled (places - 1) (n / 10) (drop (places - 1) (set text (places - 1) (48 + n % 10))) ≡ all
 unfolding spelled
 spell_next zero n text all p h k e = absurd (omega arith)
 spell_next (suc m) n text all p h k e =

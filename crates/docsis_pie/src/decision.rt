@@ -7,8 +7,15 @@ ghost use Rattle.docsis_pie.specs.DropDecision.{after_drop, cleared, decided, dr
 
 use crate::constants::{FULL_ALLOWANCE, HIGH, LOW, MEAN_PACKET, SMALL_QUEUE};
 use crate::{Activity, Decided, DocsisPie, Phase};
-use pie::{Verdict, in_allowance};
+use pie::Verdict;
 use units::{Bytes, Micros, Prob};
+
+// Rule 3.
+pub fn in_allowance(allowance: Micros) -> bool
+    ensures { result ≡ ltb 0 allowance.0 }
+{
+    0 < allowance.0
+}
 
 // Rule 5, of the bytes: less than a third of the buffer.
 pub fn below_third(bytes: Bytes, buffer: Bytes) -> bool

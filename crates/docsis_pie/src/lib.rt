@@ -48,7 +48,9 @@ pub struct Decided {
 pub use constants::{
     DEFAULT_TARGET, FULL_ALLOWANCE, HIGH, LOW, MOST_PROB, PERIOD, RESET_TIMEOUT, SMALL_QUEUE,
 };
-pub use decision::{below_third, early, is_low, lightly_loaded, limit_sum, scaled, small, sum};
+pub use decision::{
+    below_third, early, in_allowance, is_low, lightly_loaded, limit_sum, scaled, small, sum,
+};
 pub use probability::next_prob;
 pub use queueing_delay::delay;
 pub use update::{next_allowance, quiet, timed_out};

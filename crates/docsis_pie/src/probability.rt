@@ -6,7 +6,7 @@ ghost use Rattle.docsis_pie.specs.Constants.{most_prob};
 ghost use Rattle.docsis_pie.specs.Probability.{adjusted, capped, divisor_of, limited, next_prob, step_of, stepped_prob};
 
 use crate::constants::{CAP, HIGH_DELAY, LOW_DELAY, MOST_PROB};
-use pie::{error, in_allowance};
+use pie::error;
 use units::{Micros, Prob};
 
 // Rule 5.
@@ -91,8 +91,8 @@ pub fn next_prob(p: Prob, allowance: Micros, delay: Micros, old: Micros, target:
     requires { (p.0 ≤ most_prob) × (delay.0 ≤ longest) × (old.0 ≤ longest) × (target.0 ≤ 100000) }
     ensures { result ≡ prob (next_prob p.0 allowance.0 delay.0 old.0 target.0) }
 {
-    let burst = in_allowance(allowance);
-    if burst {
+    let in_allowance = 0 < allowance.0;
+    if in_allowance {
         return Prob::NONE;
     }
     stepped_prob(p, delay, old, target)

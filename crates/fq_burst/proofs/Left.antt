@@ -25,14 +25,14 @@ use Rattle.fq_words.specs.Codes.{common_after, deficits_after, flows_after, orde
 use Rattle.fq_words.specs.Words.{common_of, lent, lists_of}
 use Rattle.fq_words.specs.Written.{common_words}
 use Rattle.fq_guarantees.specs.Acceptance.{acceptance}
-use Rattle.fq_rules.specs.Calls.{Call, arrive, ask_arrival, ask_departure, ask_tick, call_of, depart, reply, update}
+use Rattle.fq_guarantees.specs.Calls.{Call, arrive, depart, reply, update}
+use Rattle.fq_guarantees.specs.Handed.{ask_arrival, ask_departure, ask_tick, call_of}
 use Rattle.fq_guarantees.specs.Kept.{Sound}
 use Rattle.fq_guarantees.proofs.Kept.{kept}
 use Rattle.fq_guarantees.proofs.Replies.{by_number}
 use Rattle.fq_burst.specs.Calls.{asked, unknown}
 use Rattle.fq_burst.specs.Calls as of-burst
-use Rattle.fq_words.specs.Lent.{Lent, flows_in, reply_to, state_in}
-use Rattle.fq_burst.specs.Burst.{after}
+use Rattle.fq_burst.specs.Burst.{Lent, after, flows_in, reply_to, state_in}
 
 -- ── words hold what they are the words of ──
 

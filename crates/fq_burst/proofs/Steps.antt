@@ -13,19 +13,18 @@ use Rattle.bursts.proofs.Steps.{Step}
 use Rattle.fq_state.specs.State.{State}
 use Rattle.fq_words.proofs.Words.{length-flows}
 use Rattle.fq_rules.specs.Answer.{Reply, flow_in, size_in}
-use Rattle.fq_rules.specs.Arrival.{arrival}
-use Rattle.fq_rules.specs.Calls.{Request, arrive, ask_arrival, ask_departure, ask_tick, depart, update}
-use Rattle.fq_rules.specs.Departure.{departure, departure_refusals}
+use Rattle.fq_rules.specs.Arrival.{arrival, arrived_handles, arrived_sizes}
+use Rattle.fq_rules.specs.Departure.{departed_sizes, departure, departure_refusals}
 use Rattle.fq_rules.specs.Tick.{tick}
-use Rattle.fq_words.specs.Codes.{code_of}
-use Rattle.fq_words.specs.Lent.{Lent, leaves, reply_to, state_in}
+use Rattle.fq_words.specs.Codes.{code_of, common_after, deficits_after, flows_after, order_after}
 use Rattle.fq_words.specs.Words.{lent}
-use Rattle.fq_words.proofs.Returned.{Answered}
+use Rattle.fq_guarantees.specs.Calls.{arrive, depart, update}
+use Rattle.fq_guarantees.specs.Handed.{ask_arrival, ask_departure, ask_tick}
 use Rattle.fq_guarantees.proofs.OneFlow.{served-low}
 use Rattle.fq_guarantees.proofs.Replies.{by_number}
 use Rattle.fq_guarantees.proofs.WhenAccepted.{departure-accepted}
 use Rattle.fq_burst.specs.Calls.{asked, call_at, key_at, unknown}
-use Rattle.fq_burst.specs.Burst.{answer_word, fq_bursts}
+use Rattle.fq_burst.specs.Burst.{Lent, answer_word, fq_bursts, held}
 
 -- ── the word of an answer that hands out nothing is its code ──
 
@@ -55,6 +54,15 @@ departure-small common order flows deficits handles sizes clock =
     let a = departure-accepted s (length handles) sizes clock none in
     let low = served-low s (length handles) sizes clock (length-flows 64 flows) a in (omega arith, omega (arith, low), a.head.high))
 
+-- ── a tick leaves lists and deficits ──
+
+abbrev Stays : (order deficits : List ℕ) → Reply → Type 0
+Stays order deficits r = (order_after r order ≡ order) × (deficits_after r deficits ≡ deficits)
+
+tick-stays : (common order flows deficits : List ℕ) (clock : ℕ) → Stays order deficits (tick (lent common order deficits flows) clock)
+tick-stays common order flows deficits clock =
+    by_number (Stays order deficits) (lent common order deficits flows) (update clock) (λ n some given. (refl, refl)) (λ none. (refl, refl))
+
 -- ── what is asked ──
 
 module _ (calls : List ℕ) (at : ℕ) where
@@ -83,31 +91,56 @@ module _ (calls : List ℕ) (at : ℕ) where
 
 -- ── each kind of call ──
 
-module _ (q : Lent) (calls : List ℕ) (at : ℕ) where
-  abbrev arrival_of : (clock : ℕ) (key : List ℕ) → Request
-  arrival_of clock key =
-      ask_arrival clock key (get_or calls (at + 2) 0) (get_or calls (at + 3) 0) (eqb (kind calls at) 1) (get_or calls (at + 4) 0)
+module _ (common order flows deficits handles sizes calls : List ℕ) (at : ℕ) where
+  abbrev q : Lent
+  q = held common order flows deficits handles sizes
+
+  abbrev s : State
+  s = lent common order deficits flows
+
+  abbrev arrived : (clock : ℕ) (key : List ℕ) → Reply
+  arrived clock key = arrival s handles sizes clock key (get_or calls (at + 3) 0) (eqb (kind calls at) 1) (get_or calls (at + 4) 0)
 
   pub arrival-step : (clock : ℕ) (key : List ℕ) → clock ≡ clock_at calls at → key ≡ key_at calls at → ltb (kind calls at) 2 ≡ true →
-      (code word : ℕ) (next : Lent) → word ≡ code → Answered q (arrival_of clock key) code next → Step fq_bursts q calls at word next
-  arrival-step clock key c k e code word next w (f, g) =
+      (word : ℕ) (common' order' flows' deficits' handles' sizes' : List ℕ) →
+      word ≡ code_of (arrived clock key).answer →
+      common' ≡ common_after (arrived clock key) common →
+      order' ≡ order_after (arrived clock key) order →
+      flows' ≡ flows_after (arrived clock key) flows →
+      deficits' ≡ deficits_after (arrived clock key) deficits →
+      handles' ≡ arrived_handles s (arrived clock key).answer handles (get_or calls (at + 2) 0) →
+      sizes' ≡ arrived_sizes s (arrived clock key).answer sizes key (get_or calls (at + 3) 0) →
+      Step fq_bursts q calls at word (held common' order' flows' deficits' handles' sizes')
+  arrival-step clock key c k e word common' order' flows' deficits' handles' sizes' w f1 f2 f3 f4 f5 f6 =
       rw (asked-arrival calls at clock key c k e) (
-        w
-            ∙ f
-            ∙ plain-arrival (state_in q) q.handles q.sizes clock key (get_or calls (at + 2) 0) (get_or calls (at + 3) 0) (eqb (kind calls at) 1)
-            (get_or calls (at + 4) 0),
-        g,
+        w ∙ plain-arrival s handles sizes clock key (get_or calls (at + 2) 0) (get_or calls (at + 3) 0) (eqb (kind calls at) 1) (get_or calls (at + 4) 0),
+        rw (f1, f2, f3, f4, f5, f6) refl,
       )
 
+  abbrev left : (clock : ℕ) → Reply
+  left clock = departure s handles sizes clock
+
   pub departure-step : (clock : ℕ) → clock ≡ clock_at calls at → ltb (kind calls at) 2 ≡ false → eqb (kind calls at) 2 ≡ true →
-      (word : ℕ) (next : Lent) → word ≡ answer_word (reply_to q (ask_departure clock)).answer → next ≡ leaves q (ask_departure clock) →
-      Step fq_bursts q calls at word next
-  departure-step clock c e f word next w g = rw (asked-departure calls at clock c e f) (w, g)
+      (word : ℕ) (common' order' flows' deficits' sizes' : List ℕ) →
+      word ≡ answer_word (left clock).answer →
+      common' ≡ common_after (left clock) common →
+      order' ≡ order_after (left clock) order →
+      flows' ≡ flows_after (left clock) flows →
+      deficits' ≡ deficits_after (left clock) deficits →
+      sizes' ≡ departed_sizes s (left clock).answer sizes →
+      Step fq_bursts q calls at word (held common' order' flows' deficits' handles sizes')
+  departure-step clock c e f word common' order' flows' deficits' sizes' w f1 f2 f3 f4 f5 =
+      rw (asked-departure calls at clock c e f) (w, rw (f1, f2, f3, f4, f5) refl)
 
   pub tick-step : (clock : ℕ) → clock ≡ clock_at calls at → ltb (kind calls at) 2 ≡ false → eqb (kind calls at) 2 ≡ false →
-      eqb (kind calls at) 3 ≡ true → (code word : ℕ) (next : Lent) → word ≡ code → Answered q (ask_tick clock) code next →
-      Step fq_bursts q calls at word next
-  tick-step clock c e f g code word next w (h, k) = rw (asked-tick calls at clock c e f g) (w ∙ h ∙ plain-tick (state_in q) clock, k)
+      eqb (kind calls at) 3 ≡ true → (word : ℕ) (common' flows' : List ℕ) →
+      word ≡ code_of (tick s clock).answer →
+      common' ≡ common_after (tick s clock) common →
+      flows' ≡ flows_after (tick s clock) flows →
+      Step fq_bursts q calls at word (held common' order flows' deficits handles sizes)
+  tick-step clock c e f g word common' flows' w f1 f2 =
+      let same = tick-stays common order flows deficits clock in
+      rw (asked-tick calls at clock c e f g) (w ∙ plain-tick s clock, rw (f1, f2, same.0, same.1) refl)
 
   pub unknown-step : ltb (kind calls at) 2 ≡ false → eqb (kind calls at) 2 ≡ false → eqb (kind calls at) 3 ≡ false → Step fq_bursts q calls at 120 q
   unknown-step e f g = rw (asked-unknown calls at e f g) (refl, refl)

@@ -2,7 +2,7 @@
 -- thirteen bytes of the key in four numbers, low byte first.
 use Rattle.std.specs.Prelude.{cond, List, [], ◌∷◌, ℕ, ◌+◌, ◌/◌, ◌%◌, eqb, ltb, get_or}
 use Rattle.bursts.specs.Numbers.{clock_at}
-use Rattle.fq_rules.specs.Calls.{Request, ask_arrival, ask_departure, ask_tick}
+use Rattle.fq_guarantees.specs.Handed.{Request, ask_arrival, ask_departure, ask_tick}
 
 pub data Call : Type 0 where
   asked : Request → Call
@@ -30,19 +30,16 @@ key_of a b c d =
 abbrev pub key_at : (calls : List ℕ) (at : ℕ) → List ℕ
 key_at calls at = key_of (get_or calls (at + 6) 0) (get_or calls (at + 7) 0) (get_or calls (at + 8) 0) (get_or calls (at + 9) 0)
 
-abbrev pub arrival_at : (calls : List ℕ) (at : ℕ) → Request
-arrival_at calls at =
-    ask_arrival (clock_at calls at) (key_at calls at) (get_or calls (at + 2) 0) (get_or calls (at + 3) 0) (eqb (get_or calls (at + 5) 0) 1)
-    (get_or calls (at + 4) 0)
-
 -- kind 0: an arrival; 1: one that is ECN-capable; 2: a departure; 3: a tick
-abbrev pub call_of_kind : (kind : ℕ) (calls : List ℕ) (at : ℕ) → Call
-call_of_kind kind calls at =
-    cond (ltb kind 2) (asked (arrival_at calls at))
-    (cond (eqb kind 2) (asked (ask_departure (clock_at calls at)))
-    (cond (eqb kind 3) (asked (ask_tick (clock_at calls at)))
+abbrev pub call_by : (kind : ℕ) (calls : List ℕ) (at : ℕ) → Call
+call_by kind calls at =
+    let clock = clock_at calls at in
+    let size = get_or calls (at + 3) 0 in
+    cond (ltb kind 2) (asked (ask_arrival clock (key_at calls at) (get_or calls (at + 2) 0) size (eqb kind 1) (get_or calls (at + 4) 0)))
+    (cond (eqb kind 2) (asked (ask_departure clock))
+    (cond (eqb kind 3) (asked (ask_tick clock))
     unknown))
 
 -- the call whose numbers begin at this place
 unfoldable pub call_at : (calls : List ℕ) (at : ℕ) → Call
-call_at calls at = call_of_kind (get_or calls (at + 5) 0) calls at
+call_at calls at = call_by (get_or calls (at + 5) 0) calls at

@@ -6,17 +6,13 @@ ghost use Rattle.pie.specs.Constants.{most_verdicts};
 ghost use Rattle.pie.specs.Verdicts.{total};
 ghost use Rattle.fq_state.specs.State.{counts_of};
 ghost use Rattle.fq_state.specs.WellFormed.{well_formed};
-ghost use Rattle.fq_words.specs.Lent.{Lent, held, state_in};
 ghost use Rattle.fq_words.specs.Words.{common_of, flows_of, lent};
 ghost use Rattle.fq_guarantees.specs.Kept.{Sound};
 ghost use Rattle.fq_burst.specs.Calls.{call_at};
-ghost use Rattle.fq_burst.specs.Burst.{after, answer_to, answer_word, fq_bursts};
+ghost use Rattle.fq_burst.specs.Burst.{Lent, after, answer_to, answer_word, fq_bursts, held, state_in};
 
-use crate::numbers::{KEY_0, KEY_1, KEY_2, KEY_3, key_of, malformed, word};
-use bursts::{
-    CLOCK_HIGH, DEPARTURE, ECN_ARRIVAL, HANDLE, KIND, SIZE, TICK, U, UNKNOWN, clock_of, has_room,
-    wide,
-};
+use crate::numbers::{UNFIT, UNKNOWN, key_of, malformed, word};
+use bursts::{clock_of, has_room, wide};
 use fq_steps::{arrive, depart, update};
 use fq_words::{decode, fits};
 
@@ -47,17 +43,12 @@ fn answered(
         ≡ after q (call_at calls.now at)) }
     ensures counts_after { counts.new ≡ counts_of (flows_of flows.new) }
 {
-    let clock = clock_of(calls[at], calls[at + CLOCK_HIGH]);
-    let kind = calls[at + KIND];
-    let arrives = kind < DEPARTURE;
+    let clock = clock_of(calls[at], calls[at + 1]);
+    let kind = calls[at + 5];
+    let arrives = kind < 2;
     if arrives {
-        let key = key_of(
-            calls[at + KEY_0],
-            calls[at + KEY_1],
-            calls[at + KEY_2],
-            calls[at + KEY_3],
-        );
-        let ecn = kind == ECN_ARRIVAL;
+        let key = key_of(calls[at + 6], calls[at + 7], calls[at + 8], calls[at + 9]);
+        let ecn = kind == 1;
         let code = arrive(
             common,
             order,
@@ -68,15 +59,15 @@ fn answered(
             sizes,
             clock,
             &key,
-            calls[at + HANDLE],
-            calls[at + SIZE],
+            calls[at + 2],
+            calls[at + 3],
             ecn,
-            calls[at + U],
+            calls[at + 4],
             room,
         );
         return wide(code);
     }
-    let departs = kind == DEPARTURE;
+    let departs = kind == 2;
     if departs {
         let mut packet: [u32; 3] = [0, 0, 0];
         let code = depart(
@@ -92,7 +83,7 @@ fn answered(
         );
         return word(code, packet[0], packet[2], packet[1]);
     }
-    let ticks = kind == TICK;
+    let ticks = kind == 3;
     if ticks {
         return wide(update(common, order, flows, deficits, clock));
     }
@@ -154,7 +145,7 @@ fn all_refused(calls: &[u32], answers: &mut [u64])
 {
     let mut i: usize = 0;
     while i < answers.len() {
-        answers[i] = malformed(calls[10 * i + KIND]);
+        answers[i] = malformed(calls[10 * i + 5]);
         i += 1;
     }
 }
@@ -180,7 +171,7 @@ pub extern "C" fn obikuteru_fq_calls_of(
     let n = answers.len();
     let fit = (calls.len() % 10 == 0) & (calls.len() / 10 == n);
     if !fit {
-        return refusals::UNKNOWN;
+        return UNFIT;
     }
     whole(*order, *deficits);
     let c = decode(*common);

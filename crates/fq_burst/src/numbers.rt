@@ -1,17 +1,13 @@
 // Numbers of calls and answers.
-ghost use Rattle.std.specs.Prelude.{◌≡◌, cond, leb, ◌+◌, ◌*◌, ◌≤◌};
+ghost use Rattle.std.specs.Prelude.{◌≡◌, cond, ltb, ◌+◌, ◌*◌, ◌≤◌};
 ghost use Rattle.fq_burst.specs.Calls.{key_of};
 
-use bursts::{REFUSED_MALFORMED, TICK, UNKNOWN};
+// Codes: 100 and the number of a refusal. 2: the record is not well formed; 20: a call of no kind, or lengths that do not fit.
+const MALFORMED: u64 = 102;
 
-// Where the key's four numbers stand, behind those that every call has.
-pub(crate) const KEY_0: usize = 6;
+pub(crate) const UNKNOWN: u64 = 120;
 
-pub(crate) const KEY_1: usize = 7;
-
-pub(crate) const KEY_2: usize = 8;
-
-pub(crate) const KEY_3: usize = 9;
+pub(crate) const UNFIT: u32 = 120;
 
 // The word of a departure's answer.
 pub(crate) fn word(code: u32, flow: u32, size: u32, handle: u32) -> u64
@@ -44,11 +40,11 @@ pub(crate) fn key_of(a: u32, b: u32, c: u32, d: u32) -> [u8; 13]
 
 // What a call of this kind on a malformed record is answered: refusal 2, or 20 where the kind is unknown.
 pub(crate) fn malformed(kind: u32) -> u64
-    ensures { result ≡ cond (leb kind 3) 102 120 }
+    ensures { result ≡ cond (ltb kind 4) 102 120 }
 {
-    let called = kind <= TICK;
+    let called = kind < 4;
     if called {
-        return REFUSED_MALFORMED;
+        return MALFORMED;
     }
     UNKNOWN
 }

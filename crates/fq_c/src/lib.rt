@@ -2,21 +2,22 @@
 // and a tick test the record and leave the rest to the call on one that is well formed. A fresh call writes the whole record, all zero
 // where it is refused; the test of a record writes nothing; a key's flow needs no record.
 #![tactic(auto)]
-ghost use Rattle.std.specs.Prelude.{◌≡◌, []};
+ghost use Rattle.std.specs.Prelude.{◌≡◌};
 ghost use Rattle.hash.specs.OneAtATime.{flow_of};
 ghost use Rattle.fq_state.specs.Fresh.{fresh, fresh_refusal, settings_of};
 ghost use Rattle.fq_state.specs.WellFormed.{well_formed};
-ghost use Rattle.fq_rules.specs.Calls.{ask_arrival, ask_departure, ask_tick};
-ghost use Rattle.fq_words.specs.Codes.{fresh_code, packet_of, words_of};
-ghost use Rattle.fq_words.specs.Lent.{code_to, held, leaves, reply_to};
+ghost use Rattle.fq_rules.specs.Arrival.{arrival, arrived_handles, arrived_sizes};
+ghost use Rattle.fq_rules.specs.Departure.{departed_sizes, departure};
+ghost use Rattle.fq_rules.specs.Tick.{tick};
+ghost use Rattle.fq_words.specs.Codes.{code_of, common_after, deficits_after, flows_after, fresh_code, order_after, packet_of, words_of};
 ghost use Rattle.fq_words.specs.Words.{lent};
 ghost use Rattle.fq_words.specs.Written.{flow_words};
 
 use fq_state::Settings;
 use fq_steps::{arrive, depart, update};
-use fq_words::{encode, fits, fresh, sized, well_formed};
+use fq_words::{encode, fits, fresh, sized};
 use hash::flow_of;
-use refusals::{Accepted, REFUSED_MALFORMED, refused};
+use refusals::{Accepted, Refusal, refused};
 use units::{Bytes, Micros};
 
 #[unsafe(no_mangle)]
@@ -72,7 +73,8 @@ pub extern "C" fn obikuteru_fq_well_formed_of(
 ) -> bool
     ensures { result ≡ well_formed (lent common.now order.now deficits.now flows.now) }
 {
-    well_formed(common, order, deficits, flows)
+    let mut counts = [0u32; 64];
+    fits(common, order, deficits, flows, &mut counts)
 }
 
 #[unsafe(no_mangle)]
@@ -90,17 +92,20 @@ pub extern "C" fn obikuteru_fq_arrival_of(
     ecn: bool,
     u: u32,
 ) -> u32
-    ensures { let q = held common.old order.old flows.old deficits.old
-        handles.old sizes.old in
-        let asked = ask_arrival clock key.now handle size ecn u in
-        (result ≡ code_to q asked)
-        × (held common.new order.new flows.new deficits.new handles.new
-        sizes.new ≡ leaves q asked) }
+    ensures { let s = lent common.old order.old deficits.old flows.old in
+        let a = arrival s handles.old sizes.old clock key.now size ecn u in
+        (result ≡ code_of a.answer)
+        × (common.new ≡ common_after a common.old)
+        × (order.new ≡ order_after a order.old)
+        × (flows.new ≡ flows_after a flows.old)
+        × (deficits.new ≡ deficits_after a deficits.old)
+        × (handles.new ≡ arrived_handles s a.answer handles.old handle)
+        × (sizes.new ≡ arrived_sizes s a.answer sizes.old key.now size) }
 {
     let mut counts = [0u32; 64];
     let formed = fits(common, order, deficits, flows, &mut counts);
     if !formed {
-        return REFUSED_MALFORMED;
+        return refused(Refusal::Malformed);
     }
     arrive(
         common,
@@ -131,19 +136,21 @@ pub extern "C" fn obikuteru_fq_departure_of(
     clock: u64,
     packet: &mut [u32; 3],
 ) -> u32
-    ensures { let q = held common.old order.old flows.old deficits.old
-        handles.now sizes.old in
-        let asked = ask_departure clock in
-        (result ≡ code_to q asked)
-        × (held common.new order.new flows.new deficits.new handles.now
-        sizes.new ≡ leaves q asked)
-        × (packet.new ≡ packet_of (reply_to q asked).answer) }
+    ensures { let s = lent common.old order.old deficits.old flows.old in
+        let a = departure s handles.now sizes.old clock in
+        (result ≡ code_of a.answer)
+        × (common.new ≡ common_after a common.old)
+        × (order.new ≡ order_after a order.old)
+        × (flows.new ≡ flows_after a flows.old)
+        × (deficits.new ≡ deficits_after a deficits.old)
+        × (sizes.new ≡ departed_sizes s a.answer sizes.old)
+        × (packet.new ≡ packet_of a.answer) }
 {
     *packet = [0, 0, 0];
     let mut counts = [0u32; 64];
     let formed = fits(common, order, deficits, flows, &mut counts);
     if !formed {
-        return REFUSED_MALFORMED;
+        return refused(Refusal::Malformed);
     }
     depart(
         common,
@@ -166,14 +173,16 @@ pub extern "C" fn obikuteru_fq_tick_of(
     deficits: &[u32; 64],
     clock: u64,
 ) -> u32
-    ensures { let q = held common.old order.now flows.old deficits.now [] [] in
-        (result ≡ code_to q (ask_tick clock))
-        × (held common.new order.now flows.new deficits.now [] []
-        ≡ leaves q (ask_tick clock)) }
+    ensures { let s = lent common.old order.now deficits.now flows.old in
+        let a = tick s clock in
+        (result ≡ code_of a.answer)
+        × (common.new ≡ common_after a common.old)
+        × (flows.new ≡ flows_after a flows.old) }
 {
-    let formed = well_formed(common, order, deficits, flows);
+    let mut counts = [0u32; 64];
+    let formed = fits(common, order, deficits, flows, &mut counts);
     if !formed {
-        return REFUSED_MALFORMED;
+        return refused(Refusal::Malformed);
     }
     update(common, order, flows, deficits, clock)
 }

@@ -25,7 +25,7 @@ use Rattle.fq_state.specs.declared.Common.{Common}
 use Rattle.fq_state.specs.declared.Flow.{Flow}
 use Rattle.fq_rules.specs.Arrival.{arrived_common, arrived_flow, arrived_schedule, flow_number, freed_refused, verdict_of}
 use Rattle.fq_guarantees.specs.Acceptance.{acceptance}
-use Rattle.fq_rules.specs.Calls.{Call, arrive}
+use Rattle.fq_guarantees.specs.Calls.{Call, arrive}
 use Rattle.fq_guarantees.specs.Kept.{Sound}
 use Rattle.fq_guarantees.specs.Refusals.{rows_of}
 use Rattle.fq_state.proofs.Facts.{CommonFits}

@@ -21,9 +21,8 @@ use Rattle.fq_rules.specs.Arrival.{arrived_common, arrived_flow, flow_number, ve
 use Rattle.fq_guarantees.specs.Acceptance.{acceptance}
 use Rattle.fq_guarantees.specs.Refusals.{rows_of}
 use Rattle.fq_guarantees.proofs.Replies.{number_given}
-use Rattle.fq_rules.specs.Calls.{Flows, Request, ask_arrival, call_of, returned}
-use Rattle.fq_guarantees.specs.Handed.{FlowPacket, admitted_by, chains_of, of_all}
-use Rattle.fq_guarantees.specs.Handed.{of_flow, queued}
+use Rattle.fq_guarantees.specs.Handed.{FlowPacket, Flows, Request, admitted_by, ask_arrival, call_of, chains_of, of_all}
+use Rattle.fq_guarantees.specs.Handed.{of_flow, queued, returned}
 use Rattle.fq_guarantees.proofs.Chained.{Put, length-contents, put-chains, same_read}
 use Rattle.fq_guarantees.proofs.Counted.{counted_by}
 use Rattle.fq_guarantees.proofs.Moves.{Moved, Still, same_bytes, same-chains, still-moves}

@@ -26,7 +26,7 @@ use Rattle.fq_rules.specs.Departure.{choice_of, departed_flow, head_size, served
 use Rattle.fq_rules.specs.Tick.{ticked_flow}
 use Rattle.fq_guarantees.specs.Acceptance.{acceptance}
 use Rattle.fq_guarantees.specs.AsStretch.{AsStretch, ServesNext, events_of, line_of}
-use Rattle.fq_rules.specs.Calls.{Call, arrive, depart, key_flow, update}
+use Rattle.fq_guarantees.specs.Calls.{Call, arrive, depart, key_flow, update}
 use Rattle.fq_guarantees.specs.Refusals.{rows_of}
 use Rattle.fq_guarantees.proofs.ArrivalKept.{arrived-count}
 use Rattle.fq_guarantees.proofs.DepartureKept.{departed-count}

@@ -14,8 +14,7 @@ use Rattle.store_guarantees.proofs.Takes.{count_held}
 use Rattle.fq_state.specs.Flow.{empty_flow, ends_of}
 use Rattle.fq_state.specs.State.{counts_of, flow_at}
 use Rattle.fq_state.specs.declared.Flow.{Flow}
-use Rattle.fq_rules.specs.Calls.{Flows}
-use Rattle.fq_guarantees.specs.Handed.{chain_of, chains_of, queued}
+use Rattle.fq_guarantees.specs.Handed.{Flows, chain_of, chains_of, queued}
 
 pub chain-at : (q : Flows) (i : ℕ) → chain_at (chains_of q) i ≡ chain_of (flow_at q.state.flows i)
 chain-at q i = get_or-map chain_of q.state.flows i (empty_flow 0)

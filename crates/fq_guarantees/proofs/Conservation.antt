@@ -9,8 +9,7 @@ use Rattle.fq_state.specs.State.{flow_at}
 use Rattle.fq_guarantees.proofs.Facts.{facts}
 use Rattle.fq_guarantees.proofs.NeverMalformed.{not-2}
 use Rattle.fq_guarantees.specs.Conservation.{AllConserved, Conservation, FlowConserved}
-use Rattle.fq_rules.specs.Calls.{call_of}
-use Rattle.fq_guarantees.specs.Handed.{Run, of_flow, queued}
+use Rattle.fq_guarantees.specs.Handed.{Run, call_of, of_flow, queued}
 use Rattle.fq_guarantees.proofs.Chained.{count-queued}
 use Rattle.fq_guarantees.proofs.RunKept.{Kept, run-kept}
 use Rattle.fq_guarantees.proofs.Steps.{not-9}

@@ -18,8 +18,7 @@ use Rattle.fq_rules.specs.Departure.{choice_of, departed_common, departed_flow, 
 use Rattle.fq_guarantees.specs.Acceptance.{acceptance}
 use Rattle.fq_guarantees.specs.Refusals.{rows_of}
 use Rattle.fq_guarantees.proofs.Replies.{number_given}
-use Rattle.fq_rules.specs.Calls.{Flows, Request, ask_departure, call_of, returned}
-use Rattle.fq_guarantees.specs.Handed.{chains_of, departed_by, of_all, of_flow, queued}
+use Rattle.fq_guarantees.specs.Handed.{Flows, Request, ask_departure, call_of, chains_of, departed_by, of_all, of_flow, queued, returned}
 use Rattle.fq_guarantees.proofs.Chained.{Take, length-contents, take-chains}
 use Rattle.fq_guarantees.proofs.Counted.{counted_by}
 use Rattle.fq_guarantees.proofs.Moves.{Moved}

@@ -15,7 +15,7 @@ use Rattle.fq_state.specs.State.{State, bytes_of, count_of, counts_of, each_byte
 use Rattle.fq_state.specs.declared.Flow.{Flow}
 use Rattle.fq_rules.specs.Departure.{choice_of, departed_common, departed_flow, head_size, served_flow}
 use Rattle.fq_guarantees.specs.Acceptance.{acceptance}
-use Rattle.fq_rules.specs.Calls.{depart}
+use Rattle.fq_guarantees.specs.Calls.{depart}
 use Rattle.fq_guarantees.specs.Kept.{Sound}
 use Rattle.fq_guarantees.specs.Refusals.{rows_of}
 use Rattle.fq_state.proofs.Facts.{FlowFits}

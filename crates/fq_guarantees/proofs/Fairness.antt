@@ -12,7 +12,7 @@ use Rattle.fq_state.specs.State.{State}
 use Rattle.fq_rules.specs.Answer.{size_in}
 use Rattle.fq_guarantees.specs.Acceptance.{acceptance}
 use Rattle.fq_guarantees.specs.AsStretch.{line_of}
-use Rattle.fq_rules.specs.Calls.{Call, arrive, depart, update}
+use Rattle.fq_guarantees.specs.Calls.{Call, arrive, depart, update}
 use Rattle.fq_guarantees.specs.Fairness.{Fairness}
 use Rattle.fq_guarantees.specs.FairnessFromFresh.{FairnessFromFresh}
 use Rattle.fq_guarantees.specs.FairnessBySize.{FairnessBySize, HandOutAtMost}

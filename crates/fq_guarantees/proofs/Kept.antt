@@ -11,7 +11,7 @@ use Rattle.fq_state.specs.State.{State, bytes_of, count_of}
 use Rattle.fq_state.specs.declared.Flow.{Flow}
 use Rattle.fq_rules.specs.Tick.{ticked_flow}
 use Rattle.fq_guarantees.specs.Acceptance.{acceptance}
-use Rattle.fq_rules.specs.Calls.{Call, arrive, depart, update}
+use Rattle.fq_guarantees.specs.Calls.{Call, arrive, depart, update}
 use Rattle.fq_guarantees.specs.Kept.{Kept, Sound}
 use Rattle.fq_guarantees.specs.Refusals.{rows_of}
 use Rattle.fq_guarantees.proofs.Facts.{well-formed}

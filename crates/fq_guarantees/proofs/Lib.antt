@@ -8,7 +8,6 @@ pub mod OneFlow
 pub mod FreshFormed
 pub mod Sheds
 pub mod Refusals
-pub mod WhichVerdict
 pub mod OwnFlowAlone
 pub mod AllowanceLasts
 pub mod Recovery

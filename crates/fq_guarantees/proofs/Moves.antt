@@ -15,8 +15,7 @@ use Rattle.fq_state.specs.Flow.{empty_flow}
 use Rattle.fq_state.specs.State.{bytes_of as flow_bytes, flow_at}
 use Rattle.fq_state.specs.declared.Flow.{Flow}
 use Rattle.fq_rules.specs.Answer.{Answer}
-use Rattle.fq_rules.specs.Calls.{Flows, Request}
-use Rattle.fq_guarantees.specs.Handed.{admitted_by, chain_of, chains_of, departed_by, of_all, of_flow, queued}
+use Rattle.fq_guarantees.specs.Handed.{Flows, Request, admitted_by, chain_of, chains_of, departed_by, of_all, of_flow, queued}
 use Rattle.fq_guarantees.proofs.Counted.{counted_by}
 use Rattle.fq_guarantees.proofs.Whole.{Whole, unfit_of}
 

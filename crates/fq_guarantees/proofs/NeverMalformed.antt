@@ -10,7 +10,7 @@ use Rattle.fq_state.specs.State.{State}
 use Rattle.fq_state.specs.WellFormed.{well_formed}
 use Rattle.fq_state.specs.declared.Settings.{Settings}
 use Rattle.fq_rules.specs.Answer.{refused}
-use Rattle.fq_rules.specs.Calls.{Call, arrive, depart, reply, update}
+use Rattle.fq_guarantees.specs.Calls.{Call, arrive, depart, reply, update}
 use Rattle.fq_guarantees.specs.Kept.{Sound}
 use Rattle.fq_guarantees.specs.NeverMalformed.{NeverMalformed}
 use Rattle.fq_guarantees.specs.Lists.{fq_calls}

@@ -17,7 +17,7 @@ use Rattle.fq_state.specs.State.{State}
 use Rattle.fq_rules.specs.Departure.{choice_of}
 use Rattle.fq_guarantees.specs.Acceptance.{acceptance}
 use Rattle.fq_guarantees.specs.AsStretch.{line_of}
-use Rattle.fq_rules.specs.Calls.{Call, arrive, depart, update}
+use Rattle.fq_guarantees.specs.Calls.{Call, arrive, depart, update}
 use Rattle.fq_guarantees.specs.Fairness.{Backlogged, bytes_served, handed_out}
 use Rattle.fq_guarantees.specs.FairnessBySize.{HandOutAtMost}
 use Rattle.fq_guarantees.specs.Kept.{Sound}

@@ -24,7 +24,7 @@ use Rattle.fq_rules.specs.Answer.{Answer, departed, departs, refused, size_in, t
 use Rattle.fq_rules.specs.Departure.{choice_of}
 use Rattle.fq_guarantees.specs.Acceptance.{acceptance}
 use Rattle.fq_guarantees.specs.AsStretch.{events_of, line_of}
-use Rattle.fq_rules.specs.Calls.{Call, arrive, depart, key_flow, reply, update}
+use Rattle.fq_guarantees.specs.Calls.{Call, arrive, depart, key_flow, reply, update}
 use Rattle.fq_guarantees.specs.Fairness.{Backlogged}
 use Rattle.fq_guarantees.specs.FairnessBySize.{HandOutAtMost}
 use Rattle.fq_guarantees.specs.Kept.{Sound}

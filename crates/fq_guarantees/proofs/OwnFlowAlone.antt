@@ -11,7 +11,7 @@ use Rattle.fq_state.specs.declared.Common.{Common}
 use Rattle.fq_state.specs.declared.Flow.{Flow}
 use Rattle.fq_rules.specs.Answer.{verdict}
 use Rattle.fq_rules.specs.Arrival.{arrival, flow_number, slots_full, verdict_of}
-use Rattle.fq_rules.specs.Calls.{arrive}
+use Rattle.fq_guarantees.specs.Calls.{arrive}
 use Rattle.fq_guarantees.specs.OwnFlowAlone.{OwnFlowAlone}
 use Rattle.fq_guarantees.specs.Shedding.{own}
 use Rattle.fq_guarantees.proofs.Replies.{by_number}

@@ -21,7 +21,7 @@ use Rattle.fq_state.specs.WellFormed.{flows_fit}
 use Rattle.fq_state.specs.declared.Flow.{Flow}
 use Rattle.fq_rules.specs.Arrival.{arrived_schedule}
 use Rattle.fq_guarantees.specs.Acceptance.{acceptance}
-use Rattle.fq_rules.specs.Calls.{Call}
+use Rattle.fq_guarantees.specs.Calls.{Call}
 use Rattle.fq_guarantees.specs.Kept.{Sound}
 use Rattle.fq_guarantees.specs.Refusals.{rows_of}
 use Rattle.fq_guarantees.specs.SixtyFour.{Record64}

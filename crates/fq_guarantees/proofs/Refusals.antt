@@ -9,7 +9,7 @@ use Rattle.fq_state.specs.State.{State}
 use Rattle.fq_state.specs.WellFormed.{well_formed}
 use Rattle.fq_state.specs.declared.Settings.{Settings}
 use Rattle.fq_rules.specs.Answer.{refused}
-use Rattle.fq_rules.specs.Calls.{Call, arrive, depart, update}
+use Rattle.fq_guarantees.specs.Calls.{Call, arrive, depart, update}
 use Rattle.fq_guarantees.specs.Refusals.{Applies, FreshInOrder, RefusedInOrder, Refusals, TablesKept, rows_of}
 use Rattle.fq_guarantees.proofs.FreshFormed.{fresh-well-formed}
 use Rattle.fq_guarantees.proofs.Replies.{number-refuses, refused-by-number}

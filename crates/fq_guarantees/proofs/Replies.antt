@@ -11,7 +11,7 @@ use Rattle.fq_rules.specs.Arrival.{arrival_refusal}
 use Rattle.fq_rules.specs.Departure.{departure_refusal}
 use Rattle.fq_rules.specs.Tick.{tick_refusal}
 use Rattle.fq_guarantees.specs.Acceptance.{acceptance, refusal, reply-unless-refused}
-use Rattle.fq_rules.specs.Calls.{Call, arrive, depart, reply, update}
+use Rattle.fq_guarantees.specs.Calls.{Call, arrive, depart, reply, update}
 use Rattle.fq_guarantees.specs.Refusals.{rows_of}
 
 abbrev pub refusal_of : State → (number : ℕ) → Reply

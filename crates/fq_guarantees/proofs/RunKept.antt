@@ -14,8 +14,7 @@ use Rattle.fq_state.specs.Fresh.{fresh_refusal}
 use Rattle.fq_state.specs.declared.Settings.{Settings}
 use Rattle.fq_guarantees.specs.Conservation.{is_verdict}
 use Rattle.fq_guarantees.specs.FirstInFirstOut.{InOrder}
-use Rattle.fq_rules.specs.Calls.{Flows, Request, answer_of}
-use Rattle.fq_guarantees.specs.Handed.{Run, admitted_by, departed_by, of_all, of_flow, queued, run, step}
+use Rattle.fq_guarantees.specs.Handed.{Flows, Request, Run, admitted_by, answer_of, departed_by, of_all, of_flow, queued, run, step}
 use Rattle.fq_guarantees.proofs.Counted.{counted-at}
 use Rattle.fq_guarantees.proofs.OfFlow.{of-all-append, of-flow-append}
 use Rattle.fq_guarantees.proofs.Starting.{begun-empty, begun-is, begun-whole, no-counts}

@@ -32,7 +32,7 @@ use Rattle.fq_rules.specs.Arrival.{arrived_common, arrived_flow, arrived_pie, fl
 use Rattle.fq_rules.specs.Departure.{choice_of, departed_common, departed_flow, departed_pie, head_size, served_flow}
 use Rattle.fq_rules.specs.Tick.{ticked_common, ticked_flow}
 use Rattle.fq_guarantees.specs.Acceptance.{acceptance}
-use Rattle.fq_rules.specs.Calls.{Call, arrive, depart, key_flow, reply, update}
+use Rattle.fq_guarantees.specs.Calls.{Call, arrive, depart, key_flow, reply, update}
 use Rattle.fq_guarantees.specs.Lists.{fq_calls}
 use Rattle.fq_guarantees.specs.Refusals.{rows_of}
 use Rattle.fq_guarantees.specs.Shedding.{Formed, flow_queue, own, tells, told_of}

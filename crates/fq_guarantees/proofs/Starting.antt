@@ -24,8 +24,7 @@ use Rattle.fq_state.proofs.Facts.{SettingsFit}
 use Rattle.fq_guarantees.proofs.Facts.{facts}
 use Rattle.fq_guarantees.proofs.FreshFormed.{fresh-accepted}
 use Rattle.fq_guarantees.proofs.NeverMalformed.{fresh-sound}
-use Rattle.fq_rules.specs.Calls.{Flows}
-use Rattle.fq_guarantees.specs.Handed.{chains_of, queued}
+use Rattle.fq_guarantees.specs.Handed.{Flows, chains_of, queued}
 use Rattle.fq_guarantees.proofs.Whole.{Held, Whole, unfit_of}
 
 no_bytes : (flow n : ℕ) → (flow_at (replicate n (empty_flow full_allowance)) flow).bytes ≡ 0

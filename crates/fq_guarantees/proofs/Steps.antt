@@ -10,19 +10,19 @@ use lib.ListN.{length}
 use Rattle.calls.specs.Packets.{bytes_of}
 use Rattle.calls.proofs.Packets.{bytes-append, sized-append, sized-rest}
 use Rattle.refusals.proofs.Ordered.{test-fails}
-use Rattle.refusals.specs.Tests.{clock_refused, empty_refused}
 use Rattle.fq_state.specs.State.{flow_at}
 use Rattle.fq_rules.specs.Answer.{Answer, Reply, refused}
 use Rattle.fq_rules.specs.Arrival.{flow_number}
 use Rattle.fq_rules.specs.Departure.{choice_of}
+use Rattle.fq_rules.specs.Refusals.{clock_refused, empty_refused}
 use Rattle.fq_guarantees.specs.Acceptance.{acceptance}
-use Rattle.fq_rules.specs.Calls.{Flows, Request, after, answer_of, ask_arrival, ask_departure, ask_tick, call_of, reply, returned}
+use Rattle.fq_guarantees.specs.Calls.{reply}
 use Rattle.fq_guarantees.specs.Refusals.{Applies, rows_of}
 use Rattle.fq_guarantees.proofs.Kept.{kept}
 use Rattle.fq_guarantees.proofs.Refusals.{calls-refused}
 use Rattle.fq_guarantees.proofs.Replies.{by_number, number_given, refusal_of, refused-by-number}
-use Rattle.fq_guarantees.specs.Handed.{admitted_by}
-use Rattle.fq_guarantees.specs.Handed.{departed_by, of_flow, queued}
+use Rattle.fq_guarantees.specs.Handed.{Flows, Request, admitted_by, after, answer_of, ask_arrival, ask_departure, ask_tick, call_of}
+use Rattle.fq_guarantees.specs.Handed.{departed_by, of_flow, queued, returned}
 use Rattle.fq_guarantees.proofs.Arriving.{arrival-moves}
 use Rattle.fq_guarantees.proofs.Counted.{length-counted}
 use Rattle.fq_guarantees.proofs.Departing.{departure-moves}
@@ -81,15 +81,15 @@ departure-not-9 q clock h given = go (unfit_of q) refl
     earlier true e = omega arith
     earlier false e = omega arith
 
-    some : (b : Bool) → unfit_of q ≡ false → empty_refused q.state.common.backlog ≡ b → ⊥
-    some true fit e = earlier (clock_refused q.state.common.clock.0 clock) (rw (h.formed.formed, fit, e) at given.1)
+    some : (b : Bool) → unfit_of q ≡ false → empty_refused q.state.common ≡ b → ⊥
+    some true fit e = earlier (clock_refused q.state.common clock) (rw (h.formed.formed, fit, e) at given.1)
     some false fit e =
         let head = head_of q (choice_of q.state).flow h fit (served-holds q.state h.formed (eqb-false _ _ e)) in
         test-fails 9 (rows_of q.state (call_of q (ask_departure clock))) (rw head.word) given.0
 
     go : (b : Bool) → unfit_of q ≡ b → ⊥
     go true e = let three : ◌≡◌ {A = ℕ} 3 9 = rw (h.formed.formed, e) at given.1 in omega arith
-    go false e = some (empty_refused q.state.common.backlog) e refl
+    go false e = some (empty_refused q.state.common) e refl
 
 not-given : (q : Flows) (r : Request) → Whole q → Given9 q r → ⊥
 unfolding Given9

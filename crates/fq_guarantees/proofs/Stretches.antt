@@ -14,7 +14,7 @@ use Rattle.fq_state.specs.State.{State}
 use Rattle.fq_rules.specs.Answer.{Answer, departed, refused, size_in, ticked, verdict}
 use Rattle.fq_rules.specs.Answer as answer
 use Rattle.fq_guarantees.specs.AsStretch.{ServesNext, events_of, line_of}
-use Rattle.fq_rules.specs.Calls.{Call, arrive, depart, key_flow, reply, update}
+use Rattle.fq_guarantees.specs.Calls.{Call, arrive, depart, key_flow, reply, update}
 use Rattle.fq_guarantees.specs.Fairness.{Backlogged, bytes_served, handed_out}
 use Rattle.fq_guarantees.specs.FairnessBySize.{HandOutAtMost}
 use Rattle.fq_guarantees.specs.Kept.{Sound}

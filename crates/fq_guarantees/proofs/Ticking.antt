@@ -8,8 +8,7 @@ use Rattle.fq_state.specs.declared.Flow.{Flow}
 use Rattle.fq_rules.specs.Answer.{ticked}
 use Rattle.fq_rules.specs.Tick.{ticked_flow}
 use Rattle.fq_guarantees.specs.Acceptance.{acceptance}
-use Rattle.fq_rules.specs.Calls.{Flows, ask_tick, call_of, returned}
-use Rattle.fq_guarantees.specs.Handed.{chain_of}
+use Rattle.fq_guarantees.specs.Handed.{Flows, ask_tick, call_of, chain_of, returned}
 use Rattle.fq_guarantees.proofs.Chained.{same_read}
 use Rattle.fq_guarantees.proofs.Moves.{Moved, still-moves}
 use Rattle.fq_guarantees.proofs.Whole.{Whole}

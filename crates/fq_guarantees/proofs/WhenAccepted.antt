@@ -16,7 +16,7 @@ use Rattle.pie.specs.declared.Verdict.TheVariants.{DroppedBytes, DroppedSlots}
 use Rattle.refusals.proofs.Fitting.{HeadFits, head-fits, size-in-range}
 use Rattle.refusals.proofs.Ordered.{none-refuses}
 use Rattle.refusals.specs.Rows.{first_refusal}
-use Rattle.refusals.specs.Tests.{clock_refused, head_refused, tables_refused}
+use Rattle.refusals.specs.Tests.{head_refused}
 use Rattle.store.specs.Following.{link_refused}
 use Rattle.fq_state.specs.Flow.{backlog_of}
 use Rattle.fq_state.specs.State.{State, flow_at}
@@ -25,12 +25,13 @@ use Rattle.fq_state.specs.declared.Common.{Common}
 use Rattle.fq_state.specs.declared.Flow.{Flow}
 use Rattle.fq_rules.specs.Arrival.{arrival_refusals, bytes_full, flow_number, freed_refused, slots_full, verdict_of}
 use Rattle.fq_rules.specs.Departure.{departure_refusals, head_size, served_flow}
+use Rattle.fq_rules.specs.Refusals.{clock_refused, tables_refused}
 use Rattle.fq_rules.specs.Tick.{tick_refusals}
 use Rattle.fq_guarantees.proofs.Facts.{Facts, facts}
 
 -- ── what each test's failing says ──
 
-tables-fit : (c : Common) (handles_length sizes_length : ℕ) → tables_refused c.settings.slots handles_length sizes_length ≡ false →
+tables-fit : (c : Common) (handles_length sizes_length : ℕ) → tables_refused c handles_length sizes_length ≡ false →
     (handles_length ≡ c.settings.slots) × (sizes_length ≡ c.settings.slots)
 tables-fit c handles_length sizes_length e =
     let h = eqb handles_length c.settings.slots in
@@ -38,7 +39,7 @@ tables-fit c handles_length sizes_length e =
     let both : h && z ≡ true = not-false (h && z) e in
     (eqb-true _ _ (and_left h z both), eqb-true _ _ (and_right h z both))
 
-clock-in-order : (c : Common) (clock : ℕ) → clock_refused c.clock.0 clock ≡ false → (c.clock.0 ≤ clock) × (clock ≤ latest)
+clock-in-order : (c : Common) (clock : ℕ) → clock_refused c clock ≡ false → (c.clock.0 ≤ clock) × (clock ≤ latest)
 clock-in-order c clock e =
     let n = or-neither (ltb clock c.clock.0) (ltb latest clock) e in (ltb-false _ _ n.0, ltb-false _ _ n.1)
 

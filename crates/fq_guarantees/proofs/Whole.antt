@@ -14,7 +14,7 @@ use Rattle.pie.specs.Verdicts.{admitted}
 use Rattle.pie.specs.declared.Verdict.{Verdict}
 use Rattle.pie.specs.declared.Verdict.TheVariants.{DroppedBytes, DroppedSlots}
 use Rattle.refusals.proofs.Fitting.{fitting-head}
-use Rattle.refusals.specs.Tests.{head_refused, tables_refused}
+use Rattle.refusals.specs.Tests.{head_refused}
 use Rattle.store.specs.Following.{link_refused}
 use Rattle.store_guarantees.specs.Calls.{PutDone, TakeDone}
 use Rattle.store_guarantees.specs.Chains.{Chain, chain_at, packet_at}
@@ -28,15 +28,15 @@ use Rattle.fq_state.specs.declared.Common.{Common}
 use Rattle.fq_state.specs.declared.Flow.{Flow}
 use Rattle.fq_rules.specs.Arrival.{bytes_full, freed_refused, slots_full, verdict_of}
 use Rattle.fq_rules.specs.Departure.{head_handle, head_size, head_word_refused, served_flow}
+use Rattle.fq_rules.specs.Refusals.{tables_refused}
 use Rattle.fq_guarantees.specs.Kept.{Sound as Formed}
 use Rattle.fq_guarantees.proofs.Facts.{facts}
 use Rattle.fq_guarantees.proofs.ServesQueued.{serves-queued}
-use Rattle.fq_rules.specs.Calls.{Flows}
-use Rattle.fq_guarantees.specs.Handed.{chain_of, chains_of, queued}
+use Rattle.fq_guarantees.specs.Handed.{Flows, chain_of, chains_of, queued}
 use Rattle.fq_guarantees.proofs.Chained.{chain-at, count-queued, held_all, length-chains}
 
 abbrev pub unfit_of : Flows → Bool
-unfit_of q = tables_refused q.state.common.settings.slots (length q.handles) (length q.sizes)
+unfit_of q = tables_refused q.state.common (length q.handles) (length q.sizes)
 
 -- the bytes are those of the packets, and each of these has a size that an arrival may have
 pub record Held (flow : ℕ) (q : Flows) : Type 0 where

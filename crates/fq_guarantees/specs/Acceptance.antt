@@ -5,7 +5,7 @@ use Rattle.fq_rules.specs.Answer.{Reply, unless_refused}
 use Rattle.fq_rules.specs.Arrival.{accepted_arrival, arrival, arrival_refusal}
 use Rattle.fq_rules.specs.Departure.{accepted_departure, departure, departure_refusal}
 use Rattle.fq_rules.specs.Tick.{accepted_tick, tick, tick_refusal}
-use Rattle.fq_rules.specs.Calls.{Call, arrive, depart, reply, update}
+use Rattle.fq_guarantees.specs.Calls.{Call, arrive, depart, reply, update}
 
 -- the reply where no test of the call holds
 abbrev pub acceptance : State → Call → Reply

@@ -6,7 +6,7 @@ use mathlib.Core.List.{List, Memᴰ}
 use Rattle.std.specs.Prelude.{ℕ, ◌<◌}
 use Rattle.calls.specs.Traces.{Entry, trace}
 use Rattle.pie_guarantees.specs.AllowanceLasts.{ByLimitsBefore, lasts_until}
-use Rattle.fq_rules.specs.Calls.{Call}
+use Rattle.fq_guarantees.specs.Calls.{Call}
 use Rattle.fq_guarantees.specs.Lists.{fq_calls}
 use Rattle.fq_guarantees.specs.Shedding.{flow_queue}
 use Rattle.fq_guarantees.specs.SixtyFour.{Record64}

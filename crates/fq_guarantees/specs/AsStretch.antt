@@ -9,7 +9,7 @@ use Rattle.schedule.specs.Ring.{two_lists}
 use Rattle.schedule_guarantees.specs.Stretch.{Event, Line, after, arrives, departs, next}
 use Rattle.fq_state.specs.State.{State, counts_of}
 use Rattle.fq_rules.specs.Answer.{Answer, departed, refused, ticked, verdict}
-use Rattle.fq_rules.specs.Calls.{Call, key_flow, reply}
+use Rattle.fq_guarantees.specs.Calls.{Call, key_flow, reply}
 
 -- the counts, and the lists and deficits, of a record
 abbrev pub line_of : State → Line

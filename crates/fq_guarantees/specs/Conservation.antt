@@ -9,8 +9,7 @@ use Rattle.fq_state.specs.Fresh.{fresh_refusal}
 use Rattle.fq_state.specs.State.{counts_of, each_bytes, flow_at}
 use Rattle.fq_state.specs.declared.Settings.{Settings}
 use Rattle.fq_rules.specs.Answer.{Answer, departed, refused, ticked, verdict}
-use Rattle.fq_rules.specs.Calls.{Request, answer_of}
-use Rattle.fq_guarantees.specs.Handed.{Run, of_all, of_flow, queued, run}
+use Rattle.fq_guarantees.specs.Handed.{Request, Run, answer_of, of_all, of_flow, queued, run}
 
 -- the answer to an arrival is this verdict
 abbrev pub is_verdict : Verdict → Answer → Bool

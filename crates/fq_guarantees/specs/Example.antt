@@ -3,8 +3,7 @@ use Rattle.std.specs.Prelude.{◌≡◌, false, List, [], ◌∷◌, ◌++◌, �
 use Rattle.pie.specs.declared.Verdict.TheVariants.{Enqueued}
 use Rattle.fq_state.specs.Fresh.{settings_of}
 use Rattle.fq_rules.specs.Answer.{Answer, departed, verdict}
-use Rattle.fq_rules.specs.Calls.{Request, ask_arrival, ask_departure}
-use Rattle.fq_guarantees.specs.Handed.{Run, queued, run}
+use Rattle.fq_guarantees.specs.Handed.{Request, Run, ask_arrival, ask_departure, queued, run}
 
 -- a key of 12 bytes 0 and one byte n: with salt 0, 0 is of flow 0 and 1 of flow 29
 abbrev pub key_of : ℕ → List ℕ

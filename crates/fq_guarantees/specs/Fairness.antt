@@ -6,7 +6,7 @@ use mathlib.Core.List.{List, Memᴰ, map}
 use Rattle.pie.specs.Verdicts.{total}
 use Rattle.calls.specs.Traces.{Entry, trace}
 use Rattle.fq_rules.specs.Answer.{Answer, departed, departs, refused, ticked, verdict}
-use Rattle.fq_rules.specs.Calls.{Call}
+use Rattle.fq_guarantees.specs.Calls.{Call}
 use Rattle.fq_guarantees.specs.Kept.{Sound}
 use Rattle.fq_guarantees.specs.Lists.{fq_calls}
 use Rattle.fq_guarantees.specs.Shedding.{own}

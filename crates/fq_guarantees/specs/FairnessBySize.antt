@@ -7,7 +7,7 @@ use Rattle.calls.specs.Traces.{Entry, trace}
 use Rattle.schedule.specs.Ring.{deficit_of}
 use Rattle.schedule.specs.TwoLists.{quantum, zero_deficit}
 use Rattle.fq_rules.specs.Answer.{size_in}
-use Rattle.fq_rules.specs.Calls.{Call}
+use Rattle.fq_guarantees.specs.Calls.{Call}
 use Rattle.fq_guarantees.specs.Kept.{Sound}
 use Rattle.fq_guarantees.specs.Lists.{fq_calls}
 use Rattle.fq_guarantees.specs.SixtyFour.{Record64}

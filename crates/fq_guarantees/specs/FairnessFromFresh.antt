@@ -7,7 +7,7 @@ use Rattle.calls.specs.Traces.{trace}
 use Rattle.schedule.specs.TwoLists.{quantum}
 use Rattle.fq_state.specs.Fresh.{fresh_refusal}
 use Rattle.fq_state.specs.declared.Settings.{Settings}
-use Rattle.fq_rules.specs.Calls.{Call}
+use Rattle.fq_guarantees.specs.Calls.{Call}
 use Rattle.fq_guarantees.specs.Lists.{fq_calls}
 use Rattle.fq_guarantees.specs.SixtyFour.{fresh64}
 use Rattle.fq_guarantees.specs.Fairness.{bytes_served, Backlogged}

@@ -3,8 +3,7 @@
 use Rattle.std.specs.Prelude.{◌≡◌, List, ◌++◌, ℕ}
 use Rattle.fq_state.specs.Fresh.{fresh_refusal}
 use Rattle.fq_state.specs.declared.Settings.{Settings}
-use Rattle.fq_rules.specs.Calls.{Request}
-use Rattle.fq_guarantees.specs.Handed.{Run, of_flow, queued, run}
+use Rattle.fq_guarantees.specs.Handed.{Request, Run, of_flow, queued, run}
 
 abbrev pub InOrder : (flow : ℕ) → Run → Type 0
 InOrder flow r = of_flow flow r.admitted ≡ of_flow flow r.departed ++ queued flow r.flows

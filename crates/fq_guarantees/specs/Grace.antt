@@ -7,7 +7,7 @@ use Rattle.pie.specs.Constants.{full_allowance}
 use Rattle.calls.specs.Traces.{Entry, trace}
 use Rattle.pie_guarantees.specs.AllowanceLasts.{ByLimitsBefore}
 use Rattle.fq_rules.specs.Answer.{ticked}
-use Rattle.fq_rules.specs.Calls.{Call}
+use Rattle.fq_guarantees.specs.Calls.{Call}
 use Rattle.fq_guarantees.specs.Lists.{fq_calls}
 use Rattle.fq_guarantees.specs.Shedding.{clock_in, flow_queue, own}
 use Rattle.fq_guarantees.specs.SixtyFour.{Record64}

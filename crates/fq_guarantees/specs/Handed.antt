@@ -1,16 +1,53 @@
 -- 64 flows whose record and tables are handed back untouched at each call, from a fresh record, and what their calls admitted, handed out
 -- and answered.
-use Rattle.std.specs.Prelude.{cond, ℕ, eqb}
+use Rattle.std.specs.Prelude.{Bool, cond, ℕ, eqb}
 use mathlib.Core.List.{List, [], ◌∷◌, ◌++◌, foldl, map}
 use Rattle.calls.specs.Packets.{Packet}
 use Rattle.store_guarantees.specs.Chains.{Chain, Chains, packets_in}
 use Rattle.fq_state.specs.Flow.{ends_of}
 use Rattle.fq_state.specs.Fresh.{fresh}
+use Rattle.fq_state.specs.State.{State}
 use Rattle.fq_state.specs.declared.Flow.{Flow}
 use Rattle.fq_state.specs.declared.Settings.{Settings}
-use Rattle.fq_rules.specs.Answer.{Answer, admits, departed, refused, ticked, verdict}
-use Rattle.fq_rules.specs.Arrival.{flow_number}
-use Rattle.fq_rules.specs.Calls.{Flows, Request, after, answer_of, ask_arrival, ask_departure, ask_tick}
+use Rattle.fq_rules.specs.Answer.{Answer, Reply, admits, departed, refused, ticked, verdict}
+use Rattle.fq_rules.specs.Arrival.{arrived_handles, arrived_sizes, flow_number}
+use Rattle.fq_rules.specs.Departure.{departed_sizes}
+use Rattle.fq_guarantees.specs.Calls.{Call, arrive, depart, reply, update}
+
+-- the record and the two tables
+pub record Flows : Type 0 where
+  pub state : State
+  pub handles : List ℕ
+  pub sizes : List ℕ
+
+-- a call as it is asked for: the flows' own tables are lent to it
+pub data Request : Type 0 where
+  ask_arrival : (clock : ℕ) (key : List ℕ) (handle size : ℕ) (ecn : Bool) (u : ℕ) → Request
+  ask_departure : (clock : ℕ) → Request
+  ask_tick : (clock : ℕ) → Request
+
+abbrev pub call_of : Flows → Request → Call
+call_of q (ask_arrival clock key handle size ecn u) = arrive q.handles q.sizes clock key handle size ecn u
+call_of q (ask_departure clock) = depart q.handles q.sizes clock
+call_of q (ask_tick clock) = update clock
+
+abbrev pub answer_of : Flows → Request → Answer
+answer_of q r = (reply q.state (call_of q r)).answer
+
+-- what a request with this reply returns: an admitted arrival writes to both tables, a departure to the sizes
+abbrev pub returned : Flows → Request → Reply → Flows
+returned q (ask_arrival clock key handle size ecn u) r =
+    record {
+      state = r.state;
+      handles = arrived_handles q.state r.answer q.handles handle;
+      sizes = arrived_sizes q.state r.answer q.sizes key size;
+    }
+returned q (ask_departure clock) r =
+    record { state = r.state; handles = q.handles; sizes = departed_sizes q.state r.answer q.sizes }
+returned q (ask_tick clock) r = record { state = r.state; handles = q.handles; sizes = q.sizes }
+
+abbrev pub after : Flows → Request → Flows
+after q r = returned q r (reply q.state (call_of q r))
 
 -- ── what a flow holds ──
 

@@ -2,7 +2,7 @@
 use Rattle.std.specs.Prelude.{◌≡◌, true, length}
 use Rattle.fq_state.specs.State.{State}
 use Rattle.fq_state.specs.WellFormed.{well_formed}
-use Rattle.fq_rules.specs.Calls.{Call, reply}
+use Rattle.fq_guarantees.specs.Calls.{Call, reply}
 
 -- well formed, with 64 flows, places of the lists and deficits
 pub record Sound (s : State) : Type 0 where

@@ -1,11 +1,11 @@
 -- What holds of 64 flows over one pair of tables, over lists of calls. Each claim stands in a file of its own; proofs/ proves it.
 --
+--   Calls                 what 64 flows are asked
 --   Acceptance            the number that refuses a call, and the reply where none does
 --   SixtyFour             a record of 64 flows, which every call keeps
 --   Lists                 lists of calls on such a record
 --   Shedding              each flow as a kind of queue that sheds load by PIE
 --   Refusals              demand 1: refused by the lowest number that applies, and then nothing changes
---   WhichVerdict          question 1: each verdict is given exactly when the rules require it
 --   Kept                  23 is kept by every call
 --   NeverMalformed        refusal 2 is never given from fresh on
 --   ServesQueued          26: where a packet is queued, choosing ends at a listed flow that has one
@@ -33,12 +33,12 @@
 --   FirstInFirstOut   for each flow: admitted = departed, then queued, in order
 --   Conservation      for each flow, and for all together: bytes = bytes admitted − bytes departed; refusals 2 and 9 are never given
 --   Example           two flows, from a fresh record
+pub mod Calls
 pub mod Acceptance
 pub mod SixtyFour
 pub mod Lists
 pub mod Shedding
 pub mod Refusals
-pub mod WhichVerdict
 pub mod Kept
 pub mod NeverMalformed
 pub mod ServesQueued

@@ -3,7 +3,7 @@ use Rattle.std.proofs.Common.{◌∙◌}
 use Rattle.std.specs.Prelude.{ℕ}
 use Rattle.calls.specs.Kind.{Kind}
 use Rattle.fq_rules.specs.Answer.{Answer}
-use Rattle.fq_rules.specs.Calls.{Call, key_flow, reply}
+use Rattle.fq_guarantees.specs.Calls.{Call, key_flow, reply}
 use Rattle.fq_guarantees.specs.SixtyFour.{Record64, same_length}
 
 -- an answer, and the flow of the key of the arrival that it answers: a departure's answer says its flow itself

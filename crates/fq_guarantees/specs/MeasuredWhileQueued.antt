@@ -6,7 +6,7 @@ use Rattle.calls.specs.Traces.{Entry, trace}
 use Rattle.pie_words.specs.Flags.{is_set}
 use Rattle.fq_state.specs.WellFormed.{well_formed}
 use Rattle.fq_state.specs.declared.Flow.{Flow}
-use Rattle.fq_rules.specs.Calls.{Call}
+use Rattle.fq_guarantees.specs.Calls.{Call}
 use Rattle.fq_guarantees.specs.Lists.{fq_calls}
 use Rattle.fq_guarantees.specs.Shedding.{own}
 use Rattle.fq_guarantees.specs.SixtyFour.{Record64}

@@ -3,7 +3,7 @@
 -- 204,175 bytes, of any other flow, also of one that empties and enters again (crate schedule_guarantees: `NeverStarved`).
 use Rattle.std.specs.Prelude.{◌≢◌, List, ℕ, ◌+◌, ◌*◌, ◌≤◌}
 use Rattle.calls.specs.Traces.{trace}
-use Rattle.fq_rules.specs.Calls.{Call}
+use Rattle.fq_guarantees.specs.Calls.{Call}
 use Rattle.fq_guarantees.specs.Fairness.{Backlogged, bytes_served}
 use Rattle.fq_guarantees.specs.Kept.{Sound}
 use Rattle.fq_guarantees.specs.Lists.{fq_calls}

@@ -7,7 +7,7 @@ use Rattle.calls.specs.Traces.{trace}
 use Rattle.schedule.specs.TwoLists.{quantum}
 use Rattle.fq_state.specs.Fresh.{fresh_refusal}
 use Rattle.fq_state.specs.declared.Settings.{Settings}
-use Rattle.fq_rules.specs.Calls.{Call}
+use Rattle.fq_guarantees.specs.Calls.{Call}
 use Rattle.fq_guarantees.specs.Fairness.{Backlogged, bytes_served}
 use Rattle.fq_guarantees.specs.FairnessBySize.{HandOutAtMost}
 use Rattle.fq_guarantees.specs.Lists.{fq_calls}

@@ -10,7 +10,7 @@ use Rattle.fq_rules.specs.Answer.{Answer, refused}
 use Rattle.fq_rules.specs.Arrival.{arrival_refusals, arrived_handles, arrived_sizes}
 use Rattle.fq_rules.specs.Departure.{departed_sizes, departure_refusals}
 use Rattle.fq_rules.specs.Tick.{tick_refusals}
-use Rattle.fq_rules.specs.Calls.{Call, arrive, depart, reply, update}
+use Rattle.fq_guarantees.specs.Calls.{Call, arrive, depart, reply, update}
 
 -- the call's rows of the table of refusals: each number with its test
 abbrev pub rows_of : State → Call → List (ℕ × Bool)

@@ -10,7 +10,7 @@ use Rattle.fq_state.specs.WellFormed.{flow_conditions, settings_conditions}
 use Rattle.fq_state.specs.declared.Flow.{Flow}
 use Rattle.fq_rules.specs.Answer.{Answer, departed, refused, ticked, verdict}
 use Rattle.fq_rules.specs.Arrival.{bytes_full, slots_full}
-use Rattle.fq_rules.specs.Calls.{Call, arrive, depart, update}
+use Rattle.fq_guarantees.specs.Calls.{Call, arrive, depart, update}
 use Rattle.fq_guarantees.specs.Lists.{Answered, fq_calls}
 
 -- what an answer tells of the flow f: an arrival whose flow it is, a departure that is answered f, and every tick; nothing by any other

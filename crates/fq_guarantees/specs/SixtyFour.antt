@@ -7,7 +7,7 @@ use Rattle.fq_state.specs.State.{State}
 use Rattle.fq_state.specs.declared.Settings.{Settings}
 use Rattle.fq_rules.specs.Answer.{unless_refused}
 use Rattle.fq_guarantees.specs.Acceptance.{acceptance, refusal, reply-unless-refused}
-use Rattle.fq_rules.specs.Calls.{Call, arrive, depart, reply, update}
+use Rattle.fq_guarantees.specs.Calls.{Call, arrive, depart, reply, update}
 
 pub record Record64 : Type 0 where
   pub state : State

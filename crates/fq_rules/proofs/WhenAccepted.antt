@@ -16,7 +16,7 @@ use Rattle.pie.specs.Verdicts.{admitted, total}
 use Rattle.pie.specs.declared.Verdict.{Verdict}
 use Rattle.pie.specs.declared.Verdict.TheVariants.{DroppedBytes, DroppedSlots}
 use Rattle.refusals.specs.Rows.{first_refusal}
-use Rattle.refusals.specs.Tests.{clock_refused, head_refused, tables_refused}
+use Rattle.refusals.specs.Tests.{head_refused}
 use Rattle.refusals.proofs.Fitting.{HeadFits, head-fits, size-in-range}
 use Rattle.refusals.proofs.Ordered.{none-refuses}
 use Rattle.store.specs.Following.{link_refused}
@@ -29,16 +29,17 @@ use Rattle.fq_state.specs.declared.Flow.{Flow}
 use Rattle.fq_state.proofs.Facts.{CommonFits, FlowFits, common-fits, flow-fits, passes, totals-fit}
 use Rattle.fq_rules.specs.Arrival.{before_verdict, bytes_full, slots_full, verdict_of}
 use Rattle.fq_rules.specs.Departure.{before_choosing, head_size, head_word_refused}
+use Rattle.fq_rules.specs.Refusals.{clock_refused, tables_refused}
 use Rattle.fq_rules.specs.Tick.{tick_refusal, tick_refusals}
 use Rattle.fq_rules.proofs.EachFlow.{ListsFit, bytes-of-one, each_fits, lists-fit}
 
-clock-in-order : (c : Common) (clock : ℕ) → clock_refused c.clock.0 clock ≡ false → (c.clock.0 ≤ clock) × (clock ≤ latest)
+clock-in-order : (c : Common) (clock : ℕ) → clock_refused c clock ≡ false → (c.clock.0 ≤ clock) × (clock ≤ latest)
 clock-in-order c clock e =
     let n = or-neither (ltb clock c.clock.0) (ltb latest clock) e in
     (ltb-false _ _ n.0, ltb-false _ _ n.1)
 
 tables-fit : (c : Common) (handles_length sizes_length : ℕ) →
-    tables_refused c.settings.slots handles_length sizes_length ≡ false → (handles_length ≡ c.settings.slots) × (sizes_length ≡ c.settings.slots)
+    tables_refused c handles_length sizes_length ≡ false → (handles_length ≡ c.settings.slots) × (sizes_length ≡ c.settings.slots)
 tables-fit c handles_length sizes_length e =
     let h = eqb handles_length c.settings.slots in
     let z = eqb sizes_length c.settings.slots in

@@ -9,7 +9,7 @@ use Rattle.pie.specs.declared.Verdict.{Verdict}
 use Rattle.pie.specs.declared.Verdict.TheVariants.{DroppedBytes, DroppedSlots}
 use Rattle.hash.specs.OneAtATime.{flow_of}
 use Rattle.refusals.specs.Rows.{first_refusal}
-use Rattle.refusals.specs.Tests.{clock_refused, counts_refused, size_refused, tables_refused}
+use Rattle.refusals.specs.Tests.{size_refused}
 use Rattle.schedule.specs.Entering.{is_listed}
 use Rattle.schedule.specs.Ring.{Schedule, entered_in, two_lists}
 use Rattle.store.specs.Following.{link_refused}
@@ -20,7 +20,7 @@ use Rattle.fq_state.specs.State.{State, flow_at}
 use Rattle.fq_state.specs.declared.Common.{Common}
 use Rattle.fq_state.specs.declared.Flow.{Flow}
 use Rattle.fq_rules.specs.Answer.{Answer, Reply, admits, unless_refused, verdict}
-use Rattle.fq_rules.specs.Refusals.{state_refused}
+use Rattle.fq_rules.specs.Refusals.{clock_refused, counts_refused, state_refused, tables_refused}
 
 -- 22: the flow of a call with this key
 abbrev pub flow_number : State → (key : List ℕ) → ℕ
@@ -49,10 +49,10 @@ freed_refused c sizes v = admitted v && link_refused c.settings.slots sizes c.st
 abbrev pub before_verdict : State → (handles_length sizes_length clock size : ℕ) → List (ℕ × Bool)
 before_verdict s handles_length sizes_length clock size =
     (2, state_refused s)
-    ∷ (3, tables_refused s.common.settings.slots handles_length sizes_length)
-    ∷ (4, clock_refused s.common.clock.0 clock)
+    ∷ (3, tables_refused s.common handles_length sizes_length)
+    ∷ (4, clock_refused s.common clock)
     ∷ (7, size_refused size)
-    ∷ (8, counts_refused s.common.verdicts)
+    ∷ (8, counts_refused s.common)
     ∷ []
 
 -- 29

@@ -5,7 +5,7 @@ use Rattle.pie.specs.Backlog.{left}
 use Rattle.pie.specs.DepartureRate.{rate_after}
 use Rattle.pie.specs.declared.Pie.{Pie}
 use Rattle.refusals.specs.Rows.{first_refusal}
-use Rattle.refusals.specs.Tests.{clock_refused, empty_refused, head_refused, tables_refused}
+use Rattle.refusals.specs.Tests.{head_refused}
 use Rattle.schedule.specs.Choosing.{Choice, choose}
 use Rattle.schedule.specs.Ring.{charged_in, chosen_in, two_lists}
 use Rattle.store.specs.Following.{link_refused}
@@ -16,7 +16,7 @@ use Rattle.fq_state.specs.State.{State, counts_of, flow_at}
 use Rattle.fq_state.specs.declared.Common.{Common}
 use Rattle.fq_state.specs.declared.Flow.{Flow}
 use Rattle.fq_rules.specs.Answer.{Answer, Reply, departed, departs, unless_refused}
-use Rattle.fq_rules.specs.Refusals.{state_refused}
+use Rattle.fq_rules.specs.Refusals.{clock_refused, empty_refused, state_refused, tables_refused}
 
 -- 26: the flow that is served, the lists and deficits after the moves, and the moves: chosen on the new and the old list
 abbrev pub choice_of : State → Choice
@@ -40,9 +40,9 @@ head_word_refused slots f sizes = head_refused (backlog_of f) (head_size f sizes
 abbrev pub before_choosing : State → (handles_length sizes_length clock : ℕ) → List (ℕ × Bool)
 before_choosing s handles_length sizes_length clock =
     (2, state_refused s)
-    ∷ (3, tables_refused s.common.settings.slots handles_length sizes_length)
-    ∷ (4, clock_refused s.common.clock.0 clock)
-    ∷ (6, empty_refused s.common.backlog)
+    ∷ (3, tables_refused s.common handles_length sizes_length)
+    ∷ (4, clock_refused s.common clock)
+    ∷ (6, empty_refused s.common)
     ∷ []
 
 -- 29

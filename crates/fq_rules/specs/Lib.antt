@@ -5,10 +5,8 @@
 --   Arrival     25: a packet arrives
 --   Departure   26, 27: the packet that is served next leaves
 --   Tick        28: one tick for all flows
---   Calls       a call and its reply; what is asked of flows that have their own tables
 pub mod Answer
 pub mod Refusals
 pub mod Arrival
 pub mod Departure
 pub mod Tick
-pub mod Calls

@@ -3,20 +3,18 @@ use Rattle.std.specs.Prelude.{Bool, false, List, [], ◌∷◌, map, ℕ}
 use Rattle.units.specs.Kinds.{micros}
 use Rattle.pie.specs.Update.{updated}
 use Rattle.refusals.specs.Rows.{first_refusal}
-use Rattle.pie.specs.Constants.{period}
-use Rattle.refusals.specs.Tests.{clock_refused, too_soon_refused}
 use Rattle.fq_state.specs.Flow.{backlog_of, ends_of, flow_with, pie_of}
 use Rattle.fq_state.specs.State.{State}
 use Rattle.fq_state.specs.declared.Common.{Common}
 use Rattle.fq_state.specs.declared.Flow.{Flow}
 use Rattle.fq_rules.specs.Answer.{Reply, ticked, unless_refused}
-use Rattle.fq_rules.specs.Refusals.{state_refused}
+use Rattle.fq_rules.specs.Refusals.{clock_refused, state_refused, too_soon_refused}
 
 abbrev pub tick_refusals : State → (clock : ℕ) → List (ℕ × Bool)
 tick_refusals s clock =
     (2, state_refused s)
-    ∷ (4, clock_refused s.common.clock.0 clock)
-    ∷ (5, too_soon_refused period s.common.last.0 clock)
+    ∷ (4, clock_refused s.common clock)
+    ∷ (5, too_soon_refused s.common clock)
     ∷ []
 
 unfoldable pub tick_refusal : State → (clock : ℕ) → ℕ

@@ -1,11 +1,11 @@
 -- 23: which records are well formed. Nothing is asked of the tables.
-use Rattle.std.specs.Prelude.{Bool, true, ◌&&◌, List, [], ◌∷◌, ◌++◌, ℕ, ◌+◌, ◌^◌, leb, ltb, eqb}
+use Rattle.std.specs.Prelude.{Bool, true, not, ◌&&◌, ◌||◌, List, [], ◌∷◌, ◌++◌, ℕ, ◌+◌, ◌*◌, ◌^◌, leb, ltb, eqb}
 use Rattle.laws.specs.Tests.{all}
-use Rattle.pie.specs.Constants.{latest, most_verdicts}
-use Rattle.pie.specs.Ranges.{backlog_conditions, buffer_conditions, measurement_conditions, pie_conditions, slots_conditions, target_conditions}
+use Rattle.units.specs.Kinds.{whole}
+use Rattle.pie.specs.Constants.{full_allowance, largest, latest, longest, most_accumulated, most_verdicts, threshold}
 use Rattle.pie.specs.Verdicts.{total}
 use Rattle.schedule.specs.WellFormed.{well_listed}
-use Rattle.fq_state.specs.Flow.{backlog_of, pie_of}
+use Rattle.pie_words.specs.Flags.{is_set}
 use Rattle.fq_state.specs.State.{State, counts_of, each_bytes}
 use Rattle.fq_state.specs.declared.Common.{Common}
 use Rattle.fq_state.specs.declared.Flow.{Flow}
@@ -14,10 +14,13 @@ use Rattle.fq_state.specs.declared.Settings.{Settings}
 -- target, buffer, slots in range; the salt is any number of 32 bits
 abbrev pub settings_conditions : Settings → List Bool
 settings_conditions s =
-    target_conditions s.target.0
-    ++ buffer_conditions s.buffer.0
-    ++ slots_conditions s.slots
-    ++ ltb s.salt (2 ^ 32)
+    leb 1000 s.target.0
+    ∷ leb s.target.0 100000
+    ∷ leb 1 s.buffer.0
+    ∷ leb s.buffer.0 16777216
+    ∷ leb 1 s.slots
+    ∷ leb s.slots 65536
+    ∷ ltb s.salt (2 ^ 32)
     ∷ []
 
 abbrev pub common_conditions : Common → List Bool
@@ -34,11 +37,23 @@ common_conditions c =
 -- each flow; head and tail are tested even where they mean nothing
 abbrev pub flow_conditions : Common → Flow → List Bool
 flow_conditions c f =
-    pie_conditions (pie_of f)
-    ++ ltb f.head c.settings.slots
+    leb f.prob whole
+    ∷ leb f.old longest
+    ∷ leb f.allowance full_allowance
+    ∷ ltb f.accumulated most_accumulated
+    ∷ leb f.average longest
+    ∷ ltb f.head c.settings.slots
     ∷ ltb f.tail c.settings.slots
-    ∷ backlog_conditions c.settings.slots c.settings.buffer.0 (backlog_of f)
-    ++ measurement_conditions (pie_of f).rate f.count c.clock.0
+    ∷ leb f.count c.settings.slots
+    ∷ leb f.count f.bytes
+    ∷ leb f.bytes (largest * f.count)
+    ∷ leb f.bytes c.settings.buffer.0
+    ∷ leb f.start c.clock.0
+    ∷ ltb f.counted threshold
+    ∷ (is_set f.measuring || eqb f.start 0)
+    ∷ (is_set f.measuring || eqb f.counted 0)
+    ∷ not (is_set f.measuring && eqb f.count 0)
+    ∷ []
 
 unfoldable pub flows_fit : Common → List Flow → Bool
 flows_fit c [] = true

@@ -12,8 +12,8 @@ ghost use Rattle.fq_rules.specs.Tick.{tick_refusal};
 ghost use Rattle.laws.specs.Tests.{all};
 
 use fq_state::Common;
-use pie::PERIOD;
-use refusals::{Accepted, Refusal, counts_full, too_soon, wrong_clock, wrong_size};
+use pie::{LARGEST, LATEST, PERIOD};
+use refusals::{Accepted, Refusal, counts_full};
 use units::{Bytes, Micros};
 
 // Refusal 8, which is not due where there is known to be room.
@@ -47,12 +47,12 @@ pub(crate) fn check_arrival(
     if !fit {
         return Accepted::No(Refusal::Tables);
     }
-    let untimely = wrong_clock(common.clock, clock);
-    if untimely {
+    let wrong_clock = (clock.0 < common.clock.0) | (LATEST < clock.0);
+    if wrong_clock {
         return Accepted::No(Refusal::Clock);
     }
-    let outsized = wrong_size(size);
-    if outsized {
+    let wrong_size = (size.0 == 0) | (LARGEST < size.0);
+    if wrong_size {
         return Accepted::No(Refusal::Size);
     }
     let verdicts = common.verdicts;
@@ -73,8 +73,8 @@ pub(crate) fn check_departure(common: Common, handles: u64, sizes: u64, clock: M
     if !fit {
         return Accepted::No(Refusal::Tables);
     }
-    let untimely = wrong_clock(common.clock, clock);
-    if untimely {
+    let wrong_clock = (clock.0 < common.clock.0) | (LATEST < clock.0);
+    if wrong_clock {
         return Accepted::No(Refusal::Clock);
     }
     let empty = common.backlog.count == 0;
@@ -89,12 +89,12 @@ pub(crate) fn check_tick(common: Common, clock: Micros) -> Accepted
     requires { all (common_conditions common) ≡ true }
     ensures { (s : State) → s.common ≡ common → well_formed s ≡ true → refusal_in result ≡ tick_refusal s clock.0 }
 {
-    let untimely = wrong_clock(common.clock, clock);
-    if untimely {
+    let wrong_clock = (clock.0 < common.clock.0) | (LATEST < clock.0);
+    if wrong_clock {
         return Accepted::No(Refusal::Clock);
     }
-    let early = too_soon(Micros(PERIOD), common.last, clock);
-    if early {
+    let too_soon = clock.0 < common.last.0 + PERIOD;
+    if too_soon {
         return Accepted::No(Refusal::TooSoon);
     }
     Accepted::Yes

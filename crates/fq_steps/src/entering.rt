@@ -1,12 +1,13 @@
 // The calls over a record that is lent in its parts, as words. The counts are the flows', before and after.
-ghost use Rattle.std.specs.Prelude.{◌≡◌, true, List, ℕ, ◌≤◌, ◌<◌, set};
+ghost use Rattle.std.specs.Prelude.{◌≡◌, true, ◌≤◌, ◌<◌, set};
 ghost use Rattle.pie.specs.Constants.{most_verdicts};
 ghost use Rattle.pie.specs.Verdicts.{total};
 ghost use Rattle.fq_state.specs.State.{counts_of, flow_at};
 ghost use Rattle.fq_state.specs.WellFormed.{well_formed};
-ghost use Rattle.fq_rules.specs.Calls.{ask_arrival, ask_departure, ask_tick};
-ghost use Rattle.fq_words.specs.Codes.{packet_of};
-ghost use Rattle.fq_words.specs.Lent.{code_to, held, leaves, reply_to};
+ghost use Rattle.fq_rules.specs.Arrival.{arrival, arrived_handles, arrived_sizes};
+ghost use Rattle.fq_rules.specs.Departure.{departed_sizes, departure};
+ghost use Rattle.fq_rules.specs.Tick.{tick};
+ghost use Rattle.fq_words.specs.Codes.{code_of, common_after, deficits_after, flows_after, order_after, packet_of};
 ghost use Rattle.fq_words.specs.Words.{common_of, flows_of, lent};
 
 use crate::calling::{arrival_of, departure_of, tick_of};
@@ -45,12 +46,15 @@ pub fn arrive(
     requires flows_value { well_formed (lent common.old order.old deficits.old flows.old) ≡ true }
     requires counts_value { counts.old ≡ counts_of (flows_of flows.old) }
     requires common_bound { (room ≡ true) → (total (common_of common.old).verdicts < most_verdicts) }
-    ensures fact { let q = held common.old order.old flows.old deficits.old
-        handles.old sizes.old in
-        let asked = ask_arrival clock key.now handle size ecn u in
-        (result ≡ code_to q asked)
-        × (held common.new order.new flows.new deficits.new handles.new
-        sizes.new ≡ leaves q asked) }
+    ensures fact { let s = lent common.old order.old deficits.old flows.old in
+        let a = arrival s handles.old sizes.old clock key.now size ecn u in
+        (result ≡ code_of a.answer)
+        × (common.new ≡ common_after a common.old)
+        × (order.new ≡ order_after a order.old)
+        × (flows.new ≡ flows_after a flows.old)
+        × (deficits.new ≡ deficits_after a deficits.old)
+        × (handles.new ≡ arrived_handles s a.answer handles.old handle)
+        × (sizes.new ≡ arrived_sizes s a.answer sizes.old key.now size) }
     ensures counts_after { counts.new ≡ counts_of (flows_of flows.new) }
 {
     sized(*flows);
@@ -100,13 +104,15 @@ pub fn depart(
 ) -> u32
     requires flows_value { well_formed (lent common.old order.old deficits.old flows.old) ≡ true }
     requires counts_value { counts.old ≡ counts_of (flows_of flows.old) }
-    ensures fact { let q = held common.old order.old flows.old deficits.old
-        handles.now sizes.old in
-        let asked = ask_departure clock in
-        (result ≡ code_to q asked)
-        × (held common.new order.new flows.new deficits.new handles.now
-        sizes.new ≡ leaves q asked)
-        × (packet.new ≡ packet_of (reply_to q asked).answer) }
+    ensures fact { let s = lent common.old order.old deficits.old flows.old in
+        let a = departure s handles.now sizes.old clock in
+        (result ≡ code_of a.answer)
+        × (common.new ≡ common_after a common.old)
+        × (order.new ≡ order_after a order.old)
+        × (flows.new ≡ flows_after a flows.old)
+        × (deficits.new ≡ deficits_after a deficits.old)
+        × (sizes.new ≡ departed_sizes s a.answer sizes.old)
+        × (packet.new ≡ packet_of a.answer) }
     ensures counts_after { counts.new ≡ counts_of (flows_of flows.new) }
 {
     sized(*flows);
@@ -149,11 +155,11 @@ pub fn update(
     clock: u64,
 ) -> u32
     requires { well_formed (lent common.old order.now deficits.now flows.old) ≡ true }
-    ensures by_index { (handles sizes : List ℕ) →
-        let q = held common.old order.now flows.old deficits.now handles sizes in
-        (result ≡ code_to q (ask_tick clock))
-        × (held common.new order.now flows.new deficits.now handles sizes
-        ≡ leaves q (ask_tick clock)) }
+    ensures fact { let s = lent common.old order.now deficits.now flows.old in
+        let a = tick s clock in
+        (result ≡ code_of a.answer)
+        × (common.new ≡ common_after a common.old)
+        × (flows.new ≡ flows_after a flows.old) }
     ensures flows_unchanged { counts_of (flows_of flows.new) ≡ counts_of (flows_of flows.old) }
 {
     sized(*flows);

@@ -25,4 +25,4 @@ pub use layout::{
 pub use making::fresh;
 pub use reading::{flow_at, set_flow};
 pub use records::{decode, decode_lists, encode, numbered, sized};
-pub use testing::{fits, well_formed};
+pub use testing::fits;

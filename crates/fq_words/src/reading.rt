@@ -1,5 +1,5 @@
 // The flows as words, twelve to a flow.
-ghost use Rattle.std.specs.Prelude.{◌≡◌, ◌<◌, ◌*◌, set};
+ghost use Rattle.std.specs.Prelude.{◌≡◌, ◌<◌, ◌*◌, length, set};
 ghost use Rattle.fq_state.specs.State.{flow_at};
 ghost use Rattle.fq_words.specs.Words.{flow_from, flows_of};
 ghost use Rattle.fq_words.specs.Written.{fields_of, written};
@@ -8,7 +8,6 @@ use crate::layout::{
     ACCUMULATED, ALLOWANCE, AVERAGE, COUNTED, FLOW_BYTES, FLOW_COUNT, HEAD, MEASURING, OLD_DELAY,
     PROB, START, TAIL,
 };
-use crate::sized;
 use fq_state::Flow;
 
 // The flow whose words stand at twelve times this number.
@@ -51,6 +50,11 @@ fn write(w: &mut [u64; 768], i: usize, f: Flow)
     w[at + HEAD] = f.head;
     w[at + TAIL] = f.tail;
 }
+
+// That the words are 768, which a reference does not say. The copy is compiled away.
+fn sized(w: [u64; 768])
+    ensures { length w ≡ 768 }
+{}
 
 // The flow of this number.
 pub fn flow_at(w: &[u64; 768], i: usize) -> Flow

@@ -103,16 +103,3 @@ pub fn fits(
     let l = decode_lists(*common);
     parts_fit(c, l, order, deficits, flows, counts)
 }
-
-// The test alone.
-pub fn well_formed(
-    common: &[u64; 19],
-    order: &[u64; 64],
-    deficits: &[u32; 64],
-    flows: &[u64; 768],
-) -> bool
-    ensures { result ≡ well_formed (lent common.now order.now deficits.now flows.now) }
-{
-    let mut counts = [0u32; 64];
-    fits(common, order, deficits, flows, &mut counts)
-}

@@ -16,7 +16,7 @@ use Rattle.log.specs.Answers.{Answer, Turn, end, given, handed, header_of, refus
 use Rattle.log.specs.Faults.{header_refused}
 use Rattle.log.specs.Layout.{header_in, note_in}
 use Rattle.log.specs.Reader.{Part, note_of, note_part, part_of, place_after, settings_of, trailer_refused}
-use Rattle.log.specs.Writer.{Reply, add, add_refusal, added, reply_of, unless_refused as reply_unless}
+use Rattle.log.specs.Writer.{Reply, add, add_refusal, added, reply_of, unless_refused}
 use Rattle.log.specs.declared.Accepted.{Accepted}
 use Rattle.log.specs.declared.Accepted.TheVariants.{No, Yes}
 use Rattle.log.specs.declared.Opened.{Opened}
@@ -27,8 +27,7 @@ use Rattle.log.specs.declared.Step.{Step}
 use Rattle.log.specs.declared.Step.TheVariants.{Handed, End, Refused as StepRefused}
 use Rattle.log.specs.declared.Writer.{Writer}
 use Rattle.log.specs.declared.Written.{Written}
-use Rattle.log_c.specs.Codes.{answer_code, begun_words, code_of, note_words, part_words, settings_bytes, turn_bytes, turn_code}
-use Rattle.log_c.specs.Codes.{unless_refused, writer_of, writer_words}
+use Rattle.log_c.specs.Codes.{answer_code, code_of, note_words, part_words, settings_bytes, turn_bytes, turn_code, writer_of, writer_words}
 
 -- 100 and the number
 refusal-code : (r : Refusal) → 100 + refusal_number r ≡ code_of (refusal_number r)
@@ -40,25 +39,10 @@ refusal-code Room = refl
 pub no_code : {a : Accepted} {r : Refusal} {n : ℕ} → a ≡ No r → n ≡ refusal_number r → 100 + n ≡ code_of (refusal_in a)
 no_code {a} {r} {n} e f = ap (λ m. 100 + m) f ∙ refusal-code r ∙ ap (λ x. code_of (refusal_in x)) (sym e)
 
--- a begin that is accepted writes the words, and a refused one leaves them
-kept-words : (no : Refusal) (w : Writer) (words : List ℕ) → words ≡ unless_refused (refusal_number no) w words
-kept-words Trailer w words = refl
-kept-words Settings w words = refl
-kept-words Fault w words = refl
-kept-words Room w words = refl
-
-module _ (w : Written) {bytes : List ℕ} {a : Reply} (words : List ℕ) (e : reply_of w bytes ≡ a) where
-  pub begun : w.accepted ≡ Yes →
-      (◌≡◌ {A = ℕ} 0 (code_of a.refusal)) × (w.writer.offset ∷ w.writer.count ∷ [] ≡ begun_words a words) × (bytes ≡ a.bytes)
-  begun y =
-      let z : 0 ≡ a.refusal = ap refusal_in (sym y) ∙ ap (λ a. a.refusal) e in
-      (ap code_of z, ap (λ a. writer_words a.writer) e ∙ ap (λ n. unless_refused n a.writer words) z, ap (λ a. a.bytes) e)
-
-  pub none-begun : {no : Refusal} {n : ℕ} → w.accepted ≡ No no → n ≡ refusal_number no →
-      (100 + n ≡ code_of a.refusal) × (words ≡ begun_words a words) × (bytes ≡ a.bytes)
-  none-begun {no} y f =
-      let z : refusal_number no ≡ a.refusal = ap refusal_in (sym y) ∙ ap (λ a. a.refusal) e in
-      (no_code y f ∙ ap (λ a. code_of a.refusal) e, kept-words no a.writer words ∙ ap (λ n. unless_refused n a.writer words) z, ap (λ a. a.bytes) e)
+-- a writer's call: what it returned, and its reply
+pub written : (w : Written) {bytes : List ℕ} {a : Reply} {n : ℕ} → reply_of w bytes ≡ a → n ≡ code_of (refusal_in w.accepted) →
+    (n ≡ code_of a.refusal) × (w.writer.offset ∷ w.writer.count ∷ [] ≡ writer_words a.writer) × (bytes ≡ a.bytes)
+written w e f = (f ∙ ap (λ a. code_of a.refusal) e, ap (λ a. writer_words a.writer) e, ap (λ a. a.bytes) e)
 
 -- an addition leaves the offset, and a refused one the count too
 add-offset : (w : Writer) (r : Record) (l : List ℕ) → (add w r l).writer.offset ≡ w.offset
@@ -66,7 +50,7 @@ unfolding add
 add-offset w r l = go (add_refusal w r (length l))
   where
     go : (n : ℕ) →
-        (reply_unless n w l (record { refusal = 0; writer = record { offset = w.offset; count = w.count + 1 }; bytes = added w r l })).writer.offset
+        (unless_refused n w l (record { refusal = 0; writer = record { offset = w.offset; count = w.count + 1 }; bytes = added w r l })).writer.offset
         ≡ w.offset
     go zero = refl
     go (suc n) = refl
@@ -76,7 +60,7 @@ unfolding add
 add-count w r l h = go (add_refusal w r (length l)) h
   where
     go : (n : ℕ) →
-        let a = reply_unless n w l (record { refusal = 0; writer = record { offset = w.offset; count = w.count + 1 }; bytes = added w r l }) in
+        let a = unless_refused n w l (record { refusal = 0; writer = record { offset = w.offset; count = w.count + 1 }; bytes = added w r l }) in
         (a.refusal ≡ 0 → ⊥) → a.writer.count ≡ w.count
     go zero h = absurd (h refl)
     go (suc n) h = refl

@@ -4,7 +4,6 @@ use Rattle.log_codec.specs.Headers.{encoded_header}
 use Rattle.log_codec.specs.Records.{encoded}
 use Rattle.log_codec.specs.declared.Header.{Header}
 use Rattle.log.specs.Answers.{Answer, Turn, end, given, handed, refused}
-use Rattle.log.specs.Writer.{Reply}
 use Rattle.log.specs.declared.Writer.{Writer}
 
 -- 0 for an accepted call, 100 and the number for a refusal
@@ -18,14 +17,6 @@ writer_of words = record { offset = get_or words 0 0; count = get_or words 1 0 }
 
 abbrev pub writer_words : Writer → List ℕ
 writer_words w = w.offset ∷ w.count ∷ []
-
--- the words after begin: the state that it returns; a refused one leaves them
-abbrev pub unless_refused : (refusal : ℕ) → Writer → (words : List ℕ) → List ℕ
-unless_refused zero w words = writer_words w
-unless_refused (suc n) w words = words
-
-abbrev pub begun_words : Reply → (words : List ℕ) → List ℕ
-begun_words a words = unless_refused a.refusal a.writer words
 
 -- a record read, 1 at the end
 abbrev pub turn_code : Answer Turn → ℕ

@@ -3,10 +3,11 @@
 ghost use Rattle.std.specs.Prelude.{◌≡◌, length};
 ghost use Rattle.log_codec.specs.Headers.{decoded_header};
 ghost use Rattle.log_codec.specs.Records.{decoded};
+ghost use Rattle.log.specs.Answers.{refusal_in};
 ghost use Rattle.log.specs.Reader.{note_of, place_after, read_at, settings_of};
 ghost use Rattle.log.specs.Writer.{add, begin};
-ghost use Rattle.log_c.specs.Codes.{answer_code, begun_words, code_of, note_words, part_words, settings_bytes};
-ghost use Rattle.log_c.specs.Codes.{turn_bytes, turn_code, writer_of, writer_words};
+ghost use Rattle.log_c.specs.Codes.{answer_code, code_of, note_words, part_words, settings_bytes, turn_bytes, turn_code};
+ghost use Rattle.log_c.specs.Codes.{writer_of, writer_words};
 
 use log::{Accepted, Opened, Step, Writer};
 
@@ -20,6 +21,15 @@ fn two(w: [u32; 2])
     ensures { length w ≡ 2 }
 {}
 
+fn code(accepted: Accepted) -> u32
+    ensures { result ≡ code_of (refusal_in accepted) }
+{
+    match accepted {
+        Accepted::Yes => 0,
+        Accepted::No(refusal) => 100 + refusal.number(),
+    }
+}
+
 #[unsafe(no_mangle)]
 pub extern "C" fn obikuteru_log_begin(
     words: &mut [u32; 2],
@@ -28,20 +38,15 @@ pub extern "C" fn obikuteru_log_begin(
     bytes: &mut [u8],
 ) -> u32
     ensures { let a = begin (decoded_header settings.now 0) note.now bytes.old in
-        (result ≡ code_of a.refusal) × (words.new ≡ begun_words a words.old) × (bytes.new ≡ a.bytes) }
+        (result ≡ code_of a.refusal) × (words.new ≡ writer_words a.writer) × (bytes.new ≡ a.bytes) }
 {
     thirty_two(*settings);
     let h = log_codec::get_header(settings, 0);
     let w = log::begin(h, note, bytes);
     let writer = w.writer;
+    *words = [writer.offset, writer.count];
     let accepted = w.accepted;
-    match accepted {
-        Accepted::Yes => {
-            *words = [writer.offset, writer.count];
-            0
-        }
-        Accepted::No(refusal) => 100 + refusal.number(),
-    }
+    code(accepted)
 }
 
 #[unsafe(no_mangle)]

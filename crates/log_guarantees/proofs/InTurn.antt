@@ -21,7 +21,7 @@ module _ (l : List ℕ) (trailer : trailer_refused l ≡ false) (settings : head
   unfolding read_at
   at-end p h = simp (trailer, settings, le-leb (count_in l) p h)
 
-  pub at-record : (p : ℕ) → p < count_in l → faulty (record_in l p) ≡ false → read_at l p ≡ given (handed (record_in l p) (p + 1))
+  at-record : (p : ℕ) → p < count_in l → faulty (record_in l p) ≡ false → read_at l p ≡ given (handed (record_in l p) (p + 1))
   unfolding read_at
   at-record p h f = simp (trailer, settings, lt-leb (count_in l) p h, f)
 
@@ -42,11 +42,11 @@ module _ (l : List ℕ) (trailer : trailer_refused l ≡ false) (settings : head
       let s : suc (length (records_from k l (at + 40))) + more ≡ suc (length (records_from k l (at + 40)) + more) = omega arith in
       rw (s, here) (ap (λ (t : List (Answer Turn)). given (handed (decoded l at) (p + 1)) ∷ t) (from_place more k (p + 1) (at + 40) (omega arith) (omega arith) g.1))
 
-  pub reads-settings : settings_of l ≡ given (header_in l)
+  reads-settings : settings_of l ≡ given (header_in l)
   unfolding settings_of
   reads-settings = simp (trailer, settings)
 
-  pub reads-note : note_of l ≡ given (note_in l)
+  reads-note : note_of l ≡ given (note_in l)
   unfolding note_of
   reads-note = simp (trailer, settings)
 

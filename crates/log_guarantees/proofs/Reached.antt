@@ -1,31 +1,27 @@
--- add refuses by 11 exactly the states that no run reaches in bytes of that length.
+-- 11 refuses exactly the states that no run reaches in bytes of that length.
 use mathlib.Core.Path.{◌≡◌, refl, ap, ◌∙◌, sym}
-use mathlib.Core.Bool.{Bool, true, false, cond, not, ◌||◌, false≢true}
-use mathlib.Core.Logic.{◌≢◌}
+use mathlib.Core.Bool.{true, false, ◌||◌}
 use mathlib.Core.List.{List, ◌++◌, foldl}
 use Prim.Native.Nat.{ℕ, zero, suc, ◌+◌, ◌*◌, ◌-◌}
 use native.Mathlib.Omega.{arith}
 use lib.Dec.{leb, ltb}
 use lib.ListN.{length, length-replicate, replicate}
 use lib.Seq.{length-sets}
-use borrow.Author.Tests.{le-leb, le-ltb, lt-leb, not-true}
-use Rattle.refusals.specs.Rows.{first_refusal}
+use borrow.Author.Tests.{le-leb, le-ltb, lt-leb}
 use Rattle.laws.specs.Tests.{all}
-use Rattle.log_codec.specs.Fields.{AreBytes}
 use Rattle.log_codec.specs.Headers.{encoded_header}
-use Rattle.log_codec.specs.Records.{InRange, encoded}
+use Rattle.log_codec.specs.Records.{encoded}
 use Rattle.log_codec.specs.declared.Header.{Header}
 use Rattle.log_codec.specs.declared.Record.{Record}
 use Rattle.log.specs.Faults.{faulty, header_refused}
 use Rattle.log.specs.Layout.{length_of, trailer_of}
-use Rattle.log.specs.Writer.{Reply, add, add_refusal, add_refusals, added, begin, begun, writer_conditions}
+use Rattle.log.specs.Writer.{Reply, add, added, begin, begun, writer_conditions}
 use Rattle.log.specs.declared.Writer.{Writer}
 use Rattle.log.proofs.Facts.{Held, held}
 use Rattle.log.proofs.Replies.{add_done, begin-done}
 use Rattle.log_guarantees.specs.Reached.{Reached, Way}
-use Rattle.log_guarantees.specs.Run.{AllInRange, Run, after, run, started}
+use Rattle.log_guarantees.specs.Run.{Run, after, run, started}
 use Rattle.log_guarantees.proofs.Kept.{Kept, kept}
-use Rattle.log_guarantees.proofs.LowestFirst.{reply-number}
 
 conditions : (w : Writer) (n : ℕ) → Held w n → all (writer_conditions w n) ≡ true
 conditions w n f = simp (le-leb _ _ f.low, le-leb _ _ f.high, le-leb _ _ f.few, le-leb _ _ f.within)
@@ -48,10 +44,6 @@ tick = record { kind = 116; ecn = 0; unused = 0; handle = 0; clock = 0; size = 0
 settings-ok : header_refused settings ≡ false
 unfolding header_refused
 settings-ok = refl
-
-in-range-tick : InRange tick
-in-range-tick =
-    (omega arith, (omega arith, (omega arith, (omega arith, (omega arith, (omega arith, (omega arith, (omega arith, (omega arith, (omega arith, tt))))))))))
 
 tick-ok : faulty tick ≡ false
 unfolding faulty
@@ -86,14 +78,6 @@ length-begun : (h : Header) (note l : List ℕ) → length (begun h note l) ≡ 
 unfolding begun
 length-begun h note l = length-sets l 0 (encoded_header h ++ note ++ trailer_of (32 + length note) 0)
 
-zeros : (n : ℕ) → AreBytes (replicate n 0)
-zeros zero = tt
-zeros (suc n) = (omega arith, zeros n)
-
-all-ticks : (n : ℕ) → AllInRange (replicate n tick)
-all-ticks zero = tt
-all-ticks (suc n) = (in-range-tick, all-ticks n)
-
 way : (w : Writer) (bytes : List ℕ) → Held w (length bytes) → Way w bytes
 way w bytes f =
     let note : List ℕ = replicate (w.offset - 32) 0 in
@@ -109,8 +93,6 @@ way w bytes f =
       header = settings;
       note = note;
       records = replicate w.count tick;
-      noted = zeros (w.offset - 32);
-      in-range = all-ticks w.count;
       begins = ap (λ (a : Reply). a.refusal) (sym done);
       arrives =
           ticks w.count (started settings note bytes) w.offset 0 begun-writer
@@ -118,59 +100,10 @@ way w bytes f =
           ∙ ap (λ (n : ℕ). record { offset = w.offset; count = n }) z;
     }
 
--- ── what add answers ──
-
--- 11 is given exactly where its test holds
-eleven-only : (t f g : Bool) → ◌≡◌ {A = ℕ} (cond t 11 (cond f 13 (cond g 14 0))) 11 → t ≡ true
-eleven-only true f g e = refl
-eleven-only false true g e = absurd (omega (arith, e))
-eleven-only false false true e = absurd (omega (arith, e))
-eleven-only false false false e = absurd (omega (arith, e))
-
-module _ (w : Writer) (r : Record) (l : List ℕ) where
-  abbrev known : Bool
-  known = all (writer_conditions w (length l))
-
-  number : (add w r l).refusal ≡ first_refusal (add_refusals w r (length l))
-  unfolding add add_refusal
-  number =
-      reply-number (add_refusal w r (length l)) w l
-      (record { refusal = 0; writer = record { offset = w.offset; count = w.count + 1 }; bytes = added w r l }) refl
-
-  refused-by-11 : known ≡ false → (add w r l).refusal ≡ 11
-  refused-by-11 e = number ∙ rw e
-
-  unknown : (add w r l).refusal ≡ 11 → known ≡ false
-  unknown e =
-      not-true known
-      (eleven-only (not known) (faulty r) (leb 100000 w.count || ltb (length l) (length_of w.offset (w.count + 1))) (sym number ∙ e))
-
-module _ (w : Writer) (bytes : List ℕ) where
-  -- a run's state passes the test
-  passes : Way w bytes → all (writer_conditions w (length bytes)) ≡ true
-  passes p =
-      conditions w (length bytes)
-      (rw p.arrives at (at-run p.header p.note bytes (run p.header p.note bytes p.records) (kept p.header p.note bytes p.records p.begins)))
-
-  of_test : (n : ℕ) → length bytes ≡ n → (t : Bool) → all (writer_conditions w n) ≡ t → (t ≡ false → ⊥) → Way w bytes
-  of_test n long true e h = way w bytes (held w (length bytes) (ap (λ (k : ℕ). all (writer_conditions w k)) long ∙ e))
-  of_test n long false e h = absurd (h refl)
-
-reaches : (w : Writer) (r : Record) (offered bytes : List ℕ) → length bytes ≡ length offered → (add w r offered).refusal ≢ 11 → Way w bytes
-reaches w r offered bytes long h =
-    of_test w bytes (length offered) long (known w r offered) refl (λ e. h (refused-by-11 w r offered e))
-
-unless : (t : Bool) → (t ≡ true → ⊥) → t ≡ false
-unless true h = absurd (h refl)
-unless false h = refl
-
 pub reached-states : Reached
 reached-states = record {
-  exactly = λ w r offered bytes long. (
-    λ e p. false≢true (sym (unknown w r offered e) ∙ ap (λ (k : ℕ). all (writer_conditions w k)) (sym long) ∙ passes w bytes p),
-    λ none. refused-by-11 w r offered
-        (unless (known w r offered)
-        (λ e. none (way w bytes (held w (length bytes) (ap (λ (k : ℕ). all (writer_conditions w k)) long ∙ e))))),
-  );
-  reached = λ w r offered bytes long h. reaches w r offered bytes long h;
+  accepted = λ w bytes p.
+      conditions w (length bytes)
+      (rw p.arrives at (at-run p.header p.note bytes (run p.header p.note bytes p.records) (kept p.header p.note bytes p.records p.begins)));
+  reached = λ w bytes e. way w bytes (held w (length bytes) e);
 }

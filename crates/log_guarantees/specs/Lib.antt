@@ -3,20 +3,14 @@
 --   ReadsBack    what was accepted reads back: settings, note, the records in order, then the end
 --   AlwaysWhole  after begin and after every call of add the bytes are a whole log, byte for byte
 --   InTurn       any log that reads whole reads in turn, with the same settings, note and records
---   OneForm      any log that reads whole is, byte for byte, its settings, note, records and trailer
---   FaultAt      a log that 13 refuses, read in turn: the records before the fault, then 13
---   LowestFirst  where several refusals apply, the lowest is given
 --   Refused      a refused call changes nothing: neither the writer's state nor its bytes, nor the reader's place
---   Reached      add refuses by 11 exactly the states that no run reaches in bytes of that length
+--   Reached      11 refuses exactly the states that no run reaches in bytes of that length
 --
 -- That a record and its 40 bytes determine each other is crate log_codec's RoundTrip.
 -- That the library's calls give these replies, answers and bytes is promised by the functions themselves (crate log).
 pub mod Run
 pub mod InTurn
-pub mod OneForm
-pub mod FaultAt
 pub mod ReadsBack
 pub mod AlwaysWhole
-pub mod LowestFirst
 pub mod Refused
 pub mod Reached

@@ -1,26 +1,22 @@
--- add refuses by 11 exactly the states that no run reaches in bytes of that length.
-use Rattle.std.specs.Prelude.{◌≡◌, ◌≢◌, ◌↔◌, List, ℕ, length}
-use Rattle.log_codec.specs.Fields.{AreBytes}
+-- 11 refuses exactly the states that no run reaches in bytes of that length.
+use Rattle.std.specs.Prelude.{◌≡◌, true, List, ℕ, length}
+use Rattle.laws.specs.Tests.{all}
 use Rattle.log_codec.specs.declared.Header.{Header}
 use Rattle.log_codec.specs.declared.Record.{Record}
-use Rattle.log.specs.Writer.{add, begin}
+use Rattle.log.specs.Writer.{begin, writer_conditions}
 use Rattle.log.specs.declared.Writer.{Writer}
-use Rattle.log_guarantees.specs.Run.{AllInRange, run}
+use Rattle.log_guarantees.specs.Run.{run}
 
--- a run that reaches this state in these bytes; its note is bytes and its records fit their widths, as they do wherever code holds them
+-- a run that reaches this state in these bytes
 pub record Way (w : Writer) (bytes : List ℕ) : Type 0 where
   pub header : Header
   pub note : List ℕ
   pub records : List Record
-  pub noted : AreBytes note
-  pub in-range : AllInRange records
   pub begins : (begin header note bytes).refusal ≡ 0
   pub arrives : (run header note bytes records).writer ≡ w
 
--- whatever record is offered, and whatever bytes of that length hold
 pub record Reached : Type 0 where
-  pub exactly : (w : Writer) (r : Record) (offered bytes : List ℕ) → length bytes ≡ length offered →
-      ((add w r offered).refusal ≡ 11) ↔ ¬ Way w bytes
-  -- every other state is reached, by a run that can be given
-  pub reached : (w : Writer) (r : Record) (offered bytes : List ℕ) → length bytes ≡ length offered →
-      (add w r offered).refusal ≢ 11 → Way w bytes
+  -- a state that a run reaches is not refused by 11
+  pub accepted : (w : Writer) (bytes : List ℕ) → Way w bytes → all (writer_conditions w (length bytes)) ≡ true
+  -- a state that 11 does not refuse is reached by a run
+  pub reached : (w : Writer) (bytes : List ℕ) → all (writer_conditions w (length bytes)) ≡ true → Way w bytes

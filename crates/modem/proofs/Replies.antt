@@ -6,20 +6,20 @@ use Prim.Native.Nat.{ℕ, zero, suc}
 use native.Mathlib.Omega.{arith}
 use lib.ListN.{length}
 use Rattle.laws.proofs.Choice.{at-cond}
-use Rattle.refusals.specs.Answer.{verdict}
+use Rattle.refusals.specs.Answer.{departed, refused, ticked, verdict}
 use Rattle.modem_flow.specs.Answer.{HandsOut, Reply, answer_in, answer_of, unless_refused}
 use Rattle.modem_flow.specs.Answer as one-flow
 use Rattle.modem_flow.specs.Arrival.{arrival, stored}
-use Rattle.modem_flow.specs.Departure.{departure, departure_refusal, head_of}
+use Rattle.modem_flow.specs.Departure.{departed_state, departure, departure_refusal, head_of}
 use Rattle.modem_flow.specs.Fresh.{fresh}
 use Rattle.modem_flow.specs.Refusals.{settings_refused}
-use Rattle.modem_flow.specs.Tick.{tick, tick_refusal}
+use Rattle.modem_flow.specs.Tick.{tick, tick_refusal, ticked_state}
 use Rattle.modem_flow.specs.declared.Outcome.{Outcome}
 use Rattle.modem_flow.specs.declared.Outcome.TheVariants.{Refused, NoFlow, Made, Decided, Departed, Ticked}
 use Rattle.modem_flow.specs.declared.Replied.{Replied}
 use Rattle.modem_flow.specs.declared.Settings.{Settings}
 use Rattle.modem_flow.specs.declared.State.{State}
-use Rattle.modem_flow.proofs.Replies.{decided, departure_of, tick_of}
+use Rattle.modem_flow.proofs.Replies.{decided}
 use Rattle.modem_flow.proofs.WhenAccepted.{arrival-accepted}
 use Rattle.modem.specs.Answer.{ModemReply, no_flow, reply_in, returned_of}
 use Rattle.modem.specs.Calls.{flow_refused, for_flow}
@@ -98,7 +98,10 @@ unfolding departure counts_after
 departure-keeps s row handles sizes clock counts flow =
     go (departure_refusal s row (length handles) (length sizes) clock (head_of s sizes))
   where
-    go : (n : ℕ) → counts ≡ counts_after counts flow (unless_refused n s (departure_of s handles sizes clock)).answer
+    r : Reply
+    r = record { answer = departed (head_of s handles) (head_of s sizes); state = departed_state s clock (head_of s sizes) }
+
+    go : (n : ℕ) → counts ≡ counts_after counts flow (unless_refused n s r).answer
     go zero = refl
     go (suc n) = refl
 
@@ -107,6 +110,9 @@ pub tick-keeps : (s : State) (row : List ℕ) (clock credits : ℕ) (counts : Li
 unfolding tick counts_after
 tick-keeps s row clock credits counts flow = go (tick_refusal s row clock)
   where
-    go : (n : ℕ) → counts ≡ counts_after counts flow (unless_refused n s (tick_of s clock credits)).answer
+    r : Reply
+    r = record { answer = ticked; state = ticked_state s clock credits }
+
+    go : (n : ℕ) → counts ≡ counts_after counts flow (unless_refused n s r).answer
     go zero = refl
     go (suc n) = refl

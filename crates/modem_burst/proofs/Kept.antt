@@ -2,7 +2,7 @@
 use mathlib.Core.Path.{◌≡◌, refl, sym, ap, ◌∙◌}
 use mathlib.Core.Bool.{true}
 use mathlib.Core.List.{List, [], ◌∷◌}
-use Prim.Native.Nat.{ℕ, zero, suc, ◌+◌, ◌*◌, ◌≤◌, ◌<◌}
+use Prim.Native.Nat.{ℕ, zero, suc, ◌+◌, ◌≤◌}
 use native.Mathlib.Omega.{arith}
 use lib.ListN.{get_or, length, length-set, set}
 use borrow.Author.Tests.{le-ltb}
@@ -28,9 +28,7 @@ use Rattle.modem_guarantees.proofs.Replies.{acceptance, at-one-reply, reply-form
 use Rattle.modem_words.specs.Words.{state_of, state_words}
 use Rattle.modem_burst.specs.Calls as calls
 use Rattle.modem_words.specs.Lent.{Lent, flow_of, reply_to}
-use Rattle.modem_burst.specs.Burst.{after, flow_bursts}
-use Rattle.bursts.specs.Burst.{burst, done}
-use Rattle.bursts.proofs.Steps.{Step, one_more}
+use Rattle.modem_burst.specs.Burst.{after}
 use Rattle.modem_steps.specs.Fitting.{Ready}
 
 -- ── the flow's own reply, with its row ──
@@ -136,26 +134,3 @@ ready-kept flow q calls.unknown n (f, fit, room) = (f, fit, omega arith)
 -- enough for one, where there is enough for more
 pub ready-one : (flow : ℕ) (q : Lent) (n : ℕ) → 1 ≤ n → Ready flow q n → Ready flow q 1
 ready-one flow q n some (f, fit, room) = (f, fit, omega arith)
-
--- ── a call more, in a loop over the calls ──
-
-module _ (flow : ℕ) (first : Lent) (numbers answers : List ℕ) where
-  -- after i calls the burst of i calls is done, and lengths are as they were
-  abbrev pub Going : (q : Lent) (said : List ℕ) (i : ℕ) → Type 0
-  Going q said i =
-      (i ≤ length answers)
-      × (length said ≡ length answers)
-      × (length q.handles ≡ length first.handles)
-      × (length q.sizes ≡ length first.sizes)
-      × (done (flow_bursts flow) q said ≡ burst (flow_bursts flow) first numbers answers i)
-
-  pub goes_on : (q next : Lent) (said : List ℕ) (i word : ℕ) → i < length said → Going q said i →
-      Step (flow_bursts flow) q numbers (6 * i) word next → Going next (set said i word) (i + 1)
-  goes_on q next said i word h (low, as_long, handles, sizes, so_far) (e, f) =
-      let long = after-long flow q (calls.call_at numbers (6 * i)) in (
-        omega arith,
-        length-set said i word ∙ as_long,
-        ap (λ (x : Lent). length x.handles) f ∙ long.0 ∙ handles,
-        ap (λ (x : Lent). length x.sizes) f ∙ long.1 ∙ sizes,
-        one_more (flow_bursts flow) first numbers answers i q said word next so_far (e, f),
-      )

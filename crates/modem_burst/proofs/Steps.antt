@@ -1,12 +1,11 @@
 -- One call of a burst, from what its entry gives.
 use mathlib.Core.Path.{◌≡◌, refl, ap, ◌∙◌}
 use mathlib.Core.Bool.{true, false, cond}
-use mathlib.Core.List.{List, []}
+use mathlib.Core.List.{List}
 use Prim.Native.Nat.{ℕ, zero, suc, ◌+◌, ◌≤◌}
 use native.Mathlib.Omega.{arith}
 use lib.Dec.{eqb}
 use lib.ListN.{get_or, length}
-use borrow.Author.Tests.{eqb-true}
 use Rattle.laws.proofs.Choice.{either}
 use Rattle.bursts.specs.Numbers.{clock_at}
 use Rattle.bursts.proofs.Answers.{first-low}
@@ -14,21 +13,21 @@ use Rattle.bursts.proofs.Steps.{Step}
 use Rattle.refusals.specs.Answer.{Answer, refused, size_in}
 use Rattle.modem_flow.specs.Answer.{Reply, unless_refused}
 use Rattle.modem_flow.specs.Arrival as flow-arrival
+use Rattle.modem_flow.specs.Arrival.{stored}
 use Rattle.modem_flow.specs.Departure as flow-departure
 use Rattle.modem_flow.specs.Departure.{head_of}
 use Rattle.modem_flow.specs.Tick as flow-tick
 use Rattle.modem_flow.specs.declared.State.{State}
 use Rattle.modem_flow.proofs.WhenAccepted.{departure-accepted}
 use Rattle.modem.specs.Answer.{ModemReply}
-use Rattle.modem.specs.Asked.{ask, ask_departure, ask_tick}
 use Rattle.modem.specs.Calls.{arrival, departure, flow_refused, for_flow, tick}
 use Rattle.modem.specs.Counts.{counts_after, row_of}
-use Rattle.modem_flow.proofs.Replies.{arrival_of, departure_of, tick_of}
+use Rattle.modem_guarantees.proofs.Replies.{arrival_of, departure_of, tick_of}
 use Rattle.refusals.specs.Codes.{code_of}
-use Rattle.modem_words.specs.Words.{state_of}
-use Rattle.modem_burst.specs.Calls.{arrival_with, call_at}
+use Rattle.modem_words.specs.Words.{state_of, state_words}
+use Rattle.modem_burst.specs.Calls.{call_at}
 use Rattle.bursts.specs.Answers.{answer_word}
-use Rattle.modem_words.specs.Lent.{Lent, code_to, leaves, lent, reply_to}
+use Rattle.modem_words.specs.Lent.{Lent, lent}
 use Rattle.modem_burst.specs.Burst.{flow_bursts}
 
 -- ── a reply with refusal 10 ahead of it ──
@@ -88,10 +87,6 @@ departure-small s counts flow handles sizes clock = at-flow Small flow s counts 
 
 -- ── each kind of call ──
 
--- a departure is no arrival
-pub departure-only : (kind : ℕ) → eqb kind 2 ≡ true → eqb kind 0 ≡ false
-departure-only kind e = rw (eqb-true kind 2 e) refl
-
 module _ (flow : ℕ) (w : List ℕ) (counts : List (List ℕ)) (handles sizes calls : List ℕ) (at : ℕ) where
   abbrev kind : ℕ
   kind = get_or calls (at + 5) 0
@@ -99,32 +94,36 @@ module _ (flow : ℕ) (w : List ℕ) (counts : List (List ℕ)) (handles sizes c
   abbrev given : Lent
   given = lent w counts handles sizes
 
-  pub arrival-step : (clock : ℕ) → clock ≡ clock_at calls at → eqb kind 0 ≡ true → (word : ℕ) (next : Lent) →
-      let asked = ask (arrival_with clock calls at) in
-      word ≡ code_to flow given asked → next ≡ leaves flow given asked → Step (flow_bursts flow) given calls at word next
-  unfolding call_at
-  arrival-step clock c k word next e f =
-      rw (k, ← c) (e ∙ plain-arrival (state_of w) counts flow handles sizes clock (get_or calls (at + 3) 0) (get_or calls (at + 4) 0), f)
+  abbrev arrives : (clock : ℕ) → ModemReply
+  arrives clock = arrival (state_of w) counts flow handles sizes clock (get_or calls (at + 3) 0) (get_or calls (at + 4) 0)
 
-  pub departure-step : (clock : ℕ) → clock ≡ clock_at calls at → eqb kind 0 ≡ false → eqb kind 2 ≡ true → (word : ℕ) (next : Lent) →
-      let asked = ask (ask_departure clock) in
-      word ≡ answer_word (reply_to flow given asked).answer → next ≡ leaves flow given asked → Step (flow_bursts flow) given calls at word next
+  pub arrival-step : (clock : ℕ) → clock ≡ clock_at calls at → eqb kind 0 ≡ true →
+      (word : ℕ) (w' : List ℕ) (counts' : List (List ℕ)) (handles' sizes' : List ℕ) →
+      word ≡ code_of (arrives clock).answer → w' ≡ state_words (arrives clock).state → counts' ≡ (arrives clock).counts →
+      handles' ≡ stored (state_of w) (arrives clock).answer handles (get_or calls (at + 2) 0) →
+      sizes' ≡ stored (state_of w) (arrives clock).answer sizes (get_or calls (at + 3) 0) →
+      Step (flow_bursts flow) given calls at word (lent w' counts' handles' sizes')
   unfolding call_at
-  departure-step clock c k l word next e f = rw (k, l, ← c) (e, f)
+  arrival-step clock c k word w' counts' handles' sizes' e f g h i =
+      rw (k, ← c)
+      (e ∙ plain-arrival (state_of w) counts flow handles sizes clock (get_or calls (at + 3) 0) (get_or calls (at + 4) 0), rw (f, g, h, i))
 
-  -- a tick is lent no tables
-  pub tick-step : (clock : ℕ) → clock ≡ clock_at calls at → eqb kind 0 ≡ false → eqb kind 2 ≡ false → eqb kind 3 ≡ true →
+  pub departure-step : (clock : ℕ) → clock ≡ clock_at calls at → eqb kind 0 ≡ false → eqb kind 2 ≡ true →
       (word : ℕ) (w' : List ℕ) →
-      let asked = ask (ask_tick clock (get_or calls (at + 3) 0)) in
-      let bare = lent w counts [] [] in
-      word ≡ code_to flow bare asked → lent w' counts [] [] ≡ leaves flow bare asked →
+      let a = departure (state_of w) counts flow handles sizes clock in
+      word ≡ answer_word a.answer → w' ≡ state_words a.state → counts ≡ a.counts →
       Step (flow_bursts flow) given calls at word (lent w' counts handles sizes)
   unfolding call_at
-  tick-step clock c k l m word w' e f =
-      rw (k, l, m, ← c) (
-        e ∙ plain-tick (state_of w) counts flow clock (get_or calls (at + 3) 0),
-        ap (λ (q : Lent). lent q.words q.counts handles sizes) f,
-      )
+  departure-step clock c k l word w' e f g = rw (k, l, ← c) (e, rw (f, ← g))
+
+  pub tick-step : (clock : ℕ) → clock ≡ clock_at calls at → eqb kind 0 ≡ false → eqb kind 2 ≡ false → eqb kind 3 ≡ true →
+      (word : ℕ) (w' : List ℕ) →
+      let a = tick (state_of w) counts flow clock (get_or calls (at + 3) 0) in
+      word ≡ code_of a.answer → w' ≡ state_words a.state → counts ≡ a.counts →
+      Step (flow_bursts flow) given calls at word (lent w' counts handles sizes)
+  unfolding call_at
+  tick-step clock c k l m word w' e f g =
+      rw (k, l, m, ← c) (e ∙ plain-tick (state_of w) counts flow clock (get_or calls (at + 3) 0), rw (f, ← g))
 
   pub unknown-step : eqb kind 0 ≡ false → eqb kind 2 ≡ false → eqb kind 3 ≡ false → Step (flow_bursts flow) given calls at 120 given
   unfolding call_at

@@ -9,14 +9,13 @@ pub data Call : Type 0 where
   -- a kind that is none of those below
   unknown : Call
 
--- handle, size and u
-abbrev pub arrival_with : (clock : ℕ) (calls : List ℕ) (at : ℕ) → Request
-arrival_with clock calls at = ask_arrival clock (get_or calls (at + 2) 0) (get_or calls (at + 3) 0) (get_or calls (at + 4) 0)
+abbrev pub arrival_at : (calls : List ℕ) (at : ℕ) → Request
+arrival_at calls at = ask_arrival (clock_at calls at) (get_or calls (at + 2) 0) (get_or calls (at + 3) 0) (get_or calls (at + 4) 0)
 
 -- kind 0: an arrival; 2: a departure; 3: a tick. A modem has no ECN: 1 is none of its kinds
 abbrev pub call_of_kind : (kind : ℕ) (calls : List ℕ) (at : ℕ) → Call
 call_of_kind kind calls at =
-    cond (eqb kind 0) (asked (arrival_with (clock_at calls at) calls at))
+    cond (eqb kind 0) (asked (arrival_at calls at))
     (cond (eqb kind 2) (asked (ask_departure (clock_at calls at)))
     (cond (eqb kind 3) (asked (ask_tick (clock_at calls at) (get_or calls (at + 3) 0)))
     unknown))

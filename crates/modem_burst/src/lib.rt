@@ -1,36 +1,23 @@
 // One entry for a list of calls on one flow: record and row are tested once, and each call is answered as the single entries would.
 #![tactic(auto)]
-ghost use Rattle.std.specs.Prelude.{◌≡◌, cond, true, [], ◌+◌, ◌*◌, ◌≤◌, ◌<◌, length};
+ghost use Rattle.std.specs.Prelude.{◌≡◌, cond, true, ◌+◌, ◌*◌, ◌≤◌, ◌<◌, length};
 ghost use Rattle.pie.specs.Constants.{most_verdicts};
 ghost use Rattle.pie.specs.Verdicts.{total};
-ghost use Rattle.units.specs.Kinds.{micros};
-ghost use Rattle.bursts.specs.Numbers.{clock_at};
 ghost use Rattle.bursts.specs.Burst.{burst, done, fits, outcome};
 ghost use Rattle.modem_flow.specs.State.{formed};
-ghost use Rattle.modem.specs.Asked.{ask, ask_departure, ask_tick};
+ghost use Rattle.modem.specs.Calls.{tick as modem_tick};
 ghost use Rattle.modem.specs.Counts.{row_of};
-ghost use Rattle.modem_words.specs.Lent.{code_to, leaves, lent, reply_to};
-ghost use Rattle.modem_words.specs.Words.{state_of};
+ghost use Rattle.refusals.specs.Codes.{code_of};
+ghost use Rattle.modem_words.specs.Lent.{lent};
+ghost use Rattle.modem_words.specs.Words.{state_of, state_words};
 ghost use Rattle.modem_steps.specs.Fitting.{Ready};
-ghost use Rattle.modem_burst.specs.Calls.{arrival_with, call_at};
+ghost use Rattle.modem_burst.specs.Calls.{call_at};
 ghost use Rattle.bursts.specs.Answers.{answer_word};
 ghost use Rattle.modem_burst.specs.Burst.{after, answer_to, flow_bursts};
 
-use bursts::{
-    ARRIVAL, CLOCK_HIGH, CLOCK_LOW, DEPARTURE, HANDLE, KIND, NUMBERS, SIZE, TICK, U, UNKNOWN,
-    clock_of, has_room, wide, word,
-};
+use bursts::{clock_of, has_room, wide, word};
 use modem_steps::{arrive, depart, lent_arrival, lent_departure, lent_tick, tick};
-use modem_words::{Word, record_fits};
-use units::{Bytes, Micros};
-
-// The clock of the call at `at`.
-fn clock_at(calls: &[u32], at: usize) -> Micros
-    requires { at + 5 < length calls.now }
-    ensures { result ≡ micros (clock_at calls.now at) }
-{
-    Micros(clock_of(calls[at + CLOCK_LOW], calls[at + CLOCK_HIGH]))
-}
+use modem_words::{Code, Word, record_fits};
 
 // The call at `at`, of a flow that is ready for it. Departures are tested for first (docs/PERFORMANCE.md).
 fn known(
@@ -49,63 +36,21 @@ fn known(
         (result ≡ answer_word (answer_to flow q c))
         × (lent w.new counts.new handles.new sizes.new ≡ after flow q c) }
 {
-    let clock = clock_at(calls, at);
-    let kind = calls[at + KIND];
-    let departs = kind == DEPARTURE;
+    let clock = clock_of(calls[at], calls[at + 1]);
+    let kind = calls[at + 5];
+    let departs = kind == 2;
     if departs {
         return depart(w, handles, sizes, clock);
     }
-    let arrives = kind == ARRIVAL;
+    let arrives = kind < 1;
     if arrives {
         return arrive(w, counts, flow, handles, sizes, calls, at, clock);
     }
-    let ticks = kind == TICK;
+    let ticks = kind == 3;
     if ticks {
-        return tick(w, clock, Bytes(wide(calls[at + SIZE])));
+        return tick(w, clock, wide(calls[at + 3]));
     }
-    UNKNOWN
-}
-
-// An arrival, as the single entry answers it.
-fn single_arrival(
-    w: &mut [u64; 16],
-    counts: &mut [[u64; 5]; 16],
-    flow: u32,
-    handles: &mut [u32],
-    sizes: &mut [u32],
-    calls: &[u32],
-    at: usize,
-    clock: Micros,
-) -> u64
-    requires { at + 5 < length calls.now }
-    ensures { let q = lent w.old counts.old handles.old sizes.old in
-        let asked = ask (arrival_with clock.0 calls.now at) in
-        (result ≡ code_to flow q asked)
-        × (lent w.new counts.new handles.new sizes.new ≡ leaves flow q asked) }
-{
-    let handle = calls[at + HANDLE];
-    let size = calls[at + SIZE];
-    let u = calls[at + U];
-    wide(lent_arrival(w, counts, flow, handles, sizes, clock, handle, size, u))
-}
-
-// A departure, as the single entry answers it.
-fn single_departure(
-    w: &mut [u64; 16],
-    counts: &[[u64; 5]; 16],
-    flow: u32,
-    handles: &[u32],
-    sizes: &[u32],
-    clock: Micros,
-) -> u64
-    ensures { let q = lent w.old counts.now handles.now sizes.now in
-        let asked = ask (ask_departure clock.0) in
-        (result ≡ answer_word (reply_to flow q asked).answer)
-        × (lent w.new counts.now handles.now sizes.now ≡ leaves flow q asked) }
-{
-    let mut packet: [u32; 2] = [0, 0];
-    let code = lent_departure(w, counts, flow, handles, sizes, clock, &mut packet);
-    word(code, packet[1], packet[0])
+    Code::UNKNOWN
 }
 
 // A tick, as the single entry answers it. Since this calls `tick` too, the compiler leaves it out of the loop over the calls
@@ -114,16 +59,17 @@ fn single_tick(
     w: &mut [u64; 16],
     counts: &[[u64; 5]; 16],
     flow: u32,
-    clock: Micros,
+    clock: u64,
     credits: u32,
 ) -> u64
-    ensures { let q = lent w.old counts.now [] [] in
-        let asked = ask (ask_tick clock.0 credits) in
-        (result ≡ code_to flow q asked) × (lent w.new counts.now [] [] ≡ leaves flow q asked) }
+    ensures { let a = modem_tick (state_of w.old) counts.now flow clock credits in
+        (result ≡ code_of a.answer)
+        × (w.new ≡ state_words a.state)
+        × (counts.now ≡ a.counts) }
 {
     let formed = record_fits(w, counts, flow);
     if formed {
-        return tick(w, clock, Bytes(wide(credits)));
+        return tick(w, clock, wide(credits));
     }
     wide(lent_tick(w, counts, flow, clock, credits))
 }
@@ -144,21 +90,34 @@ fn single(
         (result ≡ answer_word (answer_to flow q c))
         × (lent w.new counts.new handles.new sizes.new ≡ after flow q c) }
 {
-    let clock = clock_at(calls, at);
-    let kind = calls[at + KIND];
-    let departure = kind == DEPARTURE;
-    if departure {
-        return single_departure(w, counts, flow, handles, sizes, clock);
+    let clock = clock_of(calls[at], calls[at + 1]);
+    let kind = calls[at + 5];
+    let arrives = kind == 0;
+    if arrives {
+        let code = lent_arrival(
+            w,
+            counts,
+            flow,
+            handles,
+            sizes,
+            clock,
+            calls[at + 2],
+            calls[at + 3],
+            calls[at + 4],
+        );
+        return wide(code);
     }
-    let arrival = kind == ARRIVAL;
-    if arrival {
-        return single_arrival(w, counts, flow, handles, sizes, calls, at, clock);
+    let departs = kind == 2;
+    if departs {
+        let mut packet: [u32; 2] = [0, 0];
+        let code = lent_departure(w, counts, flow, handles, sizes, clock, &mut packet);
+        return word(code, packet[1], packet[0]);
     }
-    let tick = kind == TICK;
-    if tick {
-        return single_tick(w, counts, flow, clock, calls[at + SIZE]);
+    let ticks = kind == 3;
+    if ticks {
+        return single_tick(w, counts, flow, clock, calls[at + 3]);
     }
-    UNKNOWN
+    Code::UNKNOWN
 }
 
 // Whether the flow is one of sixteen, state and row are well formed, the tables fit and the row has room for `n` arrivals. It decides only
@@ -210,7 +169,7 @@ fn all_known(
 {
     let mut i: usize = 0;
     while i < answers.len() {
-        let answer = known(words, counts, flow, handles, sizes, calls, NUMBERS * i);
+        let answer = known(words, counts, flow, handles, sizes, calls, 6 * i);
         answers[i] = answer;
         i += 1;
     }
@@ -234,7 +193,7 @@ fn all_single(
 {
     let mut i: usize = 0;
     while i < answers.len() {
-        let answer = single(words, counts, flow, handles, sizes, calls, NUMBERS * i);
+        let answer = single(words, counts, flow, handles, sizes, calls, 6 * i);
         answers[i] = answer;
         i += 1;
     }
@@ -258,9 +217,9 @@ pub extern "C" fn obikuteru_modem_calls(
         calls.now answers.old }
 {
     let n = answers.len();
-    let fit = (calls.len() % NUMBERS == 0) & (calls.len() / NUMBERS == n);
+    let fit = (calls.len() % 6 == 0) & (calls.len() / 6 == n);
     if !fit {
-        return refusals::UNKNOWN;
+        return Code::MISFIT;
     }
     let ahead = ready(
         words,

@@ -1,19 +1,17 @@
 // The modem's C interface (include/obikuteru.h): a flow's calls over a state that is lent as words and a lent table of counts.
 #![tactic(auto)]
-ghost use Rattle.std.specs.Prelude.{◌≡◌, ◌&&◌, not, []};
+ghost use Rattle.std.specs.Prelude.{◌≡◌, ◌&&◌, not};
+ghost use Rattle.modem_flow.specs.Arrival.{stored};
 ghost use Rattle.modem_flow.specs.Fresh.{settings_of};
 ghost use Rattle.modem_flow.specs.State.{well_formed};
-ghost use Rattle.modem.specs.Asked.{ask, ask_arrival, ask_departure, ask_tick, start};
-ghost use Rattle.modem.specs.Calls.{flow_refused};
+ghost use Rattle.modem.specs.Calls.{arrival, departure, flow_refused, fresh, tick};
 ghost use Rattle.modem.specs.Counts.{row_of};
-ghost use Rattle.refusals.specs.Codes.{packet_of};
-ghost use Rattle.modem_words.specs.Words.{state_of};
-ghost use Rattle.modem_words.specs.Lent.{code_to, leaves, lent, reply_to};
+ghost use Rattle.refusals.specs.Codes.{code_of, packet_of};
+ghost use Rattle.modem_words.specs.Words.{state_of, state_words};
 
 use modem_flow::{Settings, State};
 use modem_steps::{lent_arrival, lent_departure, lent_tick};
-use modem_words::{LAST_FLOW, clear, encode, record_fits};
-use refusals::{REFUSED, REFUSED_FLOW};
+use modem_words::{Code, LAST_FLOW, clear, encode, record_fits};
 use units::{Bytes, BytesPerSecond, Micros};
 
 #[unsafe(no_mangle)]
@@ -28,15 +26,13 @@ pub extern "C" fn obikuteru_modem_fresh(
     sustained: u64,
     clock: u64,
 ) -> u32
-    ensures { let q = lent words.old counts.old [] [] in
-        let asked = start (settings_of target buffer slots peak sustained) clock in
-        (result ≡ code_to flow q asked)
-        × (lent words.new counts.new [] [] ≡ leaves flow q asked) }
+    ensures { let a = fresh counts.old flow (settings_of target buffer slots peak sustained) clock in
+        (result ≡ code_of a.answer) × (words.new ≡ state_words a.state) × (counts.new ≡ a.counts) }
 {
     let unknown = LAST_FLOW < flow;
     if unknown {
         encode(words, State::zero());
-        return REFUSED_FLOW;
+        return Code::NO_FLOW;
     }
     let settings = Settings {
         target: Micros(target),
@@ -52,7 +48,7 @@ pub extern "C" fn obikuteru_modem_fresh(
     let refusal = outcome.refusal();
     let refused = 0 < refusal;
     if refused {
-        return REFUSED + refusal;
+        return Code::REFUSED + refusal;
     }
     clear(counts, flow);
     0
@@ -70,22 +66,15 @@ pub extern "C" fn obikuteru_modem_arrival(
     size: u32,
     u: u32,
 ) -> u32
-    ensures { let q = lent words.old counts.old handles.old sizes.old in
-        let asked = ask (ask_arrival clock handle size u) in
-        (result ≡ code_to flow q asked)
-        × (lent words.new counts.new handles.new sizes.new ≡ leaves flow q asked) }
+    ensures { let s = state_of words.old in
+        let a = arrival s counts.old flow handles.old sizes.old clock size u in
+        (result ≡ code_of a.answer)
+        × (words.new ≡ state_words a.state)
+        × (counts.new ≡ a.counts)
+        × (handles.new ≡ stored s a.answer handles.old handle)
+        × (sizes.new ≡ stored s a.answer sizes.old size) }
 {
-    lent_arrival(
-        words,
-        counts,
-        flow,
-        handles,
-        sizes,
-        Micros(clock),
-        handle,
-        size,
-        u,
-    )
+    lent_arrival(words, counts, flow, handles, sizes, clock, handle, size, u)
 }
 
 #[unsafe(no_mangle)]
@@ -98,13 +87,14 @@ pub extern "C" fn obikuteru_modem_departure(
     clock: u64,
     packet: &mut [u32; 2],
 ) -> u32
-    ensures { let q = lent words.old counts.now handles.now sizes.now in
-        let asked = ask (ask_departure clock) in
-        (result ≡ code_to flow q asked)
-        × (lent words.new counts.now handles.now sizes.now ≡ leaves flow q asked)
-        × (packet.new ≡ packet_of (reply_to flow q asked).answer) }
+    ensures { let s = state_of words.old in
+        let a = departure s counts.now flow handles.now sizes.now clock in
+        (result ≡ code_of a.answer)
+        × (words.new ≡ state_words a.state)
+        × (counts.now ≡ a.counts)
+        × (packet.new ≡ packet_of a.answer) }
 {
-    lent_departure(words, counts, flow, handles, sizes, Micros(clock), packet)
+    lent_departure(words, counts, flow, handles, sizes, clock, packet)
 }
 
 #[unsafe(no_mangle)]
@@ -115,11 +105,12 @@ pub extern "C" fn obikuteru_modem_tick(
     clock: u64,
     credits: u32,
 ) -> u32
-    ensures { let q = lent words.old counts.now [] [] in
-        let asked = ask (ask_tick clock credits) in
-        (result ≡ code_to flow q asked) × (lent words.new counts.now [] [] ≡ leaves flow q asked) }
+    ensures { let a = tick (state_of words.old) counts.now flow clock credits in
+        (result ≡ code_of a.answer)
+        × (words.new ≡ state_words a.state)
+        × (counts.now ≡ a.counts) }
 {
-    lent_tick(words, counts, flow, Micros(clock), credits)
+    lent_tick(words, counts, flow, clock, credits)
 }
 
 #[unsafe(no_mangle)]

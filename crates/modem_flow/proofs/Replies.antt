@@ -1,4 +1,4 @@
--- The replies that a call can give, and what a reply's answer tells: a refusal's number is above 0, and a verdict is no refusal.
+-- What a reply's answer tells: a refusal's number is above 0, and a verdict is no refusal.
 use mathlib.Core.Path.{◌≡◌, refl}
 use mathlib.Core.Bool.{cond}
 use mathlib.Core.List.{List}
@@ -20,24 +20,8 @@ use Rattle.refusals.specs.declared.Refusal.{Refusal}
 use Rattle.refusals.specs.declared.Refusal.TheVariants.{Settings, Malformed, Tables, Clock, TooSoon, Empty, Size, Counts, Head}
 use Rattle.modem_flow.specs.declared.State.{State}
 
--- a refusal by this number
-abbrev pub refused_by : State → (number : ℕ) → Reply
-refused_by s number = record { answer = refused number; state = s }
-
--- each call that is not refused
-abbrev pub arrival_of : State → (clock size u : ℕ) → Reply
-arrival_of s clock size u =
-    let d = decision_of s size u in record { answer = verdict d.verdict; state = arrived_state s clock size d }
-
-abbrev pub departure_of : State → (handles sizes : List ℕ) (clock : ℕ) → Reply
-departure_of s handles sizes clock =
-    record { answer = departed (head_of s handles) (head_of s sizes); state = departed_state s clock (head_of s sizes) }
-
-abbrev pub tick_of : State → (clock credits : ℕ) → Reply
-tick_of s clock credits = record { answer = ticked; state = ticked_state s clock credits }
-
 pub refused-reply : (r : Refusal) (given : State) (accepted : Reply) →
-    unless_refused (number_of r) given accepted ≡ refused_by given (number_of r)
+    unless_refused (number_of r) given accepted ≡ record { answer = refused (number_of r); state = given }
 refused-reply Settings given accepted = refl
 refused-reply Malformed given accepted = refl
 refused-reply Tables given accepted = refl
@@ -53,7 +37,7 @@ pub arrival-refused : (s : State) (row handles sizes : List ℕ) (clock handle s
     checked ≡ No r →
     refusal_in checked ≡ arrival_refusal s row (length handles) (length sizes) clock size →
     let reply = arrival s row handles sizes clock size u in
-    ((refused_by s (number_of r) ≡ reply) × ((0 ≡ handle_in reply.answer) × (0 ≡ size_in reply.answer)))
+    ((record { answer = refused (number_of r); state = s } ≡ reply) × ((0 ≡ handle_in reply.answer) × (0 ≡ size_in reply.answer)))
     × ((handles ≡ stored s reply.answer handles handle) × (sizes ≡ stored s reply.answer sizes size))
 unfolding arrival
 arrival-refused s row handles sizes clock handle size u checked r found e =
@@ -78,7 +62,7 @@ pub departure-refused : (s : State) (row handles sizes : List ℕ) (clock : ℕ)
     checked ≡ No r →
     refusal_in checked ≡ departure_refusal s row (length handles) (length sizes) clock (head_of s sizes) →
     let reply = departure s row handles sizes clock in
-    (refused_by s (number_of r) ≡ reply) × ((0 ≡ handle_in reply.answer) × (0 ≡ size_in reply.answer))
+    (record { answer = refused (number_of r); state = s } ≡ reply) × ((0 ≡ handle_in reply.answer) × (0 ≡ size_in reply.answer))
 unfolding departure
 departure-refused s row handles sizes clock checked r found e = rw (← e, found, refused-reply) (refl, (refl, refl))
 
@@ -97,7 +81,7 @@ pub tick-refused : (s : State) (row : List ℕ) (clock credits : ℕ) (checked :
     checked ≡ No r →
     refusal_in checked ≡ tick_refusal s row clock →
     let reply = tick s row clock credits in
-    (refused_by s (number_of r) ≡ reply) × ((0 ≡ handle_in reply.answer) × (0 ≡ size_in reply.answer))
+    (record { answer = refused (number_of r); state = s } ≡ reply) × ((0 ≡ handle_in reply.answer) × (0 ≡ size_in reply.answer))
 unfolding tick
 tick-refused s row clock credits checked r found e = rw (← e, found, refused-reply) (refl, (refl, refl))
 
@@ -123,7 +107,7 @@ decided s row handles sizes clock size u v = go (arrival_refusal s row (length h
     d = decision_of s size u
 
     r : Reply
-    r = arrival_of s clock size u
+    r = record { answer = verdict d.verdict; state = arrived_state s clock size d }
 
     go : (n : ℕ) → arrival_refusal s row (length handles) (length sizes) clock size ≡ n → (unless_refused n s r).answer ≡ verdict v →
         (n ≡ 0) × (d.verdict ≡ v) × ((unless_refused n s r).state ≡ arrived_state s clock size d)

@@ -43,10 +43,6 @@ answer_in r = answer_of r.outcome r.handle r.size
 abbrev pub reply_in : Replied → Reply
 reply_in r = record { answer = answer_in r; state = r.state }
 
--- an outcome with nothing handed out
-abbrev pub without_packet : Outcome → State → Replied
-without_packet o s = record { outcome = o; handle = 0; size = 0; state = s }
-
 -- the handle and the size are those that the answer hands out: 0 for every answer but an accepted departure's
 abbrev pub HandsOut : Replied → Answer → Type 0
 HandsOut r a = (r.handle ≡ handle_in a) × (r.size ≡ size_in a)

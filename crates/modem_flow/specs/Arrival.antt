@@ -7,18 +7,18 @@ use Rattle.pie.specs.declared.Verdict.{Verdict}
 use Rattle.pie.specs.declared.Verdict.TheVariants.{DroppedBytes, DroppedSlots}
 use Rattle.refusals.specs.Answer.{Answer, admits, verdict}
 use Rattle.refusals.specs.Rows.{first_refusal}
-use Rattle.refusals.specs.Tests.{clock_refused, counts_refused, size_refused, tables_refused}
+use Rattle.refusals.specs.Tests.{size_refused}
 use Rattle.docsis_pie.specs.DropDecision.{decided, with_accumulated}
 use Rattle.docsis_pie.specs.declared.Decided.{Decided}
 use Rattle.modem_flow.specs.Answer.{Reply, unless_refused}
-use Rattle.modem_flow.specs.Refusals.{state_refused}
+use Rattle.modem_flow.specs.Refusals.{clock_refused, counts_refused, state_refused, tables_refused}
 use Rattle.modem_flow.specs.declared.State.{State}
 
 abbrev pub arrival_refusals : State → (row : List ℕ) (handles_length sizes_length clock size : ℕ) → List (ℕ × Bool)
 arrival_refusals s row handles_length sizes_length clock size =
     (2, state_refused s row)
-    ∷ (3, tables_refused s.settings.slots handles_length sizes_length)
-    ∷ (4, clock_refused s.clock.0 clock)
+    ∷ (3, tables_refused s handles_length sizes_length)
+    ∷ (4, clock_refused s clock)
     ∷ (7, size_refused size)
     ∷ (8, counts_refused row)
     ∷ []

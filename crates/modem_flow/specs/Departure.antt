@@ -4,9 +4,9 @@ use Rattle.units.specs.Kinds.{micros}
 use Rattle.pie.specs.Backlog.{left}
 use Rattle.refusals.specs.Answer.{departed}
 use Rattle.refusals.specs.Rows.{first_refusal}
-use Rattle.refusals.specs.Tests.{clock_refused, empty_refused, head_refused, tables_refused}
+use Rattle.refusals.specs.Tests.{head_refused}
 use Rattle.modem_flow.specs.Answer.{Reply, unless_refused}
-use Rattle.modem_flow.specs.Refusals.{state_refused}
+use Rattle.modem_flow.specs.Refusals.{clock_refused, empty_refused, state_refused, tables_refused}
 use Rattle.modem_flow.specs.declared.State.{State}
 
 -- the head's entry in a table
@@ -16,9 +16,9 @@ head_of s table = get_or table s.first 0
 abbrev pub departure_refusals : State → (row : List ℕ) (handles_length sizes_length clock head_size : ℕ) → List (ℕ × Bool)
 departure_refusals s row handles_length sizes_length clock head_size =
     (2, state_refused s row)
-    ∷ (3, tables_refused s.settings.slots handles_length sizes_length)
-    ∷ (4, clock_refused s.clock.0 clock)
-    ∷ (6, empty_refused s.backlog)
+    ∷ (3, tables_refused s handles_length sizes_length)
+    ∷ (4, clock_refused s clock)
+    ∷ (6, empty_refused s)
     ∷ (9, head_refused s.backlog head_size)
     ∷ []
 

@@ -1,8 +1,7 @@
 -- Which records, with the row of their flow, are well formed (docs/DOCSIS-PIE.md, part 2).
-use Rattle.std.specs.Prelude.{Bool, ◌&&◌, ◌||◌, List, [], ◌∷◌, ◌++◌, ℕ, leb, ltb, eqb}
+use Rattle.std.specs.Prelude.{Bool, ◌&&◌, ◌||◌, List, [], ◌∷◌, ◌++◌, ℕ, ◌*◌, leb, ltb, eqb}
 use Rattle.units.specs.Kinds.{fastest, none, slowest}
-use Rattle.pie.specs.Constants.{latest, longest, most_verdicts}
-use Rattle.pie.specs.Ranges.{backlog_conditions, buffer_conditions, slots_conditions, target_conditions}
+use Rattle.pie.specs.Constants.{largest, latest, longest, most_verdicts}
 use Rattle.pie.specs.Verdicts.{total}
 use Rattle.laws.specs.Tests.{all}
 use Rattle.docsis_pie.specs.Constants.{active, full_allowance, high, most_prob, quiescent, reset_timeout}
@@ -12,10 +11,13 @@ use Rattle.modem_flow.specs.declared.State.{State}
 -- target, buffer, slots, peak and sustained in range
 abbrev pub settings_conditions : Settings → List Bool
 settings_conditions s =
-    target_conditions s.target.0
-    ++ buffer_conditions s.buffer.0
-    ++ slots_conditions s.slots
-    ++ leb slowest s.peak.0
+    leb 1000 s.target.0
+    ∷ leb s.target.0 100000
+    ∷ leb 1 s.buffer.0
+    ∷ leb s.buffer.0 16777216
+    ∷ leb 1 s.slots
+    ∷ leb s.slots 65536
+    ∷ leb slowest s.peak.0
     ∷ leb s.peak.0 fastest
     ∷ leb slowest s.sustained.0
     ∷ leb s.sustained.0 fastest
@@ -33,9 +35,12 @@ state_conditions s =
     ∷ leb s.pie.phase.reset.0 reset_timeout
     ∷ leb s.pie.phase.activity.0 active
     ∷ ltb s.first s.settings.slots
-    ∷ backlog_conditions s.settings.slots s.settings.buffer.0 s.backlog
+    ∷ leb s.backlog.count s.settings.slots
+    ∷ leb s.backlog.count s.backlog.bytes.0
+    ∷ leb s.backlog.bytes.0 (largest * s.backlog.count)
+    ∷ leb s.backlog.bytes.0 s.settings.buffer.0
     -- the allowance is 0, or the flow is active
-    ++ (eqb s.pie.allowance.0 0 || eqb s.pie.phase.activity.0 active)
+    ∷ (eqb s.pie.allowance.0 0 || eqb s.pie.phase.activity.0 active)
     -- the reset time is 0, or the flow is quiescent and p is 0
     ∷ (eqb s.pie.phase.reset.0 0 || (eqb s.pie.phase.activity.0 quiescent && eqb s.pie.prob.0 none))
     ∷ []

@@ -3,18 +3,16 @@ use Rattle.std.specs.Prelude.{Bool, List, [], ◌∷◌, ℕ}
 use Rattle.units.specs.Kinds.{micros}
 use Rattle.refusals.specs.Answer.{ticked}
 use Rattle.refusals.specs.Rows.{first_refusal}
-use Rattle.docsis_pie.specs.Constants.{period}
-use Rattle.refusals.specs.Tests.{clock_refused, too_soon_refused}
 use Rattle.docsis_pie.specs.Update.{updated}
 use Rattle.modem_flow.specs.Answer.{Reply, unless_refused}
-use Rattle.modem_flow.specs.Refusals.{state_refused}
+use Rattle.modem_flow.specs.Refusals.{clock_refused, state_refused, too_soon_refused}
 use Rattle.modem_flow.specs.declared.State.{State}
 
 abbrev pub tick_refusals : State → (row : List ℕ) (clock : ℕ) → List (ℕ × Bool)
 tick_refusals s row clock =
     (2, state_refused s row)
-    ∷ (4, clock_refused s.clock.0 clock)
-    ∷ (5, too_soon_refused period s.last.0 clock)
+    ∷ (4, clock_refused s clock)
+    ∷ (5, too_soon_refused s clock)
     ∷ []
 
 unfoldable pub tick_refusal : State → (row : List ℕ) (clock : ℕ) → ℕ

@@ -7,13 +7,12 @@ ghost use Rattle.modem_flow.specs.State.{formed};
 ghost use Rattle.modem_flow.specs.Answer.{HandsOut, reply_in};
 ghost use Rattle.modem_flow.specs.Arrival.{arrival_refusal, arrived_state, decision_of, arrival, stored, tail_place};
 
-use crate::answering::answered;
 use crate::well_formed::counts_left;
 use crate::{Outcome, Replied, State};
 use docsis_pie::{Decided, DocsisPie};
-use pie::Verdict;
+use pie::{LARGEST, LATEST, Verdict};
 use places::store;
-use refusals::{Accepted, Refusal, wrong_clock, wrong_size};
+use refusals::{Accepted, Refusal};
 use units::{Bytes, Micros, Prob};
 
 impl State {
@@ -42,12 +41,12 @@ impl State {
         if !fit {
             return Accepted::No(Refusal::Tables);
         }
-        let late = wrong_clock(self.clock, clock);
-        if late {
+        let wrong_clock = (clock.0 < self.clock.0) | (LATEST < clock.0);
+        if wrong_clock {
             return Accepted::No(Refusal::Clock);
         }
-        let wrong = wrong_size(size);
-        if wrong {
+        let wrong_size = (size.0 == 0) | (LARGEST < size.0);
+        if wrong_size {
             return Accepted::No(Refusal::Size);
         }
         let full = left == 1;
@@ -161,13 +160,23 @@ impl State {
             size,
         );
         match checked {
-            Accepted::No(refusal) => answered(Outcome::Refused(refusal), self),
+            Accepted::No(refusal) => Replied {
+                outcome: Outcome::Refused(refusal),
+                handle: 0,
+                size: 0,
+                state: self,
+            },
             Accepted::Yes => {
                 let decided = self.decide(size, u);
                 let v = decided.verdict;
                 self.store(handles, sizes, v, handle, size.0 as u32);
                 let state = self.arrived(clock, size, decided);
-                answered(Outcome::Decided(v), state)
+                Replied {
+                    outcome: Outcome::Decided(v),
+                    handle: 0,
+                    size: 0,
+                    state,
+                }
             }
         }
     }

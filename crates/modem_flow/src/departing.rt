@@ -5,10 +5,10 @@ ghost use Rattle.modem_flow.specs.State.{formed};
 ghost use Rattle.modem_flow.specs.Answer.{HandsOut, reply_in};
 ghost use Rattle.modem_flow.specs.Departure.{departed_state, departure_refusal, departure, head_of};
 
-use crate::answering::answered;
 use crate::{Outcome, Replied, State};
+use pie::LATEST;
 use places::place;
-use refusals::{Accepted, Refusal, counts_fit, wrong_clock, wrong_head};
+use refusals::{Accepted, Refusal, counts_fit, wrong_head};
 use units::{Bytes, Micros};
 
 impl State {
@@ -30,8 +30,8 @@ impl State {
         if !fit {
             return Accepted::No(Refusal::Tables);
         }
-        let late = wrong_clock(self.clock, clock);
-        if late {
+        let wrong_clock = (clock.0 < self.clock.0) | (LATEST < clock.0);
+        if wrong_clock {
             return Accepted::No(Refusal::Clock);
         }
         let backlog = self.backlog;
@@ -72,7 +72,12 @@ impl State {
     {
         let checked = self.check_departure(row, handles.len() as u64, sizes, clock);
         match checked {
-            Accepted::No(refusal) => answered(Outcome::Refused(refusal), self),
+            Accepted::No(refusal) => Replied {
+                outcome: Outcome::Refused(refusal),
+                handle: 0,
+                size: 0,
+                state: self,
+            },
             Accepted::Yes => {
                 let at = self.first as usize;
                 let handle = handles[at];

@@ -3,7 +3,6 @@ ghost use Rattle.std.specs.Prelude.{◌≡◌};
 ghost use Rattle.modem_flow.specs.Answer.{HandsOut, reply_in};
 ghost use Rattle.modem_flow.specs.Fresh.{fresh, fresh_state, zero_state};
 
-use crate::answering::answered;
 use crate::{Outcome, Replied, Settings, State};
 use docsis_pie::{Activity, DocsisPie, Phase};
 use pie::{Backlog, LATEST};
@@ -60,8 +59,18 @@ impl State {
     {
         let fits = settings.in_range() & (clock.0 <= LATEST);
         if fits {
-            return answered(Outcome::Made, empty(settings, clock));
+            return Replied {
+                outcome: Outcome::Made,
+                handle: 0,
+                size: 0,
+                state: empty(settings, clock),
+            };
         }
-        answered(Outcome::Refused(Refusal::Settings), State::zero())
+        Replied {
+            outcome: Outcome::Refused(Refusal::Settings),
+            handle: 0,
+            size: 0,
+            state: State::zero(),
+        }
     }
 }

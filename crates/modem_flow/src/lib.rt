@@ -5,10 +5,10 @@ use pie::{Backlog, Verdict};
 use refusals::Refusal;
 use units::{Bytes, BytesPerSecond, Micros};
 
-mod answering;
 mod arriving;
 mod departing;
 mod fresh;
+mod refusing;
 mod ticking;
 mod well_formed;
 

@@ -5,10 +5,10 @@ ghost use Rattle.modem_flow.specs.State.{formed};
 ghost use Rattle.modem_flow.specs.Answer.{HandsOut, reply_in};
 ghost use Rattle.modem_flow.specs.Tick.{tick, tick_refusal, ticked_state};
 
-use crate::answering::answered;
 use crate::{Outcome, Replied, State};
 use docsis_pie::PERIOD;
-use refusals::{Accepted, Refusal, counts_fit, too_soon, wrong_clock};
+use pie::LATEST;
+use refusals::{Accepted, Refusal, counts_fit};
 use units::{Bytes, Micros};
 
 impl State {
@@ -24,12 +24,12 @@ impl State {
         if !formed {
             return Accepted::No(Refusal::Malformed);
         }
-        let late = wrong_clock(self.clock, clock);
-        if late {
+        let wrong_clock = (clock.0 < self.clock.0) | (LATEST < clock.0);
+        if wrong_clock {
             return Accepted::No(Refusal::Clock);
         }
-        let soon = too_soon(Micros(PERIOD), self.last, clock);
-        if soon {
+        let too_soon = clock.0 < self.last.0 + PERIOD;
+        if too_soon {
             return Accepted::No(Refusal::TooSoon);
         }
         Accepted::Yes
@@ -64,10 +64,20 @@ impl State {
     {
         let checked = self.check_tick(row, clock);
         match checked {
-            Accepted::No(refusal) => answered(Outcome::Refused(refusal), self),
+            Accepted::No(refusal) => Replied {
+                outcome: Outcome::Refused(refusal),
+                handle: 0,
+                size: 0,
+                state: self,
+            },
             Accepted::Yes => {
                 let state = self.ticked(clock, credits);
-                answered(Outcome::Ticked, state)
+                Replied {
+                    outcome: Outcome::Ticked,
+                    handle: 0,
+                    size: 0,
+                    state,
+                }
             }
         }
     }

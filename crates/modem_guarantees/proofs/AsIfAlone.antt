@@ -54,7 +54,7 @@ rows-kept counts g ticked = refl
 
 -- ── any call's reply: of its own flow, and of the counts ──
 
-abbrev pub reached : (flow : ℕ) (counts : List (List ℕ)) → Reply → ModemReply
+abbrev reached : (flow : ℕ) (counts : List (List ℕ)) → Reply → ModemReply
 reached flow counts r = record { answer = r.answer; state = r.state; counts = counts_after counts flow r.answer }
 
 -- what a reply leaves of the counts: the other rows, and sixteen of them
@@ -80,7 +80,7 @@ for-flow-reached : (g : ℕ) (given : State) (counts : List (List ℕ)) (r : Rep
 unfolding for_flow
 for-flow-reached g given counts r h = rw (le-ltb 15 g h)
 
-pub own-reply : (m : Modem) (g : ℕ) (asked : Asked) → g ≤ 15 →
+own-reply : (m : Modem) (g : ℕ) (asked : Asked) → g ≤ 15 →
     reply_to m (record { flow = g; asked = asked }) ≡ reached g m.counts (alone_reply (view g m) asked)
 unfolding arrival departure fresh tick
 own-reply m g (start settings clock) h = for-flow-reached g _ m.counts _ h
@@ -130,7 +130,7 @@ own-does : (m : Modem) (c : Call) → c.flow ≤ 15 → c.flow < length m.counts
 own-does m c h k =
     (own_view m c.flow c.asked h k, ap (λ (r : ModemReply). r.answer) (own-reply m c.flow c.asked h))
 
-pub flow-does : (flow : ℕ) → flow ≤ 15 → (m : Modem) (c : Call) → length m.counts ≡ 16 →
+flow-does : (flow : ℕ) → flow ≤ 15 → (m : Modem) (c : Call) → length m.counts ≡ 16 →
     Does (flow_part flow) m c (cond (eqb flow c.flow) (own c.asked) another)
 flow-does flow h m c rows = go (eqb flow c.flow) refl
   where
@@ -140,12 +140,9 @@ flow-does flow h m c rows = go (eqb flow c.flow) refl
         rw same (own-does m c (omega arith) (omega arith))
     go false e = other-view m c flow e
 
-pub sixteen-rows : (m : Modem) (c : Call) → length m.counts ≡ 16 → length (modem_after m c).counts ≡ 16
-sixteen-rows m c s = (reply-leaves m c.flow c.asked).rows ∙ s
-
 pub as-if-alone : AsIfAlone
 as-if-alone m calls flow rows h =
     parts modem alone (flow_part flow) (λ m. length m.counts ≡ 16)
-    sixteen-rows
+    (λ m c s. (reply-leaves m c.flow c.asked).rows ∙ s)
     (λ m c s. flow-does flow h m c s)
     m calls rows

@@ -14,14 +14,13 @@ use Rattle.modem_flow.specs.Arrival.{arrived_state, decision_of, stored}
 use Rattle.modem_flow.specs.Departure.{departed_state, head_of}
 use Rattle.modem_flow.specs.Tick.{ticked_state}
 use Rattle.modem_flow.proofs.Admitted.{admitted-room}
-use Rattle.modem_flow.proofs.Replies.{refused_by}
 use Rattle.modem_flow.proofs.WhenAccepted.{ArrivalAccepted, DepartureAccepted}
 use Rattle.calls.specs.Packets.{Packet, Sized, bytes_of}
 use Rattle.calls.specs.Ring.{slot}
 use Rattle.calls.proofs.Ring.{enters, leaves}
 use Rattle.modem.specs.Asked.{Request, ask_arrival, ask_departure, ask_tick}
 use Rattle.modem_guarantees.specs.Handed.{Queue, admitted_by, after, answer_of, call_of, departed_by, queued, returned}
-use Rattle.modem_guarantees.proofs.Replies.{Accepted, acceptance, at-one-reply}
+use Rattle.modem_guarantees.proofs.Replies.{Accepted, acceptance, at-one-reply, refusal_of}
 
 -- the packets that enter come after those queued, and those that leave come before those that stay; the bytes move alike
 pub record Moved (q q' : Queue) (entering leaving : List Packet) : Type 0 where
@@ -96,7 +95,7 @@ accepted-moves q (ask_arrival clock handle size u) a = arrives q clock handle si
 accepted-moves q (ask_departure clock) a = departs q clock a
 accepted-moves q (ask_tick clock credits) a = still q _ refl refl
 
-refused-still : (q : Queue) (r : Request) (n : ℕ) → MovedBy q r (refused_by q.state n)
+refused-still : (q : Queue) (r : Request) (n : ℕ) → MovedBy q r (refusal_of q.state n)
 refused-still q (ask_arrival clock handle size u) n = still q q refl refl
 refused-still q (ask_departure clock) n = still q q refl refl
 refused-still q (ask_tick clock credits) n = still q q refl refl

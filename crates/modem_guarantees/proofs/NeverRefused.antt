@@ -10,9 +10,10 @@ use lib.ListN.{length}
 use Rattle.modem_flow.specs.declared.State.{State}
 use Rattle.refusals.specs.Answer.{refused}
 use Rattle.modem_flow.specs.Departure.{head_of}
-use Rattle.refusals.specs.Tests.{empty_refused, head_refused}
+use Rattle.refusals.specs.Tests.{head_refused}
 use Rattle.refusals.proofs.Fitting.{fitting-head}
 use Rattle.refusals.proofs.Ordered.{after_first, first_test, past_first, test-fails, test_of}
+use Rattle.modem_flow.specs.Refusals.{empty_refused}
 use Rattle.modem_flow.specs.State.{formed, well_formed}
 use Rattle.modem_flow.proofs.Facts.{facts}
 use Rattle.modem.specs.Asked.{Request, ask_arrival, ask_departure, ask_tick}
@@ -47,16 +48,16 @@ not-given-first s c n w f = not-given s c n (past_first n (rows_of s c) (well-fo
 
 -- nor is a number above 6 whose test fails where a packet is queued: a departure from an empty queue is refused by 6
 pub not-given-past-6 : (s : State) (row handles sizes : List ℕ) (clock n : ℕ) → 6 < n →
-    (empty_refused s.backlog ≡ false → test_of n (rows_of s (depart row handles sizes clock)) ≡ false) →
+    (empty_refused s ≡ false → test_of n (rows_of s (depart row handles sizes clock)) ≡ false) →
     (reply s (depart row handles sizes clock)).answer ≢ refused n
-not-given-past-6 s row handles sizes clock n above fails e = go (empty_refused s.backlog) refl
+not-given-past-6 s row handles sizes clock n above fails e = go (empty_refused s) refl
   where
     c : Call
     c = depart row handles sizes clock
 
-    go : (b : Bool) → empty_refused s.backlog ≡ b → ⊥
+    go : (b : Bool) → empty_refused s ≡ b → ⊥
     go true empty =
-        let row : ◌≡◌ {A = ℕ × Bool} (6, true) (6, empty_refused s.backlog) = rw empty in
+        let row : ◌≡◌ {A = ℕ × Bool} (6, true) (6, empty_refused s) = rw empty in
         let six : Applies s c 6 = Memᴰ.tail (Memᴰ.tail (Memᴰ.tail (Memᴰ.head row))) in
         omega (arith, ((calls-refused s c).lowest n e).1 6 six)
     go false some = not-given s c n (fails some) e

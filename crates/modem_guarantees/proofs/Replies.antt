@@ -8,19 +8,32 @@ use Prim.Native.Nat.{ℕ, zero, suc}
 use native.Mathlib.Omega.{arith}
 use lib.ListN.{length}
 use Rattle.refusals.specs.Rows.{first_refusal}
-use Rattle.refusals.specs.Answer.{refused}
+use Rattle.refusals.specs.Answer.{departed, refused, ticked, verdict}
 use Rattle.modem_flow.specs.Answer.{Reply, unless_refused}
-use Rattle.modem_flow.specs.Arrival.{arrival, arrival_refusal}
-use Rattle.modem_flow.specs.Departure.{departure, departure_refusal, head_of}
+use Rattle.modem_flow.specs.Arrival.{arrival, arrival_refusal, arrived_state, decision_of}
+use Rattle.modem_flow.specs.Departure.{departed_state, departure, departure_refusal, head_of}
 use Rattle.modem_flow.specs.State.{formed}
-use Rattle.modem_flow.specs.Tick.{tick, tick_refusal}
+use Rattle.modem_flow.specs.Tick.{tick, tick_refusal, ticked_state}
 use Rattle.modem_flow.specs.declared.State.{State}
 use Rattle.modem_flow.proofs.Kept.{arrived-formed, departed-formed, ticked-formed}
-use Rattle.modem_flow.proofs.Replies.{arrival_of, departure_of, refused_by, tick_of}
 use Rattle.modem_flow.proofs.WhenAccepted.{ArrivalAccepted, DepartureAccepted, TickAccepted}
 use Rattle.modem_flow.proofs.WhenAccepted.{arrival-accepted, departure-accepted, tick-accepted}
 use Rattle.modem_guarantees.specs.Calls.{Call, arrive, depart, reply, update}
 use Rattle.modem_guarantees.specs.Refusals.{rows_of}
+
+abbrev pub refusal_of : State → (number : ℕ) → Reply
+refusal_of s number = record { answer = refused number; state = s }
+
+abbrev pub arrival_of : State → (clock size u : ℕ) → Reply
+arrival_of s clock size u =
+    let d = decision_of s size u in record { answer = verdict d.verdict; state = arrived_state s clock size d }
+
+abbrev pub departure_of : State → (handles sizes : List ℕ) (clock : ℕ) → Reply
+departure_of s handles sizes clock =
+    record { answer = departed (head_of s handles) (head_of s sizes); state = departed_state s clock (head_of s sizes) }
+
+abbrev pub tick_of : State → (clock credits : ℕ) → Reply
+tick_of s clock credits = record { answer = ticked; state = ticked_state s clock credits }
 
 -- ── by the number ──
 
@@ -41,7 +54,7 @@ reply-unless-refused s (depart row handles sizes clock) = refl
 reply-unless-refused s (update row clock credits) = refl
 
 pub by_number : (P : Reply → Type 0) (s : State) (c : Call) →
-    ((n : ℕ) → n ≢ 0 → number_given s c ≡ n → P (refused_by s n)) → (number_given s c ≡ 0 → P (acceptance s c)) → P (reply s c)
+    ((n : ℕ) → n ≢ 0 → number_given s c ≡ n → P (refusal_of s n)) → (number_given s c ≡ 0 → P (acceptance s c)) → P (reply s c)
 by_number P s c some none = rw (reply-unless-refused s c) (go (number_given s c) refl)
   where
     go : (n : ℕ) → number_given s c ≡ n → P (unless_refused n s (acceptance s c))
@@ -79,7 +92,7 @@ none-given-accepted s (depart row handles sizes clock) e = departure-accepted s 
 none-given-accepted s (update row clock credits) e = tick-accepted s row clock e
 
 pub at-one-reply : (P : Reply → Type 0) (s : State) (c : Call) →
-    ((number : ℕ) → P (refused_by s number)) → (Accepted s c → P (acceptance s c)) → P (reply s c)
+    ((number : ℕ) → P (refusal_of s number)) → (Accepted s c → P (acceptance s c)) → P (reply s c)
 at-one-reply P s c r a = by_number P s c (λ n some given. r n) (λ none. a (none-given-accepted s c none))
 
 pub reply-formed : (s : State) → formed s ≡ true → (c : Call) → formed (reply s c).state ≡ true

@@ -2,33 +2,21 @@
 --
 --   Calls             one flow's calls and their trace: any row and any tables may be lent to each call
 --   Refusals          which number a call is refused by, 10 ahead of the others; a refused call changes nothing
---   WhichVerdict      question 1: each verdict is given exactly when the rules require it
---   Kept              a record and its row stay well formed, whatever is asked and lent
 --   Bounds            the stored, the accumulated and the scaled probability keep within 13.6, 8.5 and 0.85
 --   NeverEarly        where p is 0, or an allowance runs, no packet is dropped early
 --   Grace             an early drop that made a flow active protects it for 128 ms
---   TicksToRecover    how many ticks that each find a flow empty suffice at its target
---   Recovery          after so many the probability is 0, and no packet is dropped early
 --   Handed            a flow that is handed back untouched at each call, from a fresh one
 --   FirstInFirstOut   admitted = departed, then queued, in order
 --   Conservation      queued bytes = bytes admitted − bytes departed; each count of the row is the number of answers so given
 --   Modem             sixteen flows and one table of counts
 --   AsIfAlone         each flow is answered as if it were alone: no call reads or changes another flow's row
---   EveryFlow         all sixteen flows at once: order, conservation, counts, and never 2 or 9, since each flow's last fresh call
---   EveryFlowRecovers each flow recovers by its own ticks, whatever the others are asked
 pub mod Calls
 pub mod Handed
 pub mod Refusals
-pub mod WhichVerdict
-pub mod Kept
 pub mod Bounds
 pub mod NeverEarly
 pub mod Grace
-pub mod TicksToRecover
-pub mod Recovery
 pub mod FirstInFirstOut
 pub mod Conservation
 pub mod Modem
 pub mod AsIfAlone
-pub mod EveryFlow
-pub mod EveryFlowRecovers

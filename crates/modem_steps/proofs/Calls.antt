@@ -7,13 +7,13 @@ use lib.Dec.{ltb}
 use lib.ListN.{length}
 use Rattle.pie.specs.Constants.{most_verdicts}
 use Rattle.pie.specs.Verdicts.{total}
-use Rattle.modem_flow.specs.Answer.{answer_of, refusal_of, reply_in}
-use Rattle.modem_flow.specs.Arrival.{arrival, arrival_refusal, decision_of}
-use Rattle.modem_flow.specs.Departure.{departure, departure_refusal, head_of}
-use Rattle.modem_flow.specs.Tick.{tick, tick_refusal}
+use Rattle.refusals.specs.Answer.{departed, ticked, verdict}
+use Rattle.modem_flow.specs.Answer.{Reply, answer_of, refusal_of, reply_in}
+use Rattle.modem_flow.specs.Arrival.{arrival, arrival_refusal, arrived_state, decision_of}
+use Rattle.modem_flow.specs.Departure.{departed_state, departure, departure_refusal, head_of}
+use Rattle.modem_flow.specs.Tick.{tick, tick_refusal, ticked_state}
 use Rattle.modem_flow.specs.declared.Replied.{Replied}
 use Rattle.modem_flow.specs.declared.State.{State}
-use Rattle.modem_flow.proofs.Replies.{arrival_of, departure_of, tick_of}
 use Rattle.modem_flow.proofs.WhenAccepted.{arrival-accepted}
 use Rattle.modem.specs.Calls.{flow_refused, for_flow}
 use Rattle.modem.specs.Counts.{counts_after}
@@ -24,23 +24,30 @@ use Rattle.modem_steps.proofs.Entries.{Gives, answer-taken, gives-accepted, give
 
 -- ── a tick ──
 
+abbrev tick_reply : State → (clock credits : ℕ) → Reply
+tick_reply s clock credits = record { answer = ticked; state = ticked_state s clock credits }
+
 pub tick-refused : (s : State) (row : List ℕ) (clock credits flow : ℕ) (counts : List (List ℕ)) (r : Replied) (n : ℕ) (w : List ℕ) →
     reply_in r ≡ tick s row clock credits → n ≡ refusal_of r.outcome → flow_refused flow ≡ false → ltb 0 n ≡ true → w ≡ state_words s →
     Gives (for_flow flow s counts (tick s row clock credits)) (100 + n) w counts
 unfolding tick
 tick-refused s row clock credits flow counts r n w er en e h ew =
-    gives-refused s (tick_of s clock credits) (tick_refusal s row clock) r n er en flow counts e w refl h ew
+    gives-refused s (tick_reply s clock credits) (tick_refusal s row clock) r n er en flow counts e w refl h ew
 
 pub tick-taken : (s : State) (row : List ℕ) (clock credits flow : ℕ) (counts : List (List ℕ)) (r : Replied) (n : ℕ) (w : List ℕ) →
     reply_in r ≡ tick s row clock credits → n ≡ refusal_of r.outcome → flow_refused flow ≡ false → ltb 0 n ≡ false → w ≡ state_words r.state →
     Gives (for_flow flow s counts (tick s row clock credits)) 0 w counts
 unfolding tick counts_after
 tick-taken s row clock credits flow counts r n w er en e h ew =
-    let a = tick_of s clock credits in
+    let a = tick_reply s clock credits in
     let k = tick_refusal s row clock in
     gives-accepted s a k r n er en flow counts e counts 0 w h refl (ew ∙ ap state_words (state-taken s a k r n er en h)) refl
 
 -- ── a departure ──
+
+abbrev departure_reply : State → (handles sizes : List ℕ) (clock : ℕ) → Reply
+departure_reply s handles sizes clock =
+    record { answer = departed (head_of s handles) (head_of s sizes); state = departed_state s clock (head_of s sizes) }
 
 pub departure-refused : (s : State) (row handles sizes : List ℕ) (clock flow : ℕ) (counts : List (List ℕ)) (r : Replied) (n : ℕ) (w : List ℕ) →
     reply_in r ≡ departure s row handles sizes clock → n ≡ refusal_of r.outcome → flow_refused flow ≡ false → ltb 0 n ≡ true → w ≡ state_words s →
@@ -48,7 +55,7 @@ pub departure-refused : (s : State) (row handles sizes : List ℕ) (clock flow :
 unfolding departure
 departure-refused s row handles sizes clock flow counts r n w er en e h ew =
     let k = departure_refusal s row (length handles) (length sizes) clock (head_of s sizes) in
-    gives-refused s (departure_of s handles sizes clock) k r n er en flow counts e w refl h ew
+    gives-refused s (departure_reply s handles sizes clock) k r n er en flow counts e w refl h ew
 
 pub departure-taken : (s : State) (row handles sizes : List ℕ) (clock flow : ℕ) (counts : List (List ℕ)) (r : Replied) (n : ℕ) (w after : List ℕ) →
     reply_in r ≡ departure s row handles sizes clock → n ≡ refusal_of r.outcome → flow_refused flow ≡ false → ltb 0 n ≡ false →
@@ -56,7 +63,7 @@ pub departure-taken : (s : State) (row handles sizes : List ℕ) (clock flow : �
     Gives (for_flow flow s counts (departure s row handles sizes clock)) 0 after counts
 unfolding departure counts_after
 departure-taken s row handles sizes clock flow counts r n w after er en e h ed ew =
-    let a = departure_of s handles sizes clock in
+    let a = departure_reply s handles sizes clock in
     let k = departure_refusal s row (length handles) (length sizes) clock (head_of s sizes) in
     gives-accepted s a k r n er en flow counts e counts 0 after h refl
     (departure-words w after s r.state clock (head_of s sizes) ed ew (state-taken s a k r n er en h))
@@ -64,13 +71,17 @@ departure-taken s row handles sizes clock flow counts r n w after er en e h ed e
 
 -- ── an arrival ──
 
+abbrev arrival_reply : State → (clock size u : ℕ) → Reply
+arrival_reply s clock size u =
+    let d = decision_of s size u in record { answer = verdict d.verdict; state = arrived_state s clock size d }
+
 pub arrival-refused : (s : State) (row handles sizes : List ℕ) (clock size u flow : ℕ) (counts : List (List ℕ)) (r : Replied) (n : ℕ) (w : List ℕ) →
     reply_in r ≡ arrival s row handles sizes clock size u → n ≡ refusal_of r.outcome → flow_refused flow ≡ false → ltb 0 n ≡ true → w ≡ state_words s →
     Gives (for_flow flow s counts (arrival s row handles sizes clock size u)) (100 + n) w counts
 unfolding arrival
 arrival-refused s row handles sizes clock size u flow counts r n w er en e h ew =
     let k = arrival_refusal s row (length handles) (length sizes) clock size in
-    gives-refused s (arrival_of s clock size u) k r n er en flow counts e w refl h ew
+    gives-refused s (arrival_reply s clock size u) k r n er en flow counts e w refl h ew
 
 -- there is room for one more in the row
 pub room : (s : State) (row handles sizes : List ℕ) (clock size u : ℕ) (r : Replied) (n : ℕ) →
@@ -78,7 +89,7 @@ pub room : (s : State) (row handles sizes : List ℕ) (clock size u : ℕ) (r : 
 unfolding arrival
 room s row handles sizes clock size u r n er en h =
     let k = arrival_refusal s row (length handles) (length sizes) clock size in
-    (arrival-accepted s row (length handles) (length sizes) clock size (taken s (arrival_of s clock size u) k r n er en h)).total-low
+    (arrival-accepted s row (length handles) (length sizes) clock size (taken s (arrival_reply s clock size u) k r n er en h)).total-low
 
 pub arrival-taken : (s : State) (row handles sizes : List ℕ) (clock size u flow : ℕ) (counts next : List (List ℕ)) (r : Replied) (n place : ℕ) (w after : List ℕ) →
     reply_in r ≡ arrival s row handles sizes clock size u → n ≡ refusal_of r.outcome → flow_refused flow ≡ false → ltb 0 n ≡ false →
@@ -87,7 +98,7 @@ pub arrival-taken : (s : State) (row handles sizes : List ℕ) (clock size u flo
     Gives (for_flow flow s counts (arrival s row handles sizes clock size u)) place after next
 unfolding arrival
 arrival-taken s row handles sizes clock size u flow counts next r n place w after er en e h ed ew ep ec =
-    let a = arrival_of s clock size u in
+    let a = arrival_reply s clock size u in
     let k = arrival_refusal s row (length handles) (length sizes) clock size in
     let is = ep r.handle r.size ∙ ap place_in (answer-taken s a k r n er en h) in
     gives-accepted s a k r n er en flow counts e next place after h is

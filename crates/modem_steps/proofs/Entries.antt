@@ -21,16 +21,10 @@ use Rattle.modem.specs.Calls.{flow_refused, for_flow}
 use Rattle.modem.specs.Counts.{counts_after}
 use Rattle.refusals.specs.Codes.{code_of, packet_of}
 use Rattle.modem_words.specs.Words.{state_words}
-use Rattle.modem_words.specs.Lent.{lent}
 
 -- the number, the words and the counts that say the reply
 abbrev pub Gives : ModemReply → (code : ℕ) (words : List ℕ) (counts : List (List ℕ)) → Type 0
 Gives q code words counts = (code ≡ code_of q.answer) × (words ≡ state_words q.state) × (counts ≡ q.counts)
-
--- what is lent, part by part
-pub lent-as : {w w' : List ℕ} {counts counts' : List (List ℕ)} {handles handles' sizes sizes' : List ℕ} →
-    w ≡ w' → counts ≡ counts' → handles ≡ handles' → sizes ≡ sizes' → lent w counts handles sizes ≡ lent w' counts' handles' sizes'
-lent-as e f g h = rw (e, f, g, h)
 
 -- refusal 10
 pub gives-10 : (flow : ℕ) (s : State) (counts : List (List ℕ)) (reply : Reply) (w : List ℕ) →

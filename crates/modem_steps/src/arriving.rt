@@ -13,27 +13,26 @@ ghost use Rattle.modem_words.specs.Lent.{lent};
 ghost use Rattle.modem_steps.specs.Fitting.{Ready};
 ghost use Rattle.modem_steps.specs.Words.{pie_words};
 
-use bursts::{HANDLE, REFUSED_CLOCK, REFUSED_SIZE, SIZE, U, wide};
+use bursts::wide;
 use docsis_pie::{
-    Activity, FULL_ALLOWANCE, HIGH, below_third, early, is_low, lightly_loaded, limit_sum, scaled,
-    small, sum,
+    Activity, FULL_ALLOWANCE, HIGH, below_third, early, in_allowance, is_low, lightly_loaded,
+    limit_sum, scaled, small, sum,
 };
-use modem_words::{Word, raise};
-use pie::{Backlog, in_allowance};
+use modem_words::{Code, Word, raise};
+use pie::{LARGEST, LATEST};
 use places::tail_place;
-use refusals::{wrong_clock, wrong_size};
 use units::{Bytes, Micros, Prob};
 
 // Rule 5: whether the flow stays inactive. Rule 6 where it does not.
-fn stays_inactive(w: &mut [u64; 16], bytes: Bytes) -> bool
-    requires { (length w.old ≡ 16) × (bytes.0 ≤ 2 ^ 24) }
-    ensures value { result ≡ stays_inactive (pie_of w.old) (get_or w.old 1 0) bytes.0 }
+fn stays_inactive(w: &mut [u64; 16], bytes: u64) -> bool
+    requires { (length w.old ≡ 16) × (bytes ≤ 2 ^ 24) }
+    ensures value { result ≡ stays_inactive (pie_of w.old) (get_or w.old 1 0) bytes }
     ensures w_after { w.new
         ≡ pie_words w.old (cond result (pie_of w.old) (no_longer_inactive (pie_of w.old))) }
 {
     let inactive = w[Word::ACTIVITY] == Activity::INACTIVE.0;
     if inactive {
-        let stays = below_third(bytes, Bytes(w[Word::BUFFER]));
+        let stays = below_third(Bytes(bytes), Bytes(w[Word::BUFFER]));
         if stays {
             return true;
         }
@@ -48,7 +47,7 @@ fn drop_early(w: &mut [u64; 16])
     ensures { w.new ≡ pie_words w.old (after_drop (pie_of w.old)) }
 {
     let quiescent = w[Word::ACTIVITY] == Activity::QUIESCENT.0;
-    w[Word::ACCUMULATED] = Prob::NONE.0;
+    w[Word::ACCUMULATED] = 0;
     if quiescent {
         w[Word::ALLOWANCE] = FULL_ALLOWANCE;
         w[Word::ACTIVITY] = Activity::ACTIVE.0;
@@ -57,16 +56,16 @@ fn drop_early(w: &mut [u64; 16])
 
 // Rules 7 to 15: gives the place of the verdict. Of rules 9 to 11, which all enqueue, those come first that only ticks change or that most
 // packets meet.
-fn draw(w: &mut [u64; 16], bytes: Bytes, size: Bytes, calls: &[u32], at: usize) -> usize
-    requires w_len { (length w.old ≡ 16) × (size.0 ≤ largest) × (at + 5 < length calls.now) }
+fn draw(w: &mut [u64; 16], bytes: u64, size: u64, calls: &[u32], at: usize) -> usize
+    requires w_len { (length w.old ≡ 16) × (size ≤ largest) × (at + 5 < length calls.now) }
     requires w_bound { (get_or w.old 7 0 ≤ most_prob) × (get_or w.old 8 0 ≤ high) × (get_or w.old 9 0 ≤ longest) }
     ensures { let pie = pie_of w.old in
-        let part = scaled_of pie.prob.0 size.0 in
-        let d = drawn_with (summed pie part) (get_or w.old 0 0) bytes.0 part (get_or calls.now (at + 4) 0) in
+        let part = scaled_of pie.prob.0 size in
+        let d = drawn_with (summed pie part) (get_or w.old 0 0) bytes part (get_or calls.now (at + 4) 0) in
         (result ≡ place_of d.verdict) × (w.new ≡ pie_words w.old d.pie) }
 {
     let p = Prob(w[Word::PROB]);
-    let part = scaled(p, size);
+    let part = scaled(p, Bytes(size));
     let total = sum(Prob(w[Word::ACCUMULATED]), part);
     let light = lightly_loaded(p, Micros(w[Word::OLD]), Micros(w[Word::TARGET]));
     if light {
@@ -78,12 +77,12 @@ fn draw(w: &mut [u64; 16], bytes: Bytes, size: Bytes, calls: &[u32], at: usize) 
         w[Word::ACCUMULATED] = total.0;
         return 0;
     }
-    let little = small(bytes);
+    let little = small(Bytes(bytes));
     if little {
         w[Word::ACCUMULATED] = limit_sum(total).0;
         return 0;
     }
-    let drops = (HIGH <= total.0) | early(part, calls[at + U]);
+    let drops = (HIGH <= total.0) | early(part, calls[at + 4]);
     if drops {
         drop_early(w);
         return 4;
@@ -93,29 +92,29 @@ fn draw(w: &mut [u64; 16], bytes: Bytes, size: Bytes, calls: &[u32], at: usize) 
 }
 
 // Rules 1 to 15: gives the place of the verdict. Where p is 0, rule 11 enqueues whatever the others say.
-fn decide(w: &mut [u64; 16], size: Bytes, calls: &[u32], at: usize) -> usize
-    requires { (length w.old ≡ 16) × (formed (state_of w.old) ≡ true) × (size.0 ≤ largest) × (at + 5 < length calls.now) }
-    ensures { let d = decision_of (state_of w.old) size.0 (get_or calls.now (at + 4) 0) in
+fn decide(w: &mut [u64; 16], size: u64, calls: &[u32], at: usize) -> usize
+    requires { (length w.old ≡ 16) × (formed (state_of w.old) ≡ true) × (size ≤ largest) × (at + 5 < length calls.now) }
+    ensures { let d = decision_of (state_of w.old) size (get_or calls.now (at + 4) 0) in
         (result ≡ place_of d.verdict) × (w.new ≡ pie_words w.old d.pie) }
 {
-    let bytes = Bytes(w[Word::BYTES]);
-    let bytes_full = w[Word::BUFFER] < bytes.0 + size.0;
+    let bytes = w[Word::BYTES];
+    let bytes_full = w[Word::BUFFER] < bytes + size;
     if bytes_full {
-        w[Word::ACCUMULATED] = Prob::NONE.0;
+        w[Word::ACCUMULATED] = 0;
         return 2;
     }
     let slots_full = w[Word::COUNT] == w[Word::SLOTS];
     if slots_full {
-        w[Word::ACCUMULATED] = Prob::NONE.0;
+        w[Word::ACCUMULATED] = 0;
         return 3;
     }
     let burst = in_allowance(Micros(w[Word::ALLOWANCE]));
     if burst {
         return 0;
     }
-    let none = w[Word::PROB] == Prob::NONE.0;
+    let none = w[Word::PROB] == 0;
     if none {
-        w[Word::ACCUMULATED] = Prob::NONE.0;
+        w[Word::ACCUMULATED] = 0;
         stays_inactive(w, bytes);
         return 0;
     }
@@ -135,44 +134,39 @@ pub fn arrive(
     sizes: &mut [u32],
     calls: &[u32],
     at: usize,
-    clock: Micros,
+    clock: u64,
 ) -> u64
     requires ready { Ready flow (lent w.old counts.old handles.old sizes.old) 1 }
     requires at_in_bounds { at + 5 < length calls.now }
     ensures { let size = get_or calls.now (at + 3) 0 in
         let s = state_of w.old in
         let row = row_of counts.old flow in
-        let a = arrival s row handles.old sizes.old clock.0 size (get_or calls.now (at + 4) 0) in
+        let a = arrival s row handles.old sizes.old clock size (get_or calls.now (at + 4) 0) in
         (result ≡ code_of a.answer)
         × (w.new ≡ state_words a.state)
         × (counts.new ≡ counts_after counts.old flow a.answer)
         × (handles.new ≡ stored s a.answer handles.old (get_or calls.now (at + 2) 0))
         × (sizes.new ≡ stored s a.answer sizes.old size) }
 {
-    let late = wrong_clock(Micros(w[Word::CLOCK]), clock);
-    if late {
-        return REFUSED_CLOCK;
+    let wrong_clock = (clock < w[Word::CLOCK]) | (LATEST < clock);
+    if wrong_clock {
+        return Code::CLOCK;
     }
-    let size = calls[at + SIZE];
-    let bytes = Bytes(wide(size));
-    let wrong = wrong_size(bytes);
-    if wrong {
-        return REFUSED_SIZE;
+    let size = calls[at + 3];
+    let bytes = wide(size);
+    let wrong_size = (bytes == 0) | (LARGEST < bytes);
+    if wrong_size {
+        return Code::SIZE;
     }
     let v = decide(w, bytes, calls, at);
-    w[Word::CLOCK] = clock.0;
+    w[Word::CLOCK] = clock;
     raise(counts, flow, v);
     let admits = v < 2;
     if admits {
         let tail = tail_place(w[Word::FIRST], w[Word::COUNT], w[Word::SLOTS]) as usize;
-        let queued = Backlog {
-            count: w[Word::COUNT],
-            bytes: Bytes(w[Word::BYTES]),
-        };
-        let next = queued.enter(bytes);
-        w[Word::COUNT] = next.count;
-        w[Word::BYTES] = next.bytes.0;
-        handles[tail] = calls[at + HANDLE];
+        w[Word::COUNT] = w[Word::COUNT] + 1;
+        w[Word::BYTES] = w[Word::BYTES] + bytes;
+        handles[tail] = calls[at + 2];
         sizes[tail] = size;
     }
     v as u64

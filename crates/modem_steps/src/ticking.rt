@@ -10,24 +10,23 @@ ghost use Rattle.refusals.specs.Codes.{code_of};
 ghost use Rattle.modem_words.specs.Words.{pie_of, state_of, state_words};
 ghost use Rattle.modem_steps.specs.Words.{phase_words};
 
-use bursts::{REFUSED_CLOCK, REFUSED_TOO_SOON};
 use docsis_pie::{Activity, PERIOD, delay, next_allowance, next_prob, quiet, timed_out};
-use modem_words::Word;
-use refusals::{too_soon, wrong_clock};
+use modem_words::{Code, Word};
+use pie::LATEST;
 use units::{Bytes, BytesPerSecond, Micros, Prob};
 
 // Rule 11: a quiescent flow that has been quiet for so long.
-fn wait(w: &mut [u64; 16], reset: Micros)
+fn wait(w: &mut [u64; 16], reset: u64)
     requires { (length w.old ≡ 16) × (get_or w.old 12 0 ≡ quiescent) }
-    ensures { w.new ≡ phase_words w.old (waited reset.0) }
+    ensures { w.new ≡ phase_words w.old (waited reset) }
 {
-    let over = timed_out(reset);
+    let over = timed_out(Micros(reset));
     if over {
         w[Word::RESET] = 0;
         w[Word::ACTIVITY] = Activity::INACTIVE.0;
         return;
     }
-    w[Word::RESET] = reset.0;
+    w[Word::RESET] = reset;
 }
 
 // Rules 10 and 11.
@@ -46,7 +45,7 @@ fn follow(w: &mut [u64; 16], quiet: bool)
     let was_quiescent = w[Word::ACTIVITY] == Activity::QUIESCENT.0;
     if was_quiescent {
         if quiet {
-            let reset = Micros(w[Word::RESET] + PERIOD);
+            let reset = w[Word::RESET] + PERIOD;
             wait(w, reset);
             return;
         }
@@ -56,33 +55,33 @@ fn follow(w: &mut [u64; 16], quiet: bool)
 
 // The promise is for every row that sums to at most 2^48; the call reads none. By numbers and not by the record of the algorithm, which
 // would be handed over in memory.
-pub fn tick(w: &mut [u64; 16], clock: Micros, credits: Bytes) -> u64
+pub fn tick(w: &mut [u64; 16], clock: u64, credits: u64) -> u64
     requires { (length w.old ≡ 16) × (formed (state_of w.old) ≡ true) }
     ensures { (row : List ℕ) → total row ≤ most_verdicts →
-        let a = tick (state_of w.old) row clock.0 credits.0 in
+        let a = tick (state_of w.old) row clock credits in
         (result ≡ code_of a.answer) × (w.new ≡ state_words a.state) }
 {
-    let late = wrong_clock(Micros(w[Word::CLOCK]), clock);
-    if late {
-        return REFUSED_CLOCK;
+    let wrong_clock = (clock < w[Word::CLOCK]) | (LATEST < clock);
+    if wrong_clock {
+        return Code::CLOCK;
     }
-    let soon = too_soon(Micros(PERIOD), Micros(w[Word::LAST]), clock);
-    if soon {
-        return REFUSED_TOO_SOON;
+    let too_soon = clock < w[Word::LAST] + PERIOD;
+    if too_soon {
+        return Code::TOO_SOON;
     }
     let target = Micros(w[Word::TARGET]);
     let old = Micros(w[Word::OLD]);
     let before = Micros(w[Word::ALLOWANCE]);
     let now = delay(
         Bytes(w[Word::BYTES]),
-        credits,
+        Bytes(credits),
         BytesPerSecond(w[Word::PEAK]),
         BytesPerSecond(w[Word::SUSTAINED]),
     );
     let prob = next_prob(Prob(w[Word::PROB]), before, now, old, target);
     let allowance = next_allowance(before);
-    w[Word::CLOCK] = clock.0;
-    w[Word::LAST] = clock.0;
+    w[Word::CLOCK] = clock;
+    w[Word::LAST] = clock;
     w[Word::PROB] = prob.0;
     w[Word::OLD] = now.0;
     w[Word::ALLOWANCE] = allowance.0;

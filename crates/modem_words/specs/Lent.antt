@@ -1,6 +1,5 @@
--- A flow as a caller lends it, and what a C call answers and leaves: the entries and the bursts cite these.
+-- A flow as a caller lends it, and what a C call answers and leaves.
 use Rattle.std.specs.Prelude.{List, ℕ}
-use Rattle.refusals.specs.Codes.{code_of}
 use Rattle.modem.specs.Answer.{ModemReply}
 use Rattle.modem.specs.Asked.{Asked, Flow, flow_after, modem_reply}
 use Rattle.modem_words.specs.Words.{state_of, state_words}
@@ -22,10 +21,6 @@ flow_of q = record { state = state_of q.words; handles = q.handles; sizes = q.si
 -- the reply of the entry
 abbrev pub reply_to : (flow : ℕ) → Lent → Asked → ModemReply
 reply_to flow q a = modem_reply (flow_of q) q.counts flow a
-
--- the number that the entry answers
-abbrev pub code_to : (flow : ℕ) → Lent → Asked → ℕ
-code_to flow q a = code_of (reply_to flow q a).answer
 
 -- the words, counts and tables that the entry leaves
 abbrev pub leaves : (flow : ℕ) → Lent → Asked → Lent

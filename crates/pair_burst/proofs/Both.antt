@@ -10,7 +10,7 @@ use borrow.Author.Tests.{lt-ltb, ltb-false, ltb-true}
 use Rattle.bursts.proofs.Steps.{Step}
 use Rattle.pair_burst.specs.Burst.{pair_bursts}
 use Rattle.pair_burst.specs.Fitting.{Fitting, Ready, lent_both}
-use Rattle.pair_steps.proofs.Full.{either_way}
+use Rattle.pair_burst.proofs.Refused.{either_way}
 use Rattle.pair_burst.proofs.Steps.{Asked, first_step, second-step}
 
 clash : {P : Type 0} → ◌≡◌ {A = ℕ} 0 1 → P

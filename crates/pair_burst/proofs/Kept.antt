@@ -16,10 +16,9 @@ use Rattle.pair_rules.specs.declared.Which.TheVariants.{Intercom, Passengers}
 use Rattle.pair_rules.specs.Answer.{departs}
 use Rattle.pair_rules.specs.Arrival.{arrived_handles, arrived_sizes}
 use Rattle.pair_rules.specs.Departure.{departed_sizes}
-use Rattle.pair_rules.specs.Calls.{reply_to}
+use Rattle.pair_guarantees.specs.Handed.{reply_to}
 use Rattle.pair_burst.specs.Calls.{Call, asked, unknown}
-use Rattle.pair_words.specs.Lent.{Lent, lent, queues_of}
-use Rattle.pair_burst.specs.Burst.{after}
+use Rattle.pair_burst.specs.Burst.{Lent, after, lent, queues_of}
 
 -- ── the tables keep their lengths ──
 

@@ -23,14 +23,13 @@ use Rattle.pair_rules.specs.Answer.{unless_refused}
 use Rattle.pair_rules.specs.Arrival.{arrival, arrival_refusal, arrived_state, arrived_store, verdict_of}
 use Rattle.pair_rules.specs.Departure.{departed_state, departure, departure_refusal}
 use Rattle.pair_rules.specs.Tick.{tick, tick_refusal, ticked_state}
-use Rattle.pair_rules.specs.Calls.{Queues, reply_to, returned}
+use Rattle.pair_guarantees.specs.Handed.{Queues, reply_to, returned}
 use Rattle.pair_words.specs.After.{own_after, shared_after}
 use Rattle.pie_words.proofs.Flags.{flag-says}
 use Rattle.laws.proofs.Written.{written_out}
 use Rattle.pair_words.specs.Words.{shared_of, shared_words, state_of, state_words}
 use Rattle.pair_burst.specs.Calls.{Call, asked, unknown}
-use Rattle.pair_words.specs.Lent.{Lent, lent, other_words, own_words, queues_of, shared_left}
-use Rattle.pair_burst.specs.Burst.{after}
+use Rattle.pair_burst.specs.Burst.{Lent, after, lent, other_words, own_words, queues_of, shared_left}
 use Rattle.pair_burst.specs.Fitting.{Ready}
 use Rattle.pair_burst.proofs.Formed.{reply-formed}
 use Rattle.pair_burst.proofs.Kept.{after-long}

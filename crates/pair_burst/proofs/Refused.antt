@@ -7,19 +7,20 @@ use native.Mathlib.Omega.{arith}
 use lib.Dec.{eqb, ltb}
 use lib.ListN.{get_or, length}
 use borrow.Author.Tests.{eq-eqb, eqb-true, le-ltb, lt-ltb, ltb-false, ltb-true}
-use Rattle.refusals.specs.Tests.{tables_refused}
 use Rattle.bursts.specs.Numbers.{clock_at}
 use Rattle.pair_rules.specs.WellFormed.{well_formed}
 use Rattle.pair_rules.specs.declared.Pair.{Pair}
 use Rattle.pair_rules.specs.Arrival.{arrival}
 use Rattle.pair_rules.specs.Departure.{departure}
+use Rattle.pair_rules.specs.Refusals.{tables_refused}
 use Rattle.pair_rules.specs.Tick.{tick}
 use Rattle.pair_words.specs.Words.{pair_of, shared_of, state_of, which_of}
-use Rattle.pair_steps.proofs.Replies.{arrival-malformed, arrival-tables, departure-malformed, departure-tables, tick-malformed}
-use Rattle.pair_steps.proofs.Full.{either_way, full-refused}
-use Rattle.pair_steps.specs.Full.{full_code}
-use Rattle.pair_words.proofs.Lent.{refused_by}
+use Rattle.pair_steps.proofs.Replies.{arrival-malformed, arrival-tables, departure-malformed, departure-tables, refused_by, tick-malformed}
 use Rattle.pair_burst.proofs.Steps.{Asked, arrival-step, departure-step, tick-step}
+
+pub either_way : {P : Type 0} (b : Bool) → (b ≡ true → P) → (b ≡ false → P) → P
+either_way true h k = h refl
+either_way false h k = k refl
 
 module _ (second : Bool) (s o t handles sizes calls : List ℕ) (at kind : ℕ) where
   abbrev p : Pair
@@ -55,7 +56,7 @@ module _ (second : Bool) (s o t handles sizes calls : List ℕ) (at kind : ℕ) 
       (λ l. departure-left 2 k l (departure-malformed p (which_of second) handles sizes (clock_at calls at) e))
       (λ l. tick-left 2 k l (tick-malformed p (which_of second) (clock_at calls at) e)))
 
-  pub tables-left : ltb 2 kind ≡ false → well_formed p ≡ true → tables_refused (shared_of s).slots (length handles) (length sizes) ≡ true → Left 3
+  pub tables-left : ltb 2 kind ≡ false → well_formed p ≡ true → tables_refused (shared_of s) (length handles) (length sizes) ≡ true → Left 3
   tables-left low f e =
       either_way (ltb kind 2)
       (λ k. arrival-left 3 (clock_at calls at) refl k
@@ -65,14 +66,6 @@ module _ (second : Bool) (s o t handles sizes calls : List ℕ) (at kind : ℕ) 
       let b : 2 ≤ kind = ltb-false kind 2 k in
       departure-left 3 k (eq-eqb kind 2 (omega arith))
       (departure-tables (which_of second) (shared_of s) (state_of o) (state_of t) handles sizes (clock_at calls at) f e))
-
-  pub full-left : ltb kind 2 ≡ true → well_formed p ≡ true → tables_refused (shared_of s).slots (length handles) (length sizes) ≡ false →
-      (r : ℕ) → r ≡ full_code (state_of o) (clock_at calls at) (get_or calls (at + 3) 0) → eqb r 0 ≡ false →
-      Asked second s o t handles sizes calls at kind r s o handles sizes
-  full-left k f fit r e z =
-      let g = full-refused (state_of o) (clock_at calls at) (get_or calls (at + 3) 0) r e (shared_of s) (state_of t) handles sizes (eqb kind 1)
-      (get_or calls (at + 4) 0) fit (which_of second) f z in
-      rw g.0 (arrival-left _ (clock_at calls at) refl k g.1)
 
 -- ── kinds ──
 

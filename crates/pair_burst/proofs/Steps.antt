@@ -23,11 +23,9 @@ use Rattle.pair_rules.specs.Tick.{tick, tick_refusal}
 use Rattle.refusals.specs.Codes.{code_of}
 use Rattle.pair_words.specs.After.{own_after, shared_after}
 use Rattle.pair_words.specs.Words.{pair_of, which_of}
-use Rattle.pair_words.proofs.Lent.{arrival-gives, departure-gives, tick_gives}
 use Rattle.pair_burst.specs.Calls.{asked, call_at, request_at}
 use Rattle.bursts.specs.Answers.{answer_word}
-use Rattle.pair_words.specs.Lent.{lent}
-use Rattle.pair_burst.specs.Burst.{after, answer_to, pair_bursts}
+use Rattle.pair_burst.specs.Burst.{after, answer_to, lent, pair_bursts}
 
 -- ── the word of an answer that hands out nothing is its code ──
 
@@ -98,11 +96,16 @@ pub arrival-step : (second : Bool) (s o t handles sizes calls : List ℕ) (at ki
     sizes' ≡ arrived_sizes p (which_of second) a.answer sizes (get_or calls (at + 3) 0) →
     Asked second s o t handles sizes calls at kind word s' o' handles' sizes'
 unfolding request_at
-arrival-step second s o t handles sizes calls at kind clock c k word s' o' handles' sizes' e es eo eh ez =
-    let size = get_or calls (at + 3) 0 in
-    let u = get_or calls (at + 4) 0 in
-    let g = arrival-gives second s o t handles sizes clock (get_or calls (at + 2) 0) size (eqb kind 1) u s' o' handles' sizes' es eo eh ez in
-    rw (k, ← c) (e ∙ plain-arrival (pair_of second s o t) (which_of second) handles sizes clock size (eqb kind 1) u ∙ ap answer_word g.0, g.1)
+arrival-step false s o t handles sizes calls at kind clock c k word s' o' handles' sizes' e es eo eh ez =
+    rw (k, ← c) (
+      e ∙ plain-arrival (pair_of false s o t) Intercom handles sizes clock (get_or calls (at + 3) 0) (eqb kind 1) (get_or calls (at + 4) 0),
+      rw (es, eo, eh, ez),
+    )
+arrival-step true s o t handles sizes calls at kind clock c k word s' o' handles' sizes' e es eo eh ez =
+    rw (k, ← c) (
+      e ∙ plain-arrival (pair_of true s o t) Passengers handles sizes clock (get_or calls (at + 3) 0) (eqb kind 1) (get_or calls (at + 4) 0),
+      rw (es, eo, eh, ez),
+    )
 
 pub departure-step : (second : Bool) (s o t handles sizes calls : List ℕ) (at kind clock : ℕ) → clock ≡ clock_at calls at →
     ltb kind 2 ≡ false → eqb kind 2 ≡ true → (word : ℕ) (s' o' sizes' : List ℕ) →
@@ -112,9 +115,8 @@ pub departure-step : (second : Bool) (s o t handles sizes calls : List ℕ) (at 
     sizes' ≡ departed_sizes p (which_of second) a.answer sizes →
     Asked second s o t handles sizes calls at kind word s' o' handles sizes'
 unfolding request_at
-departure-step second s o t handles sizes calls at kind clock c k l word s' o' sizes' e es eo ez =
-    let g = departure-gives second s o t handles sizes clock s' o' sizes' es eo ez in
-    rw (k, l, ← c) (e ∙ ap answer_word g.0, g.1)
+departure-step false s o t handles sizes calls at kind clock c k l word s' o' sizes' e es eo ez = rw (k, l, ← c) (e, rw (es, eo, ez))
+departure-step true s o t handles sizes calls at kind clock c k l word s' o' sizes' e es eo ez = rw (k, l, ← c) (e, rw (es, eo, ez))
 
 pub tick-step : (second : Bool) (s o t handles sizes calls : List ℕ) (at kind clock : ℕ) → clock ≡ clock_at calls at →
     ltb kind 2 ≡ false → eqb kind 2 ≡ false → (word : ℕ) (o' : List ℕ) →
@@ -122,9 +124,10 @@ pub tick-step : (second : Bool) (s o t handles sizes calls : List ℕ) (at kind 
     word ≡ code_of a.answer → o' ≡ own_after (which_of second) a o →
     Asked second s o t handles sizes calls at kind word s o' handles sizes
 unfolding request_at
-tick-step second s o t handles sizes calls at kind clock c k l word o' e eo =
-    let g = tick_gives second s o t handles sizes clock o' eo in
-    rw (k, l, ← c) (e ∙ plain-tick (pair_of second s o t) (which_of second) clock ∙ ap answer_word g.0, g.1)
+tick-step false s o t handles sizes calls at kind clock c k l word o' e eo =
+    rw (k, l, ← c) (e ∙ plain-tick (pair_of false s o t) Intercom clock, rw eo)
+tick-step true s o t handles sizes calls at kind clock c k l word o' e eo =
+    rw (k, l, ← c) (e ∙ plain-tick (pair_of true s o t) Passengers clock, rw eo)
 
 -- ── either queue's call ──
 

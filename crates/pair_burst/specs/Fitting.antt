@@ -7,8 +7,7 @@ use Rattle.pair_rules.specs.WellFormed.{well_formed}
 use Rattle.pair_rules.specs.declared.Which.TheVariants.{Intercom}
 use Rattle.pair_words.specs.Words.{pair_of, shared_of, state_of, which_of}
 use Rattle.pair_burst.specs.Calls.{asked, request_at}
-use Rattle.pair_words.specs.Lent.{Lent, lent}
-use Rattle.pair_burst.specs.Burst.{answer_to, after}
+use Rattle.pair_burst.specs.Burst.{Lent, lent, answer_to, after}
 
 -- the words of both queues in one list, the intercom's first
 abbrev pub lent_both : (shared : List ℕ) (both : List (List ℕ)) (handles sizes : List ℕ) → Lent

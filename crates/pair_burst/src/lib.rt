@@ -7,14 +7,14 @@ ghost use Rattle.pie.specs.Verdicts.{total};
 ghost use Rattle.bursts.specs.Burst.{burst, done, fits, outcome};
 ghost use Rattle.pair_rules.specs.WellFormed.{well_formed};
 ghost use Rattle.pair_words.specs.Words.{pair_of, shared_of, state_of};
-ghost use Rattle.pair_words.specs.Lent.{lent};
-ghost use Rattle.pair_burst.specs.Burst.{pair_bursts};
+ghost use Rattle.pair_burst.specs.Burst.{lent, pair_bursts};
 ghost use Rattle.pair_burst.specs.Fitting.{Ready, lent_both};
 
 use crate::one::answer;
-use bursts::{NUMBERS, has_room};
-use pair_words::{SLOTS, counts_of, records_fit};
-use refusals::UNKNOWN;
+use bursts::has_room;
+use pair_words::{
+    DROPPED_BYTES, DROPPED_EARLY, DROPPED_SLOTS, ENQUEUED, MARKED, SLOTS, records_fit,
+};
 
 mod one;
 
@@ -45,11 +45,29 @@ fn ready(
     if !fit {
         return false;
     }
-    let first = has_room(counts_of(intercom), n);
+    let first = has_room(
+        [
+            intercom[ENQUEUED],
+            intercom[MARKED],
+            intercom[DROPPED_BYTES],
+            intercom[DROPPED_SLOTS],
+            intercom[DROPPED_EARLY],
+        ],
+        n,
+    );
     if !first {
         return false;
     }
-    has_room(counts_of(passengers), n)
+    has_room(
+        [
+            passengers[ENQUEUED],
+            passengers[MARKED],
+            passengers[DROPPED_BYTES],
+            passengers[DROPPED_SLOTS],
+            passengers[DROPPED_EARLY],
+        ],
+        n,
+    )
 }
 
 // All calls. Where `tested`, the records are ready for so many arrivals.
@@ -72,7 +90,7 @@ fn all(
 {
     let mut i: usize = 0;
     while i < answers.len() {
-        let word = answer(shared, both, handles, sizes, calls, NUMBERS * i, tested);
+        let word = answer(shared, both, handles, sizes, calls, 6 * i, tested);
         answers[i] = word;
         i += 1;
     }
@@ -96,9 +114,9 @@ pub extern "C" fn obikuteru_pair_calls(
         handles.old sizes.old) calls.now answers.old }
 {
     let n = answers.len();
-    let fit = (calls.len() % NUMBERS == 0) & (calls.len() / NUMBERS == n);
+    let fit = (calls.len() % 6 == 0) & (calls.len() / 6 == n);
     if !fit {
-        return UNKNOWN;
+        return 120;
     }
     let tested = ready(
         shared,

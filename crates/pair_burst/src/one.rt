@@ -6,17 +6,17 @@ ghost use Rattle.pair_words.specs.After.{own_after, shared_after};
 ghost use Rattle.pair_words.specs.Words.{pair_of, shared_of, which_of};
 ghost use Rattle.pair_burst.specs.Calls.{asked, call_at, request_at};
 ghost use Rattle.bursts.specs.Answers.{answer_word};
-ghost use Rattle.pair_words.specs.Lent.{lent};
-ghost use Rattle.pair_burst.specs.Burst.{after, answer_to};
+ghost use Rattle.pair_burst.specs.Burst.{after, answer_to, lent};
 ghost use Rattle.pair_burst.specs.Fitting.{Fitting, Ready, Stays, lent_both};
 
-use bursts::{
-    CLOCK_HIGH, DEPARTURE, ECN_ARRIVAL, HANDLE, KIND, SIZE, U, UNKNOWN, clock_of, wide, word,
+use bursts::{clock_of, wide, word};
+use pair_steps::{arrive, depart, tick};
+use pair_words::{
+    CLOCK, DROPPED_BYTES, DROPPED_EARLY, DROPPED_SLOTS, ENQUEUED, MARKED, SLOTS, records_fit,
 };
-use pair_steps::{arrive, depart, full_refusal, tick};
-use pair_words::{SLOTS, records_fit};
-use refusals::{REFUSED_MALFORMED, REFUSED_TABLES};
-use units::{Bytes, Micros};
+use pie::{LARGEST, LATEST};
+use refusals::counts_full;
+use ring_words::{REFUSED_CLOCK, REFUSED_COUNTS, REFUSED_MALFORMED, REFUSED_SIZE, REFUSED_TABLES};
 
 // The code of the refusal of records, tables or counts for a call on the queue whose words are `own`, or 0.
 fn refusal_of(
@@ -41,7 +41,7 @@ fn refusal_of(
     if !fit {
         return REFUSED_MALFORMED;
     }
-    let ticks = DEPARTURE < kind;
+    let ticks = 2 < kind;
     if ticks {
         return 0;
     }
@@ -50,13 +50,31 @@ fn refusal_of(
     if !tables_fit {
         return REFUSED_TABLES;
     }
-    let arrives = kind < DEPARTURE;
+    let arrives = kind < 2;
     if !arrives {
         return 0;
     }
-    let clock = Micros(clock_of(calls[at], calls[at + CLOCK_HIGH]));
-    let size = Bytes(wide(calls[at + SIZE]));
-    full_refusal(own, clock, size)
+    let full = counts_full([
+        own[ENQUEUED],
+        own[MARKED],
+        own[DROPPED_BYTES],
+        own[DROPPED_SLOTS],
+        own[DROPPED_EARLY],
+    ]);
+    if !full {
+        return 0;
+    }
+    let clock = clock_of(calls[at], calls[at + 1]);
+    let wrong_clock = (clock < own[CLOCK]) | (LATEST < clock);
+    if wrong_clock {
+        return REFUSED_CLOCK;
+    }
+    let bytes = wide(calls[at + 3]);
+    let wrong_size = (bytes == 0) | (LARGEST < bytes);
+    if wrong_size {
+        return REFUSED_SIZE;
+    }
+    REFUSED_COUNTS
 }
 
 // The same for a call on the queue 0, the intercom, or 1, the passengers; 0 where all were tested before.
@@ -100,13 +118,13 @@ fn departing(
     second: bool,
     handles: &[u32],
     sizes: &mut [u32],
-    clock: Micros,
+    clock: u64,
 ) -> u64
     requires shared_len { (length shared.old ≡ 6) × (length own.old ≡ 21) }
     requires other_value { well_formed (pair_of second shared.old own.old other.now) ≡ true }
     requires handles_len { (length handles.now ≡ (shared_of shared.old).slots) × (length sizes.old ≡ (shared_of shared.old).slots) }
     ensures { let p = pair_of second shared.old own.old other.now in
-        let a = departure p (which_of second) handles.now sizes.old clock.0 in
+        let a = departure p (which_of second) handles.now sizes.old clock in
         (result ≡ answer_word a.answer)
         × (shared.new ≡ shared_after a shared.old)
         × (own.new ≡ own_after (which_of second) a own.old)
@@ -153,13 +171,13 @@ fn of_queue(
         shared.old own.old other.now handles.old sizes.old)
         (asked (which_of (eqb queue 1)) (request_at kind calls.now at)) }
 {
-    let clock = Micros(clock_of(calls[at], calls[at + CLOCK_HIGH]));
+    let clock = clock_of(calls[at], calls[at + 1]);
     let second = queue == 1;
-    let departs = kind == DEPARTURE;
+    let departs = kind == 2;
     if departs {
         return departing(shared, own, other, second, handles, sizes, clock);
     }
-    let arrives = kind < DEPARTURE;
+    let arrives = kind < 2;
     if arrives {
         let code = arrive(
             shared,
@@ -169,10 +187,10 @@ fn of_queue(
             handles,
             sizes,
             clock,
-            calls[at + HANDLE],
-            calls[at + SIZE],
-            kind == ECN_ARRIVAL,
-            calls[at + U],
+            calls[at + 2],
+            calls[at + 3],
+            kind == 1,
+            calls[at + 4],
         );
         return wide(code);
     }
@@ -199,10 +217,10 @@ pub(crate) fn answer(
         ≡ after (lent_both shared.old both.old handles.old sizes.old)
         (call_at calls.now at) }
 {
-    let asks = calls[at + KIND];
+    let asks = calls[at + 5];
     let unknown = 7 < asks;
     if unknown {
-        return UNKNOWN;
+        return 120;
     }
     let queue = (asks / 4) as usize;
     let kind = asks % 4;

@@ -5,15 +5,22 @@
 ghost use Rattle.std.specs.Prelude.{◌≡◌, false, [], ◌+◌, ◌<◌, eqb};
 ghost use Rattle.pair_rules.specs.Fresh.{fresh, setup_of};
 ghost use Rattle.pair_rules.specs.WellFormed.{well_formed};
+ghost use Rattle.pair_rules.specs.Arrival.{arrival, arrived_handles, arrived_sizes};
+ghost use Rattle.pair_rules.specs.Departure.{departed_sizes, departure};
+ghost use Rattle.pair_rules.specs.Tick.{tick};
 ghost use Rattle.refusals.specs.Codes.{code_of, packet_of};
-ghost use Rattle.calls.specs.Requests.{ask_arrival, ask_departure, ask_tick};
-ghost use Rattle.pair_words.specs.Lent.{answer_to, code_to, leaves, lent};
+ghost use Rattle.pair_words.specs.After.{own_after, shared_after};
 ghost use Rattle.pair_words.specs.Words.{pair_of, shared_words, state_words, which_of};
 
 use pair_rules::{Settings, Setup, fresh};
-use pair_steps::{arrive, depart, full_refusal, tick};
-use pair_words::{SLOTS, encode, encode_shared, records_fit};
-use refusals::{Accepted, REFUSED_MALFORMED, REFUSED_TABLES, refused};
+use pair_steps::{arrive, depart, tick};
+use pair_words::{
+    CLOCK, DROPPED_BYTES, DROPPED_EARLY, DROPPED_SLOTS, ENQUEUED, MARKED, SLOTS, encode,
+    encode_shared, records_fit,
+};
+use pie::{LARGEST, LATEST};
+use refusals::{Accepted, counts_full, refused};
+use ring_words::{REFUSED_CLOCK, REFUSED_COUNTS, REFUSED_MALFORMED, REFUSED_SIZE, REFUSED_TABLES};
 use units::{Bytes, Micros};
 
 // What `obikuteru_pair_fresh` is told of a queue.
@@ -87,12 +94,13 @@ pub extern "C" fn obikuteru_pair_arrival_of(
     ecn: bool,
     u: u32,
 ) -> u32
-    ensures { let w = which_of second in
-        let q = lent w shared.old own.old other.now handles.old sizes.old in
-        let asked = ask_arrival clock handle size ecn u in
-        (result ≡ code_to q w asked)
-        × (lent w shared.new own.new other.now handles.new sizes.new
-        ≡ leaves q w asked) }
+    ensures { let p = pair_of second shared.old own.old other.now in
+        let a = arrival p (which_of second) handles.old sizes.old clock size ecn u in
+        (result ≡ code_of a.answer)
+        × (shared.new ≡ shared_after a shared.old)
+        × (own.new ≡ own_after (which_of second) a own.old)
+        × (handles.new ≡ arrived_handles p a.answer handles.old handle)
+        × (sizes.new ≡ arrived_sizes p (which_of second) a.answer sizes.old size) }
 {
     let fit = records_fit(shared, own, other, second);
     if !fit {
@@ -103,24 +111,28 @@ pub extern "C" fn obikuteru_pair_arrival_of(
     if !tables_fit {
         return REFUSED_TABLES;
     }
-    let code = full_refusal(own, Micros(clock), Bytes(size as u64));
-    let refused = code != 0;
-    if refused {
-        return code;
+    let full = counts_full([
+        own[ENQUEUED],
+        own[MARKED],
+        own[DROPPED_BYTES],
+        own[DROPPED_SLOTS],
+        own[DROPPED_EARLY],
+    ]);
+    if full {
+        let wrong_clock = (clock < own[CLOCK]) | (LATEST < clock);
+        if wrong_clock {
+            return REFUSED_CLOCK;
+        }
+        let bytes = size as u64;
+        let wrong_size = (bytes == 0) | (LARGEST < bytes);
+        if wrong_size {
+            return REFUSED_SIZE;
+        }
+        return REFUSED_COUNTS;
     }
     let queue = queue_of(second);
     arrive(
-        shared,
-        own,
-        other,
-        queue,
-        handles,
-        sizes,
-        Micros(clock),
-        handle,
-        size,
-        ecn,
-        u,
+        shared, own, other, queue, handles, sizes, clock, handle, size, ecn, u,
     )
 }
 
@@ -135,13 +147,13 @@ pub extern "C" fn obikuteru_pair_departure_of(
     clock: u64,
     packet: &mut [u32; 2],
 ) -> u32
-    ensures { let w = which_of second in
-        let q = lent w shared.old own.old other.now handles.now sizes.old in
-        let asked = ask_departure clock in
-        (result ≡ code_to q w asked)
-        × (lent w shared.new own.new other.now handles.now sizes.new
-        ≡ leaves q w asked)
-        × (packet.new ≡ packet_of (answer_to q w asked)) }
+    ensures { let p = pair_of second shared.old own.old other.now in
+        let a = departure p (which_of second) handles.now sizes.old clock in
+        (result ≡ code_of a.answer)
+        × (shared.new ≡ shared_after a shared.old)
+        × (own.new ≡ own_after (which_of second) a own.old)
+        × (sizes.new ≡ departed_sizes p (which_of second) a.answer sizes.old)
+        × (packet.new ≡ packet_of a.answer) }
 {
     *packet = [0, 0];
     let fit = records_fit(shared, own, other, second);
@@ -153,16 +165,7 @@ pub extern "C" fn obikuteru_pair_departure_of(
     if !tables_fit {
         return REFUSED_TABLES;
     }
-    depart(
-        shared,
-        own,
-        other,
-        second,
-        handles,
-        sizes,
-        Micros(clock),
-        packet,
-    )
+    depart(shared, own, other, second, handles, sizes, clock, packet)
 }
 
 #[unsafe(no_mangle)]
@@ -173,16 +176,15 @@ pub extern "C" fn obikuteru_pair_tick_of(
     second: bool,
     clock: u64,
 ) -> u32
-    ensures { let w = which_of second in
-        let q = lent w shared.now own.old other.now [] [] in
-        (result ≡ code_to q w (ask_tick clock))
-        × (lent w shared.now own.new other.now [] [] ≡ leaves q w (ask_tick clock)) }
+    ensures { let p = pair_of second shared.now own.old other.now in
+        let a = tick p (which_of second) clock in
+        (result ≡ code_of a.answer) × (own.new ≡ own_after (which_of second) a own.old) }
 {
     let fit = records_fit(shared, own, other, second);
     if !fit {
         return REFUSED_MALFORMED;
     }
-    tick(shared, own, other, second, Micros(clock))
+    tick(shared, own, other, second, clock)
 }
 
 #[unsafe(no_mangle)]

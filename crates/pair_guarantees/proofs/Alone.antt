@@ -11,11 +11,11 @@ use Rattle.pie.specs.declared.Verdict.{Verdict}
 use Rattle.pie.specs.declared.Verdict.TheVariants.{DroppedBytes, DroppedSlots}
 use Rattle.refusals.specs.Answer.{Answer, departed, refused, ticked, verdict}
 use Rattle.refusals.specs.Rows.{first_refusal}
-use Rattle.pie.specs.Constants.{period}
-use Rattle.refusals.specs.Tests.{clock_refused, counts_refused, empty_refused, size_refused, too_soon_refused}
+use Rattle.refusals.specs.Tests.{size_refused}
 use Rattle.pair_rules.specs.declared.State.{State}
 use Rattle.pair_rules.specs.Arrival.{arrived_state, bytes_full}
 use Rattle.pair_rules.specs.Departure.{departed_state}
+use Rattle.pair_rules.specs.Refusals.{clock_refused, counts_refused, empty_refused, too_soon_refused}
 use Rattle.pair_rules.specs.Tick.{ticked_state}
 use Rattle.pair_guarantees.specs.Isolation.{without_ends}
 
@@ -30,9 +30,9 @@ pub record AloneReply : Type 0 where
 
 abbrev pub alone_rows : View → Request → List (ℕ × Bool)
 alone_rows v (ask_arrival clock handle size ecn u) =
-    (3, v.unfit) ∷ (4, clock_refused v.state.clock.0 clock) ∷ (7, size_refused size) ∷ (8, counts_refused v.state.verdicts) ∷ []
-alone_rows v (ask_departure clock) = (3, v.unfit) ∷ (4, clock_refused v.state.clock.0 clock) ∷ (6, empty_refused v.state.backlog) ∷ []
-alone_rows v (ask_tick clock) = (4, clock_refused v.state.clock.0 clock) ∷ (5, too_soon_refused period v.state.last.0 clock) ∷ []
+    (3, v.unfit) ∷ (4, clock_refused v.state clock) ∷ (7, size_refused size) ∷ (8, counts_refused v.state) ∷ []
+alone_rows v (ask_departure clock) = (3, v.unfit) ∷ (4, clock_refused v.state clock) ∷ (6, empty_refused v.state) ∷ []
+alone_rows v (ask_tick clock) = (4, clock_refused v.state clock) ∷ (5, too_soon_refused v.state clock) ∷ []
 
 abbrev pub alone_verdict : State → (full : Bool) (size : ℕ) (ecn : Bool) (u : ℕ) → Verdict
 alone_verdict s full size ecn u =

@@ -5,6 +5,7 @@ use Prim.Native.Nat.{ℕ, ◌+◌, ◌-◌, ◌<◌}
 use native.Mathlib.Omega.{arith}
 use lib.ListN.{get_or, length, set}
 use Rattle.calls.specs.Packets.{Packet}
+use Rattle.store.specs.Following.{followed}
 use Rattle.store.specs.Put.{ends_after_put, free_place, handles_after_put, sizes_after_put, store_after_put}
 use Rattle.store.specs.Take.{ends_after_take, sizes_after_take, store_after_take}
 use Rattle.store_guarantees.specs.Calls.{PutDone, TakeDone}
@@ -16,8 +17,7 @@ use Rattle.pair_rules.specs.Queues.{other, own, paired, storing}
 use Rattle.pair_rules.specs.declared.State.{State}
 use Rattle.pair_rules.specs.declared.Which.{Which}
 use Rattle.pair_rules.specs.declared.Which.TheVariants.{Intercom, Passengers}
-use Rattle.pair_guarantees.specs.Handed.{chain_number, chain_of, chains_of, queued}
-use Rattle.pair_rules.specs.Calls.{Queues}
+use Rattle.pair_guarantees.specs.Handed.{Queues, chain_number, chain_of, chains_of, queued}
 
 abbrev pub the_other : Which → Which
 the_other Intercom = Passengers
@@ -127,6 +127,23 @@ takes w q s p ps ends count d =
       sound = rw same d.sound;
       contents = set-contents w q (without_head w q s) ps (ap contents same ∙ d.contents);
     }
+
+-- ── what the moved chains hold ──
+
+pub held-put : (w : Which) (q : Queues) (handle size : ℕ) →
+    held (after_put (chains_of q) (chain_number w) handle size) ≡ (own w q.pair).backlog.count + 1 + (other w q.pair).backlog.count
+held-put Intercom q handle size = omega arith
+held-put Passengers q handle size = omega arith
+
+pub held-take : (w : Which) (q : Queues) →
+    held (after_take (chains_of q) (chain_number w)) ≡ (own w q.pair).backlog.count - 1 + (other w q.pair).backlog.count
+held-take Intercom q = omega arith
+held-take Passengers q = omega arith
+
+pub head-taken : (w : Which) (q : Queues) → let s = own w q.pair in
+    (chain_at (after_take (chains_of q) (chain_number w)) (chain_number w)).ends.head ≡ followed q.sizes s.ends.head s.backlog.count
+head-taken Intercom q = refl
+head-taken Passengers q = refl
 
 -- nothing moves where ends and count stay
 pub still-chains : (w : Which) (q : Queues) (s : State) → s.ends ≡ (own w q.pair).ends → s.backlog ≡ (own w q.pair).backlog →

@@ -17,8 +17,7 @@ use Rattle.pair_rules.specs.declared.Shared.{Shared}
 use Rattle.pair_rules.specs.declared.Which.{Which}
 use Rattle.pair_rules.specs.declared.Which.TheVariants.{Intercom, Passengers}
 use Rattle.pair_rules.specs.Arrival.{slots_full}
-use Rattle.pair_guarantees.specs.Handed.{Call, after, same, two_queues}
-use Rattle.pair_rules.specs.Calls.{Queues, reply_to, returned}
+use Rattle.pair_guarantees.specs.Handed.{Call, Queues, after, reply_to, returned, same, two_queues}
 use Rattle.pair_guarantees.specs.Isolation.{BelowReserve, answers_in, is_arrival, own_calls}
 use Rattle.pair_guarantees.proofs.Alone.{View, alone_reply}
 use Rattle.pair_guarantees.proofs.Chained.{the_other}

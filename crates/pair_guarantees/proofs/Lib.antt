@@ -2,7 +2,6 @@
 pub mod Replies
 pub mod Sheds
 pub mod Refusals
-pub mod WhichVerdict
 pub mod OwnStateAlone
 pub mod AllowanceLasts
 pub mod Recovery

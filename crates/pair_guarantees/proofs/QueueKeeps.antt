@@ -8,25 +8,21 @@ use native.Mathlib.Omega.{arith}
 use lib.ListN.{get_or, length}
 use Rattle.calls.specs.Conservation.{Keeps, Readings}
 use Rattle.calls.specs.Packets.{Sized, bytes_of}
-use Rattle.calls.specs.Requests.{Request, ask_arrival, ask_departure, ask_tick}
-use Rattle.ring.specs.Calls.{arrive, depart, update}
+use Rattle.calls.specs.Requests.{Request}
 use Rattle.ring_guarantees.proofs.Answers.{counted-at}
 use Rattle.pie.specs.Verdicts.{place_of}
 use Rattle.pie.specs.declared.Verdict.{Verdict}
 use Rattle.refusals.specs.Answer.{refused}
 use Rattle.pair_rules.specs.Queues.{own}
-use Rattle.pair_rules.specs.WellFormed.{well_formed}
 use Rattle.pair_rules.specs.declared.Which.{Which}
 use Rattle.pair_rules.specs.declared.Which.TheVariants.{Intercom, Passengers}
 use Rattle.pair_rules.specs.Arrival.{slots_full}
 use Rattle.pair_guarantees.specs.Conservation.{is_verdict}
-use Rattle.pair_guarantees.specs.Handed.{Answered, Call, admitted_by, after, answer_of, departed_by, one_of_two, queued}
-use Rattle.pair_rules.specs.Calls.{Queues, reply_to}
-use Rattle.pair_rules.specs.Calls.{returned}
+use Rattle.pair_guarantees.specs.Handed.{Answered, Call, Queues, admitted_by, after, answer_of, departed_by, one_of_two, queued, reply_to}
+use Rattle.pair_guarantees.specs.Handed.{returned}
 use Rattle.pair_guarantees.proofs.Alone.{View, alone_reply}
 use Rattle.pair_guarantees.proofs.AloneMoves.{Moves, alone-moves, never}
 use Rattle.pair_guarantees.proofs.Chained.{count-queued, the_other}
-use Rattle.pair_guarantees.proofs.Kept.{kept}
 use Rattle.pair_guarantees.proofs.Refines.{steps}
 use Rattle.pair_guarantees.proofs.Whole.{Held, Whole, view_of}
 
@@ -58,18 +54,12 @@ own-moves w q r h =
     subst (λ a. Moves (view_of w q) r a (view_of w (returned q w r (reply_to q w r)))) (sym s.answer)
     (subst (λ v. Moves (view_of w q) r m.answer v) (sym s.view) moves)
 
--- the tables that are lent are the queues' own
-formed-kept : (w : Which) (q : Queues) (r : Request) → well_formed (returned q w r (reply_to q w r)).pair ≡ well_formed q.pair
-formed-kept w q (ask_arrival clock handle size ecn u) = kept q.pair w (arrive q.handles q.sizes clock handle size ecn u)
-formed-kept w q (ask_departure clock) = kept q.pair w (depart q.handles q.sizes clock)
-formed-kept w q (ask_tick clock) = kept q.pair w (update clock)
-
 pub whole-kept : (q : Queues) (c : Call) → Whole q → Whole (after q c)
 whole-kept q c h =
     let w = c.queue in
     let s = steps w q c.asked h in
     record {
-      formed = formed-kept w q c.asked ∙ h.formed;
+      formed = s.formed;
       linked = s.linked;
       held =
           of-both (λ any. Held (view_of any (after q c))) w

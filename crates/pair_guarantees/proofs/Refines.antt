@@ -1,18 +1,22 @@
 -- A call on one of two queues is a call on the queue alone, with rule 2's truth told; the other queue is left as it is.
 use mathlib.Core.Path.{◌≡◌, refl, ap, subst, sym, ◌∙◌}
-use mathlib.Core.Bool.{Bool, true, false, cond}
+use mathlib.Core.Bool.{Bool, true, false, cond, false≢true}
 use mathlib.Core.Logic.{◌≢◌}
 use mathlib.Core.List.{List, [], ◌∷◌, ◌++◌, append-nil}
-use Prim.Native.Nat.{ℕ, zero, suc, ◌+◌}
+use Prim.Native.Nat.{ℕ, zero, suc, ◌+◌, ◌<◌}
 use native.Mathlib.Omega.{arith}
-use borrow.Author.Tests.{eq-eqb, eqb-false}
+use borrow.Author.Tests.{eq-eqb, eqb-false, ltb-false}
+use lib.Dec.{ltb}
 use lib.ListN.{get_or, length}
+use Rattle.laws.proofs.Tests.{or-neither}
 use Rattle.calls.specs.Packets.{Packet}
 use Rattle.calls.specs.Requests.{Request, ask_arrival, ask_departure, ask_tick}
-use Rattle.pie.specs.Verdicts.{admitted}
+use Rattle.pie.specs.Constants.{latest, most_verdicts}
+use Rattle.pie.specs.Verdicts.{admitted, total}
+use Rattle.pie.specs.declared.Backlog.{Backlog}
 use Rattle.pie.specs.declared.Verdict.{Verdict}
 use Rattle.refusals.specs.Answer.{Answer, departed, refused, ticked, verdict}
-use Rattle.refusals.proofs.Fitting.{size-in-range}
+use Rattle.refusals.proofs.Fitting.{head-fits, size-in-range}
 use Rattle.refusals.proofs.Ordered.{none-refuses}
 use Rattle.store.specs.Put.{ends_after_put, free_place, handles_after_put, sizes_after_put, store_after_put}
 use Rattle.store.specs.Take.{store_after_take}
@@ -20,31 +24,33 @@ use Rattle.store_guarantees.specs.Chains.{packets_in}
 use Rattle.store_guarantees.specs.Sound.{Sound}
 use Rattle.pair_rules.specs.Answer.{Reply}
 use Rattle.pair_rules.specs.Queues.{other, own, paired, storing}
+use Rattle.pair_rules.specs.WellFormed.{well_formed}
 use Rattle.pair_rules.specs.declared.Pair.{Pair}
 use Rattle.pair_rules.specs.declared.Shared.{Shared}
 use Rattle.pair_rules.specs.declared.State.{State}
 use Rattle.pair_rules.specs.declared.Which.{Which}
 use Rattle.pair_rules.specs.declared.Which.TheVariants.{Intercom, Passengers}
-use Rattle.pair_rules.proofs.Facts.{facts}
+use Rattle.pair_rules.proofs.Facts.{QueueFits, facts}
 use Rattle.pair_rules.proofs.Symmetry.{own-paired, shared-paired}
 use Rattle.pair_rules.specs.Answer.{unless_refused}
 use Rattle.pair_rules.specs.Arrival.{arrival, arrival_refusal, arrival_refusals, arrived_state, arrived_store, slots_full, verdict_of}
 use Rattle.pair_rules.specs.Departure.{departed_state, departure, departure_refusal, departure_refusals, head_handle, head_size}
-use Rattle.pair_rules.specs.Tick.{tick, tick_refusal, ticked_state}
+use Rattle.pair_rules.specs.Tick.{tick, tick_refusal, tick_refusals, ticked_state}
+use Rattle.pair_rules.proofs.Kept.{arrived-fits, departed-fits, ticked-fits}
 use Rattle.pair_rules.proofs.WhenAccepted.{admitted-room}
-use Rattle.pair_guarantees.specs.Handed.{chain_number, chains_of, queued}
-use Rattle.pair_rules.specs.Calls.{Queues, reply_to, returned}
+use Rattle.pair_guarantees.specs.Handed.{Queues, chain_number, chains_of, queued, reply_to, returned}
 use Rattle.pair_guarantees.specs.Isolation.{without_ends}
 use Rattle.pair_guarantees.proofs.Alone.{AloneReply, alone_acceptance, alone_number, alone_reply, alone_unless, head_taken, judged}
-use Rattle.pair_guarantees.proofs.Chained.{put-done, puts, still-chains, take_done, takes, the_other}
+use Rattle.pair_guarantees.proofs.Chained.{head-taken, held-put, held-take, put-done, puts, still-chains, take_done, takes, the_other}
 use Rattle.pair_guarantees.proofs.Chained.{with_packet, without_head}
-use Rattle.pair_guarantees.proofs.Kept.{room}
+use Rattle.pair_guarantees.proofs.Kept.{changed-formed, held-total, no_more, own-fits, room}
 use Rattle.pair_guarantees.proofs.Whole.{Whole, arrival-number, departure-number, head_of, tick-number, unfit_of, view_of}
 
 pub record Step (w : Which) (q q' : Queues) (a : Answer) (m : AloneReply) : Type 0 where
   pub answer : a ≡ m.answer
   pub view : view_of w q' ≡ m.view
   pub others : view_of (the_other w) q' ≡ view_of (the_other w) q
+  pub formed : well_formed q'.pair ≡ true
   pub linked : unfit_of q' ≡ false → Sound (chains_of q')
   pub reserves : q'.pair.shared.reserves ≡ q.pair.shared.reserves
 
@@ -87,7 +93,7 @@ refused-step : (w : Which) (q : Queues) (r : Request) (n : ℕ) → Whole q →
     Step w q (returned q w r (record { answer = refused n; pair = q.pair })) (refused n) (record { answer = refused n; view = view_of w q })
 refused-step w q r n h =
     rw (stays q w r n)
-    (record { answer = refl; view = refl; others = refl; linked = h.linked; reserves = refl })
+    (record { answer = refl; view = refl; others = refl; formed = h.formed; linked = h.linked; reserves = refl })
 
 -- ── a call that moves no packet ──
 
@@ -98,17 +104,23 @@ module _ (w : Which) (q : Queues) (h : Whole q) where
   abbrev o : State
   o = own w p
 
-  still-step : (s : State) (a : Answer) → s.ends ≡ o.ends → s.backlog ≡ o.backlog →
+  still-step : (s : State) (a : Answer) → s.ends ≡ o.ends → s.backlog ≡ o.backlog → QueueFits p.shared.slots s →
       Step w q (record { pair = paired w p.shared s (other w p); handles = q.handles; sizes = q.sizes }) a
       (record { answer = a; view = record { state = without_ends s; packets = queued w q; unfit = unfit_of q } })
-  still-step s a ends backlog =
+  still-step s a ends backlog fits =
       let q' : Queues = record { pair = paired w p.shared s (other w p); handles = q.handles; sizes = q.sizes } in
+      let f = facts p h.formed in
       let same : chains_of q' ≡ chains_of q = still-chains w q s ends backlog in
       let fit : unfit_of q' ≡ unfit_of q = rw (shared-paired w p.shared s (other w p)) in
+      let count : s.backlog.count ≡ o.backlog.count = ap (λ (b : Backlog). b.count) backlog in
       record {
         answer = refl;
         view = own_view w q q' p.shared s (queued w q) (unfit_of q) refl (ap (λ c. packets_in c (chain_number w)) same) fit;
         others = other-view w q q' p.shared s refl (ap (λ c. packets_in c (chain_number (the_other w))) same) fit;
+        formed =
+            changed-formed w p p.shared.store s f fits f.shared.freed-high f.shared.used_high
+            (omega (arith, held-total w p f))
+            (no_more w p p.shared.store s f (omega arith));
         linked = λ fits'. rw same (h.linked (sym fit ∙ fits'));
         reserves = kept-reserves w q q' p.shared s refl refl;
       }
@@ -130,6 +142,16 @@ module _ (w : Which) (q : Queues) (h : Whole q) where
     unfolding arrival_refusal
     tests = none-refuses (arrival_refusals p w (length q.handles) q.sizes clock size ecn u) refl none
 
+    fits-arrived : (admitted v ≡ true → (o.backlog.count < p.shared.slots) × (place < p.shared.slots)) →
+        QueueFits p.shared.slots arrived
+    fits-arrived free =
+        let k = own-fits w p (facts p h.formed) in
+        let time = or-neither (ltb clock o.clock.0) (ltb latest clock) (tests 2) in
+        let range = size-in-range size (tests 3) in
+        let full : total o.verdicts ≢ most_verdicts = eqb-false _ _ (tests 4) in
+        arrived-fits p w clock size place ecn u k (ltb-false _ _ time.0) (ltb-false _ _ time.1) range.0 range.1
+        (omega (arith, k.total-high)) free
+
     abbrev grown : Bool → List Packet
     grown b = queued w q ++ cond b (record { handle = handle; size = size } ∷ []) []
 
@@ -141,6 +163,7 @@ module _ (w : Which) (q : Queues) (h : Whole q) where
         let range = size-in-range size (tests 3) in
         let rm = room w p f (admitted-room p w size ecn u a).1 in
         let d = put-done w q handle size (h.linked (tests 1)) (omega arith) rm.free in
+        let fits = fits-arrived (λ t. (omega (arith, rm.free), d.place)) in
         let ends : arrived.ends ≡ ends_after_put o.ends o.backlog.count place = rw a in
         let count : arrived.backlog.count ≡ o.backlog.count + 1 = rw a in
         let done = puts w q arrived handle size ends count d in
@@ -151,6 +174,10 @@ module _ (w : Which) (q : Queues) (h : Whole q) where
           answer = refl;
           view = own_view w q q' sh arrived _ _ refl (done.contents.mine ∙ ap grown (sym a)) (fit ∙ sym (tests 1));
           others = other-view w q q' sh arrived refl done.contents.others (fit ∙ sym (tests 1));
+          formed =
+              changed-formed w p sh.store arrived f fits d.sound.freed d.sound.used
+              (omega (arith, d.sound.counted, held-put w q handle size, count))
+              (rm.common sh.store arrived count);
           linked = λ t. done.sound;
           reserves = kept-reserves w q q' sh arrived refl refl;
         }
@@ -160,7 +187,7 @@ module _ (w : Which) (q : Queues) (h : Whole q) where
         (judged (view_of w q) clock handle size v)
     unfolding arrived_state
     dropped_step a =
-        let t = still-step arrived (verdict v) (rw a) (rw a) in
+        let t = still-step arrived (verdict v) (rw a) (rw a) (fits-arrived (λ b. absurd (false≢true (sym a ∙ b)))) in
         let view' : judged (view_of w q) clock handle size v
         ≡ record { answer = verdict v; view = record { state = without_ends arrived; packets = queued w q; unfit = unfit_of q } }
         = rw (a, append-nil (queued w q)) in
@@ -213,10 +240,19 @@ module _ (w : Which) (q : Queues) (h : Whole q) where
         (departed (head_handle o q.handles) size) (head_taken (view_of w q) clock (queued w q))
     unfolding departed_state
     departure-step =
+        let f = facts p h.formed in
+        let k = own-fits w p f in
+        let time = or-neither (ltb clock o.clock.0) (ltb latest clock) (left 2) in
         let some : o.backlog.count ≢ 0 = eqb-false _ _ (left 3) in
         let head = head_of w q h (left 1) some in
         let d = take_done w q head.packet head.rest (h.linked (left 1)) head.split in
         let done = takes w q gone head.packet head.rest refl refl d in
+        let next : gone.ends.head < p.shared.slots =
+        subst (λ n. n < p.shared.slots) (head-taken w q) (d.sound.heads (chain_number w)) in
+        let leaves = head-fits o.backlog size (rw head.size head.leaves) in
+        let fits =
+        departed-fits p.shared.slots o q.sizes clock size f.shared.slots-low f.shared.slots-high k
+        (ltb-false _ _ time.0) (ltb-false _ _ time.1) (omega arith) leaves next in
         let q' = without_head w q gone in
         let sh = storing p.shared (store_after_take p.shared.store o.ends.head) in
         let fit = sound-fits q' done.sound in
@@ -227,17 +263,27 @@ module _ (w : Which) (q : Queues) (h : Whole q) where
           view =
               own_view w q q' sh gone head.rest (unfit_of q) refl done.contents.mine (fit ∙ sym (left 1)) ∙ rw head.size;
           others = other-view w q q' sh gone refl done.contents.others (fit ∙ sym (left 1));
+          formed =
+              changed-formed w p sh.store gone f fits k.head-high d.sound.used
+              (omega (arith, d.sound.counted, held-take w q))
+              (no_more w p sh.store gone f (omega arith));
           linked = λ t. done.sound;
           reserves = kept-reserves w q q' sh gone refl refl;
         })
 
   -- ── a tick ──
 
-  tick-step : (clock : ℕ) →
+  tick-step : (clock : ℕ) → tick_refusal q.pair w clock ≡ 0 →
       Step w q (record { pair = paired w p.shared (ticked_state o clock) (other w p); handles = q.handles; sizes = q.sizes }) ticked
       (alone_acceptance (view_of w q) (slots_full p w) (ask_tick clock))
-  unfolding ticked_state
-  tick-step clock = still-step (ticked_state o clock) ticked refl refl
+  unfolding ticked_state tick_refusal
+  tick-step clock none =
+      let f = facts p h.formed in
+      let at = none-refuses (tick_refusals p w clock) refl none in
+      let time = or-neither (ltb clock o.clock.0) (ltb latest clock) (at 1) in
+      still-step (ticked_state o clock) ticked refl refl
+      (ticked-fits p.shared.slots o clock f.shared.slots-low f.shared.slots-high (own-fits w p f)
+      (ltb-false _ _ time.0) (ltb-false _ _ time.1) (ltb-false _ _ (at 2)))
 
 -- ── any call ──
 
@@ -284,7 +330,7 @@ accepted-step : (w : Which) (q : Queues) (r : Request) → Whole q → number_gi
 unfolding verdict_of
 accepted-step w q (ask_arrival clock handle size ecn u) h none = arrival-step w q h clock handle size ecn u none
 accepted-step w q (ask_departure clock) h none = departure-step w q h clock none
-accepted-step w q (ask_tick clock) h none = tick-step w q h clock
+accepted-step w q (ask_tick clock) h none = tick-step w q h clock none
 
 -- the reply, of the pair and of the queue alone, by the number
 StepOf : Which → Queues → Request → Reply → AloneReply → Type 0

@@ -26,12 +26,12 @@ use Rattle.refusals.specs.Answer.{Answer, admits, refused, verdict}
 use Rattle.ring.specs.Answer.{Reply}
 use Rattle.ring.specs.Arrival as ring
 use Rattle.ring.specs.Departure as ring-departure
+use Rattle.ring.specs.Refusals.{empty_refused, tables_refused}
 use Rattle.ring.specs.State.{well_formed}
 use Rattle.ring.specs.Tick as ring-tick
 use Rattle.ring.specs.declared.State as ring-queue
 use Rattle.ring.proofs.Facts.{facts}
 use Rattle.refusals.proofs.Ordered.{none-refuses}
-use Rattle.refusals.specs.Tests.{empty_refused, tables_refused}
 use Rattle.pair_rules.specs.declared.State.{State}
 use Rattle.pair_rules.specs.Arrival.{arrived_state}
 use Rattle.pair_rules.specs.Departure.{departed_state}
@@ -68,7 +68,7 @@ abbrev pub queue_of : Ring → Queue
 queue_of x = record { state = state_of x; handles = x.handles; sizes = x.sizes }
 
 abbrev unfit_of : Ring → Bool
-unfit_of x = tables_refused (state_of x).settings.slots (length x.handles) (length x.sizes)
+unfit_of x = tables_refused (state_of x) (length x.handles) (length x.sizes)
 
 abbrev pub ring_view : Ring → View
 ring_view x = record { state = without_ends x.state; packets = queued (queue_of x); unfit = unfit_of x }
@@ -81,9 +81,9 @@ pub record RingWhole (x : Ring) : Type 0 where
 
 ring-number : (x : Ring) (r : Request) → RingWhole x → number_given (state_of x) (call_of (queue_of x) r) ≡ alone_number (ring_view x) r
 ring-number x (ask_arrival clock handle size ecn u) h = rw h.formed
-ring-number x (ask_departure clock) h = go (empty_refused (state_of x).backlog) refl
+ring-number x (ask_departure clock) h = go (empty_refused (state_of x)) refl
   where
-    go : (b : Bool) → empty_refused (state_of x).backlog ≡ b →
+    go : (b : Bool) → empty_refused (state_of x) ≡ b →
         number_given (state_of x) (call_of (queue_of x) (ask_departure clock)) ≡ alone_number (ring_view x) (ask_departure clock)
     go true e = rw (h.formed, e)
     go false e =

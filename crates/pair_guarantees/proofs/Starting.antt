@@ -19,8 +19,7 @@ use Rattle.pair_rules.specs.declared.Setup.{Setup}
 use Rattle.pair_rules.specs.declared.Which.{Which}
 use Rattle.pair_rules.specs.declared.Which.TheVariants.{Intercom, Passengers}
 use Rattle.pair_rules.proofs.FreshFormed.{SetupsFit, fresh-formed, made-accepted, setups-fit}
-use Rattle.pair_guarantees.specs.Handed.{chains_of, fresh_queues, one_of_two}
-use Rattle.pair_rules.specs.Calls.{Queues}
+use Rattle.pair_guarantees.specs.Handed.{Queues, chains_of, fresh_queues, one_of_two}
 use Rattle.pair_guarantees.proofs.QueueKeeps.{readings}
 use Rattle.pair_guarantees.proofs.Whole.{Held, Whole, unfit_of, view_of}
 

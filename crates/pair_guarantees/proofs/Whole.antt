@@ -13,7 +13,7 @@ use Rattle.calls.specs.Requests.{ask_arrival, ask_departure, ask_tick}
 use Rattle.pie.specs.Verdicts.{admitted}
 use Rattle.pie.specs.declared.Verdict.{Verdict}
 use Rattle.refusals.proofs.Fitting.{fitting-head}
-use Rattle.refusals.specs.Tests.{empty_refused, head_refused, tables_refused}
+use Rattle.refusals.specs.Tests.{head_refused}
 use Rattle.store.specs.Following.{link_refused}
 use Rattle.store_guarantees.specs.Chains.{Chain, chain_at, packet_at}
 use Rattle.store_guarantees.specs.Sound.{Sound}
@@ -23,17 +23,17 @@ use Rattle.pair_rules.specs.declared.Which.{Which}
 use Rattle.pair_rules.proofs.Facts.{facts}
 use Rattle.pair_rules.specs.Arrival.{arrival_refusal, freed_refused, verdict_of}
 use Rattle.pair_rules.specs.Departure.{departure_refusal, head_handle, head_size}
+use Rattle.pair_rules.specs.Refusals.{empty_refused, tables_refused}
 use Rattle.pair_rules.specs.Tick.{tick_refusal}
 use Rattle.pair_rules.proofs.WhenAccepted.{admitted-room}
-use Rattle.pair_guarantees.specs.Handed.{chain_number, chain_of, chains_of, queued}
-use Rattle.pair_rules.specs.Calls.{Queues}
+use Rattle.pair_guarantees.specs.Handed.{Queues, chain_number, chain_of, chains_of, queued}
 use Rattle.pair_guarantees.specs.Isolation.{without_ends}
 use Rattle.pair_guarantees.proofs.Alone.{View, alone_number}
 use Rattle.pair_guarantees.proofs.Chained.{chain-at, count-queued, put-done, take_done}
 use Rattle.pair_guarantees.proofs.Kept.{room}
 
 abbrev pub unfit_of : Queues → Bool
-unfit_of q = tables_refused q.pair.shared.slots (length q.handles) (length q.sizes)
+unfit_of q = tables_refused q.pair.shared (length q.handles) (length q.sizes)
 
 abbrev pub view_of : Which → Queues → View
 view_of w q = record { state = without_ends (own w q.pair); packets = queued w q; unfit = unfit_of q }
@@ -130,7 +130,7 @@ departure-number w q clock h = go (unfit_of q) refl
     Goal : Type 0
     Goal = departure_refusal q.pair w (length q.handles) q.sizes clock ≡ alone_number (view_of w q) (ask_departure clock)
 
-    some : (b : Bool) → unfit_of q ≡ false → empty_refused (own w q.pair).backlog ≡ b → Goal
+    some : (b : Bool) → unfit_of q ≡ false → empty_refused (own w q.pair) ≡ b → Goal
     some true fit e = rw (h.formed, fit, e)
     some false fit e =
         let head = head_of w q h fit (eqb-false (own w q.pair).backlog.count 0 e) in
@@ -138,7 +138,7 @@ departure-number w q clock h = go (unfit_of q) refl
 
     go : (b : Bool) → unfit_of q ≡ b → Goal
     go true e = rw (h.formed, e)
-    go false e = some (empty_refused (own w q.pair).backlog) e refl
+    go false e = some (empty_refused (own w q.pair)) e refl
 
 -- ── a tick ──
 

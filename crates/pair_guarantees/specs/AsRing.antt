@@ -14,8 +14,7 @@ use Rattle.store.specs.Fresh.{fresh_ends}
 use Rattle.pair_rules.specs.declared.Setup.{Setup}
 use Rattle.pair_rules.specs.declared.State.{State}
 use Rattle.pair_rules.specs.declared.Which.{Which}
-use Rattle.pair_guarantees.specs.Handed.{Call, two_queues}
-use Rattle.pair_rules.specs.Calls.{Queues}
+use Rattle.pair_guarantees.specs.Handed.{Call, Queues, two_queues}
 use Rattle.pair_guarantees.specs.Isolation.{BelowReserve, answers_in, begin, fresh_for, own_calls, state_after}
 
 -- the ring queue's settings: the reserve for its slots, and profile 0, plain

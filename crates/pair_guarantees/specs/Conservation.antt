@@ -12,8 +12,7 @@ use Rattle.pair_rules.specs.Fresh.{fresh}
 use Rattle.pair_rules.specs.Queues.{own}
 use Rattle.pair_rules.specs.declared.Setup.{Setup}
 use Rattle.pair_rules.specs.declared.Which.{Which}
-use Rattle.pair_guarantees.specs.Handed.{Answered, Call, Run, queued, run, same}
-use Rattle.pair_rules.specs.Calls.{reply_to}
+use Rattle.pair_guarantees.specs.Handed.{Answered, Call, Run, queued, reply_to, run, same}
 
 -- the answer to an own arrival is this verdict
 abbrev pub is_verdict : Which → Verdict → Answered → Bool

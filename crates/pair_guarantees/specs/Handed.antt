@@ -6,20 +6,47 @@ use Rattle.calls.specs.Handed.{QueueKind}
 use Rattle.calls.specs.Kind.{Kind}
 use Rattle.calls.specs.Packets.{Packet}
 use Rattle.calls.specs.Requests as one-queue
-use Rattle.calls.specs.Requests.{Request}
+use Rattle.calls.specs.Requests.{Request, ask_arrival, ask_departure, ask_tick}
 use Rattle.refusals.specs.Answer.{Answer}
 use Rattle.store_guarantees.specs.Chains.{Chain, Chains, packets_in}
-use Rattle.pair_rules.specs.Calls.{Queues, reply_to, returned}
+use Rattle.pair_rules.specs.Answer.{Reply}
 use Rattle.pair_rules.specs.Fresh.{fresh}
+use Rattle.pair_rules.specs.declared.Pair.{Pair}
 use Rattle.pair_rules.specs.declared.Setup.{Setup}
 use Rattle.pair_rules.specs.declared.State.{State}
 use Rattle.pair_rules.specs.declared.Which.{Which}
 use Rattle.pair_rules.specs.declared.Which.TheVariants.{Intercom, Passengers}
+use Rattle.pair_rules.specs.Arrival.{arrival, arrived_handles, arrived_sizes}
+use Rattle.pair_rules.specs.Departure.{departed_sizes, departure}
+use Rattle.pair_rules.specs.Tick.{tick}
+
+-- the three records and the two tables
+pub record Queues : Type 0 where
+  pub pair : Pair
+  pub handles : List ℕ
+  pub sizes : List ℕ
 
 -- a call names its queue; what it asks is what the ring queue is asked (crate ring_guarantees)
 pub record Call : Type 0 where
   pub queue : Which
   pub asked : Request
+
+abbrev pub reply_to : Queues → Which → Request → Reply
+reply_to q w (ask_arrival clock handle size ecn u) = arrival q.pair w q.handles q.sizes clock size ecn u
+reply_to q w (ask_departure clock) = departure q.pair w q.handles q.sizes clock
+reply_to q w (ask_tick clock) = tick q.pair w clock
+
+-- what a request with this reply returns: an admitted arrival writes to both tables, a departure to the sizes
+abbrev pub returned : Queues → Which → Request → Reply → Queues
+returned q w (ask_arrival clock handle size ecn u) r =
+    record {
+      pair = r.pair;
+      handles = arrived_handles q.pair r.answer q.handles handle;
+      sizes = arrived_sizes q.pair w r.answer q.sizes size;
+    }
+returned q w (ask_departure clock) r =
+    record { pair = r.pair; handles = q.handles; sizes = departed_sizes q.pair w r.answer q.sizes }
+returned q w (ask_tick clock) r = record { pair = r.pair; handles = q.handles; sizes = q.sizes }
 
 abbrev pub after : Queues → Call → Queues
 after q c = returned q c.queue c.asked (reply_to q c.queue c.asked)

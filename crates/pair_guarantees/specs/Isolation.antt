@@ -17,8 +17,7 @@ use Rattle.pair_rules.specs.declared.Setup.{Setup}
 use Rattle.pair_rules.specs.declared.State.{State}
 use Rattle.pair_rules.specs.declared.Which.{Which}
 use Rattle.pair_rules.specs.declared.Which.TheVariants.{Intercom, Passengers}
-use Rattle.pair_guarantees.specs.Handed.{Answered, Call, after, same, two_queues}
-use Rattle.pair_rules.specs.Calls.{Queues}
+use Rattle.pair_guarantees.specs.Handed.{Answered, Call, Queues, after, same, two_queues}
 
 -- a fresh call, by what it is told of this queue and of the other
 abbrev pub fresh_for : Which → (slots : ℕ) (mine others : Setup) → Reply

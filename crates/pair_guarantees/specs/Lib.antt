@@ -3,8 +3,6 @@
 --   Calls                 calls on two queues; one queue's own calls, with anything else lent to each
 --   Shedding              either queue as a kind of queue that sheds load by PIE
 --   Refusals              demand 1: refused by the lowest number that applies, and then nothing changes
---   Kept                  well-formed records stay well formed, whatever tables are lent
---   WhichVerdict          question 1: each verdict is given exactly when the rules require it
 --   OwnStateAlone         a verdict reads the queue's own state alone, but for rule 2
 --   AllowanceLasts        question 2: an allowance lasts its tick periods, whatever ticks are tried
 --   Grace                 question 2: so a full one lasts 150 ms after a tick that fills it
@@ -29,8 +27,6 @@
 pub mod Calls
 pub mod Shedding
 pub mod Refusals
-pub mod Kept
-pub mod WhichVerdict
 pub mod OwnStateAlone
 pub mod AllowanceLasts
 pub mod Grace

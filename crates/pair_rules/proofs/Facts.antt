@@ -13,7 +13,7 @@ use Rattle.units.specs.Kinds.{whole}
 use Rattle.pie.specs.Constants.{full_allowance, largest, latest, longest, most_accumulated, most_verdicts, threshold}
 use Rattle.pie.specs.Verdicts.{total}
 use Rattle.pair_rules.specs.Queues.{common_slots, common_use}
-use Rattle.pair_rules.specs.WellFormed.{both_conditions, queue_conditions, shared_conditions, reserves_conditions, well_formed}
+use Rattle.pair_rules.specs.WellFormed.{both_conditions, queue_conditions, shared_conditions, slots_conditions, well_formed}
 use Rattle.pair_rules.specs.declared.Pair.{Pair}
 use Rattle.pair_rules.specs.declared.Shared.{Shared}
 use Rattle.pair_rules.specs.declared.State.{State}
@@ -33,9 +33,9 @@ pub record SharedFits (s : Shared) : Type 0 where
   pub freed-high : s.store.freed < s.slots
   pub used_high : s.store.used ≤ s.slots
 
-pub slots-fit : (s : Shared) → all (reserves_conditions s) ≡ true → SlotsFit s
+pub slots-fit : (s : Shared) → all (slots_conditions s) ≡ true → SlotsFit s
 slots-fit s w =
-    let at : (i : ℕ) → get_or (reserves_conditions s) i true ≡ true = all-at (reserves_conditions s) w in
+    let at : (i : ℕ) → get_or (slots_conditions s) i true ≡ true = all-at (slots_conditions s) w in
     record {
       slots-low = leb-true _ _ (at 0);
       slots-high = leb-true _ _ (at 1);

@@ -13,7 +13,7 @@ use Rattle.pie.specs.Constants.{full_allowance, latest}
 use Rattle.refusals.specs.Answer.{made}
 use Rattle.pair_rules.specs.Answer.{Reply}
 use Rattle.pair_rules.specs.Fresh.{empty_state, fresh, fresh_pair, fresh_shared, setup_conditions, setup_refused}
-use Rattle.pair_rules.specs.WellFormed.{reserves_conditions, well_formed}
+use Rattle.pair_rules.specs.WellFormed.{slots_conditions, well_formed}
 use Rattle.pair_rules.specs.declared.Settings.{Settings}
 use Rattle.pair_rules.specs.declared.Setup.{Setup}
 use Rattle.pair_rules.proofs.Facts.{QueueFits, well-formed}
@@ -44,7 +44,7 @@ pub record SetupsFit (slots : ℕ) (a b : Setup) : Type 0 where
 
 pub setups-fit : (slots : ℕ) (a b : Setup) → setup_refused slots a b ≡ false → SetupsFit slots a b
 setups-fit slots a b e =
-    let tests = reserves_conditions (fresh_shared slots a.reserve b.reserve) ++ setup_conditions a ++ setup_conditions b in
+    let tests = slots_conditions (fresh_shared slots a.reserve b.reserve) ++ setup_conditions a ++ setup_conditions b in
     let at : (i : ℕ) → get_or tests i true ≡ true = all-at tests (not-false (all tests) e) in
     record {
       slots-low = leb-true _ _ (at 0);

@@ -15,7 +15,7 @@ use Rattle.laws.proofs.Tests.{and_left, and_right}
 use Rattle.refusals.proofs.Ordered.{numbered}
 use Rattle.refusals.specs.Numbers.{number_of, refusal_in}
 use Rattle.refusals.specs.Rows.{first_refusal}
-use Rattle.refusals.specs.Tests.{clock_refused, counts_refused, size_refused, tables_refused}
+use Rattle.refusals.specs.Tests.{size_refused}
 use Rattle.refusals.specs.declared.Accepted.{Accepted}
 use Rattle.refusals.specs.declared.Accepted.TheVariants.{No, Yes}
 use Rattle.refusals.specs.declared.Refusal.{Refusal}
@@ -30,7 +30,7 @@ use Rattle.pair_rules.specs.Arrival.{arrival, arrival_refusal, arrived_handles, 
 use Rattle.pair_rules.specs.Departure.{departed_sizes, departed_state, departure, departure_refusal, head_handle, head_size}
 use Rattle.pair_rules.specs.Facing.{facing}
 use Rattle.pair_rules.specs.Queues.{paired, storing}
-use Rattle.pair_rules.specs.Refusals.{pair_refused}
+use Rattle.pair_rules.specs.Refusals.{clock_refused, counts_refused, pair_refused, tables_refused}
 use Rattle.pair_rules.specs.Tick.{tick, tick_refusal, ticked_state}
 use Rattle.pair_rules.specs.declared.Pair.{Pair}
 use Rattle.pair_rules.specs.declared.Shared.{Shared}
@@ -126,10 +126,10 @@ departure-taken w s o t handles sizes clock f checked handle size store after si
 abbrev pub early : Shared → (o t : State) (handles_length sizes_length clock size : ℕ) → List (ℕ × Bool)
 early f o t handles_length sizes_length clock size =
     (2, pair_refused (paired Intercom f o t))
-    ∷ (3, tables_refused f.slots handles_length sizes_length)
-    ∷ (4, clock_refused o.clock.0 clock)
+    ∷ (3, tables_refused f handles_length sizes_length)
+    ∷ (4, clock_refused o clock)
     ∷ (7, size_refused size)
-    ∷ (8, counts_refused o.verdicts)
+    ∷ (8, counts_refused o)
     ∷ []
 
 -- rows that refuse, and rows that do not

@@ -18,7 +18,7 @@ use Rattle.pie.specs.declared.Verdict.TheVariants.{DroppedBytes, DroppedSlots}
 use Rattle.refusals.proofs.Fitting.{HeadFits, head-fits, size-in-range}
 use Rattle.refusals.proofs.Ordered.{none-refuses}
 use Rattle.refusals.specs.Rows.{first_refusal}
-use Rattle.refusals.specs.Tests.{clock_refused, head_refused, tables_refused}
+use Rattle.refusals.specs.Tests.{head_refused}
 use Rattle.store.specs.Following.{link_refused}
 use Rattle.store.specs.Put.{free_place}
 use Rattle.store.specs.declared.Store.{Store}
@@ -26,6 +26,7 @@ use Rattle.pair_rules.specs.Arrival.{bytes_full, slots_full, verdict_of}
 use Rattle.pair_rules.specs.Departure.{departure_refusal, departure_refusals, head_size}
 use Rattle.pair_rules.specs.Facing.{facing}
 use Rattle.pair_rules.specs.Queues.{own, paired}
+use Rattle.pair_rules.specs.Refusals.{clock_refused, tables_refused}
 use Rattle.pair_rules.specs.Tick.{tick_refusal, tick_refusals}
 use Rattle.pair_rules.specs.WellFormed.{queue_conditions, well_formed}
 use Rattle.pair_rules.specs.declared.Pair.{Pair}
@@ -65,7 +66,7 @@ known Passengers s o t e = known-first (facing Passengers s) o t e
 -- ── what each test's failing says ──
 
 tables-fit-first : (s : Shared) (handles_length sizes_length : ℕ) →
-    tables_refused s.slots handles_length sizes_length ≡ false → (handles_length ≡ s.slots) × (sizes_length ≡ s.slots)
+    tables_refused s handles_length sizes_length ≡ false → (handles_length ≡ s.slots) × (sizes_length ≡ s.slots)
 tables-fit-first s handles_length sizes_length e =
     let h = eqb handles_length s.slots in
     let z = eqb sizes_length s.slots in
@@ -73,11 +74,11 @@ tables-fit-first s handles_length sizes_length e =
     (eqb-true _ _ (and_left h z both), eqb-true _ _ (and_right h z both))
 
 tables-fit : (w : Which) (s : Shared) (handles_length sizes_length : ℕ) →
-    tables_refused (facing w s).slots handles_length sizes_length ≡ false → (handles_length ≡ s.slots) × (sizes_length ≡ s.slots)
+    tables_refused (facing w s) handles_length sizes_length ≡ false → (handles_length ≡ s.slots) × (sizes_length ≡ s.slots)
 tables-fit Intercom s handles_length sizes_length e = tables-fit-first s handles_length sizes_length e
 tables-fit Passengers s handles_length sizes_length e = tables-fit-first s handles_length sizes_length e
 
-clock-in-order : (o : State) (clock : ℕ) → clock_refused o.clock.0 clock ≡ false → (o.clock.0 ≤ clock) × (clock ≤ latest)
+clock-in-order : (o : State) (clock : ℕ) → clock_refused o clock ≡ false → (o.clock.0 ≤ clock) × (clock ≤ latest)
 clock-in-order o clock e =
     let n = or-neither (ltb clock o.clock.0) (ltb latest clock) e in
     (ltb-false _ _ n.0, ltb-false _ _ n.1)

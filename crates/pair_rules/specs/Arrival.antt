@@ -9,14 +9,14 @@ use Rattle.pie.specs.declared.Verdict.{Verdict}
 use Rattle.pie.specs.declared.Verdict.TheVariants.{DroppedBytes, DroppedSlots}
 use Rattle.refusals.specs.Answer.{Answer, admits, verdict}
 use Rattle.refusals.specs.Rows.{first_refusal}
-use Rattle.refusals.specs.Tests.{clock_refused, counts_refused, size_refused, tables_refused}
+use Rattle.refusals.specs.Tests.{size_refused}
 use Rattle.store.specs.Following.{link_refused}
 use Rattle.store.specs.Put.{ends_after_put, free_place, handles_after_put, sizes_after_put, store_after_put}
 use Rattle.store.specs.declared.Store.{Store}
 use Rattle.pair_rules.specs.Answer.{Reply}
 use Rattle.pair_rules.specs.Answer.{unless_refused}
 use Rattle.pair_rules.specs.Queues.{common_slots, common_use, other, own, paired, reserve_of, storing}
-use Rattle.pair_rules.specs.Refusals.{pair_refused}
+use Rattle.pair_rules.specs.Refusals.{clock_refused, counts_refused, pair_refused, tables_refused}
 use Rattle.pair_rules.specs.declared.Pair.{Pair}
 use Rattle.pair_rules.specs.declared.Shared.{Shared}
 use Rattle.pair_rules.specs.declared.State.{State}
@@ -46,10 +46,10 @@ abbrev pub arrival_refusals :
     Pair → Which → (handles_length : ℕ) (sizes : List ℕ) (clock size : ℕ) (ecn : Bool) (u : ℕ) → List (ℕ × Bool)
 arrival_refusals p w handles_length sizes clock size ecn u =
     (2, pair_refused p)
-    ∷ (3, tables_refused p.shared.slots handles_length (length sizes))
-    ∷ (4, clock_refused (own w p).clock.0 clock)
+    ∷ (3, tables_refused p.shared handles_length (length sizes))
+    ∷ (4, clock_refused (own w p) clock)
     ∷ (7, size_refused size)
-    ∷ (8, counts_refused (own w p).verdicts)
+    ∷ (8, counts_refused (own w p))
     ∷ (9, freed_refused p.shared sizes (verdict_of p w size ecn u))
     ∷ []
 

@@ -5,14 +5,14 @@ use Rattle.pie.specs.Backlog.{left}
 use Rattle.refusals.specs.Answer.{Answer, departed}
 use Rattle.ring.specs.Departure.{departed_pie}
 use Rattle.refusals.specs.Rows.{first_refusal}
-use Rattle.refusals.specs.Tests.{clock_refused, empty_refused, head_refused, tables_refused}
+use Rattle.refusals.specs.Tests.{head_refused}
 use Rattle.store.specs.Following.{link_refused}
 use Rattle.store.specs.Take.{ends_after_take, sizes_after_take, store_after_take}
 use Rattle.store.specs.Words.{size_at}
 use Rattle.pair_rules.specs.Answer.{Reply}
 use Rattle.pair_rules.specs.Answer.{departs, unless_refused}
 use Rattle.pair_rules.specs.Queues.{other, own, paired, storing}
-use Rattle.pair_rules.specs.Refusals.{pair_refused}
+use Rattle.pair_rules.specs.Refusals.{clock_refused, empty_refused, pair_refused, tables_refused}
 use Rattle.pair_rules.specs.declared.Pair.{Pair}
 use Rattle.pair_rules.specs.declared.State.{State}
 use Rattle.pair_rules.specs.declared.Which.{Which}
@@ -32,9 +32,9 @@ head_word_refused slots s sizes =
 abbrev pub departure_refusals : Pair → Which → (handles_length : ℕ) (sizes : List ℕ) (clock : ℕ) → List (ℕ × Bool)
 departure_refusals p w handles_length sizes clock =
     (2, pair_refused p)
-    ∷ (3, tables_refused p.shared.slots handles_length (length sizes))
-    ∷ (4, clock_refused (own w p).clock.0 clock)
-    ∷ (6, empty_refused (own w p).backlog)
+    ∷ (3, tables_refused p.shared handles_length (length sizes))
+    ∷ (4, clock_refused (own w p) clock)
+    ∷ (6, empty_refused (own w p))
     ∷ (9, head_word_refused p.shared.slots (own w p) sizes)
     ∷ []
 

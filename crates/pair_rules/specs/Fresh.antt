@@ -7,7 +7,7 @@ use Rattle.pie.specs.DepartureRate.{resting}
 use Rattle.refusals.specs.Answer.{made, refused}
 use Rattle.store.specs.Fresh.{fresh_ends, fresh_store}
 use Rattle.pair_rules.specs.Answer.{Reply}
-use Rattle.pair_rules.specs.WellFormed.{settings_conditions, reserves_conditions}
+use Rattle.pair_rules.specs.WellFormed.{settings_conditions, slots_conditions}
 use Rattle.pair_rules.specs.declared.Pair.{Pair}
 use Rattle.pair_rules.specs.declared.Settings.{Settings}
 use Rattle.pair_rules.specs.declared.Setup.{Setup}
@@ -64,7 +64,7 @@ setup_conditions s = settings_conditions s.settings ++ leb s.clock.0 latest ∷ 
 abbrev pub setup_refused : (slots : ℕ) (intercom passengers : Setup) → Bool
 setup_refused slots intercom passengers =
     not (all (
-    reserves_conditions (fresh_shared slots intercom.reserve passengers.reserve)
+    slots_conditions (fresh_shared slots intercom.reserve passengers.reserve)
     ++ setup_conditions intercom
     ++ setup_conditions passengers
     ))

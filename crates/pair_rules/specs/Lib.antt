@@ -8,4 +8,3 @@ pub mod Refusals
 pub mod Arrival
 pub mod Departure
 pub mod Tick
-pub mod Calls

@@ -4,12 +4,10 @@ use Rattle.units.specs.Kinds.{micros}
 use Rattle.pie.specs.Update.{updated}
 use Rattle.refusals.specs.Answer.{ticked}
 use Rattle.refusals.specs.Rows.{first_refusal}
-use Rattle.pie.specs.Constants.{period}
-use Rattle.refusals.specs.Tests.{clock_refused, too_soon_refused}
 use Rattle.pair_rules.specs.Answer.{Reply}
 use Rattle.pair_rules.specs.Answer.{unless_refused}
 use Rattle.pair_rules.specs.Queues.{other, own, paired}
-use Rattle.pair_rules.specs.Refusals.{pair_refused}
+use Rattle.pair_rules.specs.Refusals.{clock_refused, pair_refused, too_soon_refused}
 use Rattle.pair_rules.specs.declared.Pair.{Pair}
 use Rattle.pair_rules.specs.declared.State.{State}
 use Rattle.pair_rules.specs.declared.Which.{Which}
@@ -17,8 +15,8 @@ use Rattle.pair_rules.specs.declared.Which.{Which}
 abbrev pub tick_refusals : Pair → Which → (clock : ℕ) → List (ℕ × Bool)
 tick_refusals p w clock =
     (2, pair_refused p)
-    ∷ (4, clock_refused (own w p).clock.0 clock)
-    ∷ (5, too_soon_refused period (own w p).last.0 clock)
+    ∷ (4, clock_refused (own w p) clock)
+    ∷ (5, too_soon_refused (own w p) clock)
     ∷ []
 
 unfoldable pub tick_refusal : Pair → Which → (clock : ℕ) → ℕ

@@ -1,8 +1,8 @@
 -- 15: which records are well formed. Nothing is asked of the tables.
-use Rattle.std.specs.Prelude.{Bool, List, [], ◌∷◌, ◌++◌, ℕ, ◌+◌, leb, ltb, eqb}
+use Rattle.std.specs.Prelude.{Bool, not, ◌&&◌, ◌||◌, List, [], ◌∷◌, ◌++◌, ℕ, ◌+◌, ◌*◌, leb, ltb, eqb}
 use Rattle.laws.specs.Tests.{all}
-use Rattle.pie.specs.Constants.{latest, most_verdicts}
-use Rattle.pie.specs.Ranges.{backlog_conditions, buffer_conditions, measurement_conditions, pie_conditions, slots_conditions, target_conditions}
+use Rattle.units.specs.Kinds.{whole}
+use Rattle.pie.specs.Constants.{full_allowance, largest, latest, longest, most_accumulated, most_verdicts, threshold}
 use Rattle.pie.specs.Verdicts.{total}
 use Rattle.pair_rules.specs.Queues.{common_slots, common_use}
 use Rattle.pair_rules.specs.declared.Pair.{Pair}
@@ -11,20 +11,25 @@ use Rattle.pair_rules.specs.declared.Shared.{Shared}
 use Rattle.pair_rules.specs.declared.State.{State}
 
 -- slots in range, and both reserves sum to at most the slots
-abbrev pub reserves_conditions : Shared → List Bool
-reserves_conditions s =
-    slots_conditions s.slots
-    ++ leb (s.reserves.intercom + s.reserves.passengers) s.slots
+abbrev pub slots_conditions : Shared → List Bool
+slots_conditions s =
+    leb 1 s.slots
+    ∷ leb s.slots 65536
+    ∷ leb (s.reserves.intercom + s.reserves.passengers) s.slots
     ∷ []
 
 -- the shared record
 abbrev pub shared_conditions : Shared → List Bool
-shared_conditions s = reserves_conditions s ++ ltb s.store.freed s.slots ∷ leb s.store.used s.slots ∷ []
+shared_conditions s = slots_conditions s ++ ltb s.store.freed s.slots ∷ leb s.store.used s.slots ∷ []
 
 -- target and buffer in range
 abbrev pub settings_conditions : Settings → List Bool
 settings_conditions s =
-    target_conditions s.target.0 ++ buffer_conditions s.buffer.0
+    leb 1000 s.target.0
+    ∷ leb s.target.0 100000
+    ∷ leb 1 s.buffer.0
+    ∷ leb s.buffer.0 16777216
+    ∷ []
 
 -- each queue; head and tail are tested even where they mean nothing
 abbrev pub queue_conditions : (slots : ℕ) → State → List Bool
@@ -32,12 +37,23 @@ queue_conditions slots s =
     settings_conditions s.settings
     ++ leb s.last.0 s.clock.0
     ∷ leb s.clock.0 latest
-    ∷ pie_conditions s.pie
-    ++ ltb s.ends.head slots
+    ∷ leb s.pie.prob.0 whole
+    ∷ leb s.pie.old.0 longest
+    ∷ leb s.pie.allowance.0 full_allowance
+    ∷ ltb s.pie.accumulated.0 most_accumulated
+    ∷ leb s.pie.rate.average.0 longest
+    ∷ ltb s.ends.head slots
     ∷ ltb s.ends.tail slots
-    ∷ backlog_conditions slots s.settings.buffer.0 s.backlog
-    ++ measurement_conditions s.pie.rate s.backlog.count s.clock.0
-    ++ leb (total s.verdicts) most_verdicts
+    ∷ leb s.backlog.count slots
+    ∷ leb s.backlog.count s.backlog.bytes.0
+    ∷ leb s.backlog.bytes.0 (largest * s.backlog.count)
+    ∷ leb s.backlog.bytes.0 s.settings.buffer.0
+    ∷ leb s.pie.rate.start.0 s.clock.0
+    ∷ ltb s.pie.rate.counted.0 threshold
+    ∷ (s.pie.rate.measuring || eqb s.pie.rate.start.0 0)
+    ∷ (s.pie.rate.measuring || eqb s.pie.rate.counted.0 0)
+    ∷ not (s.pie.rate.measuring && eqb s.backlog.count 0)
+    ∷ leb (total s.verdicts) most_verdicts
     ∷ []
 
 -- both queues together

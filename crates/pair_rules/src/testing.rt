@@ -3,7 +3,7 @@ ghost use Rattle.std.specs.Prelude.{◌≡◌, true, ◌≤◌};
 ghost use Rattle.laws.specs.Tests.{all};
 ghost use Rattle.pair_rules.specs.Queues.{paired};
 ghost use Rattle.pair_rules.specs.WellFormed.{both_conditions, queue_conditions, settings_conditions};
-ghost use Rattle.pair_rules.specs.WellFormed.{shared_conditions, reserves_conditions, well_formed};
+ghost use Rattle.pair_rules.specs.WellFormed.{shared_conditions, slots_conditions, well_formed};
 ghost use Rattle.pair_rules.specs.declared.Which.TheVariants.{Intercom};
 
 use crate::sharing::over;
@@ -26,7 +26,7 @@ impl Settings {
 impl Shared {
     // Both reserves are tested without a sum, which might not fit.
     pub(crate) fn slots_fit(self) -> bool
-        ensures { result ≡ all (reserves_conditions self) }
+        ensures { result ≡ all (slots_conditions self) }
     {
         let slots = self.slots;
         let reserves = self.reserves;

@@ -1,5 +1,4 @@
 -- What the proofs of the calls share.
 pub mod Replies
-pub mod Full
 pub mod Words
 pub mod Decisions

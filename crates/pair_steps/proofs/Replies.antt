@@ -2,14 +2,14 @@
 use mathlib.Core.Path.{◌≡◌, refl}
 use mathlib.Core.Bool.{Bool, true, false}
 use mathlib.Core.List.{List, [], ◌∷◌}
-use Prim.Native.Nat.{ℕ, ◌+◌}
+use Prim.Native.Nat.{ℕ}
 use lib.ListN.{length}
 use borrow.Author.Tests.{eq-eqb}
 use Rattle.pie.specs.Verdicts.{admitted, place_of}
 use Rattle.pie.specs.declared.Verdict.{Verdict}
-use Rattle.refusals.specs.Answer.{departed, ticked, verdict}
-use Rattle.pie.specs.Constants.{period}
-use Rattle.refusals.specs.Tests.{clock_refused, counts_refused, empty_refused, size_refused, tables_refused, too_soon_refused}
+use Rattle.refusals.specs.Answer.{departed, refused, ticked, verdict}
+use Rattle.refusals.specs.Tests.{size_refused}
+use Rattle.pair_rules.specs.Answer.{Reply}
 use Rattle.store.specs.Put.{free_place, handles_after_put, sizes_after_put, store_after_put}
 use Rattle.store.specs.Take.{sizes_after_take, store_after_take}
 use Rattle.pair_rules.specs.Queues.{paired, storing}
@@ -21,11 +21,15 @@ use Rattle.pair_rules.specs.declared.Which.{Which}
 use Rattle.pair_rules.specs.declared.Which.TheVariants.{Intercom, Passengers}
 use Rattle.pair_rules.specs.Arrival.{arrival, arrival_refusal, arrived_handles, arrived_sizes, arrived_state, arrived_store, freed_refused, verdict_of}
 use Rattle.pair_rules.specs.Departure.{departed_sizes, departed_state, departure, departure_refusal, head_handle, head_size, head_word_refused}
+use Rattle.pair_rules.specs.Refusals.{clock_refused, counts_refused, empty_refused, tables_refused, too_soon_refused}
 use Rattle.pair_rules.specs.Tick.{tick, tick_refusal, ticked_state}
 use Rattle.refusals.specs.Codes.{code_of, packet_of}
 use Rattle.pair_words.specs.After.{own_after, shared_after}
 use Rattle.pair_words.specs.Words.{shared_words, state_words}
-use Rattle.pair_words.proofs.Lent.{refused_by}
+
+-- refused by this number
+abbrev pub refused_by : (number : ℕ) → Pair → Reply
+refused_by number p = record { answer = refused number; pair = p }
 
 -- ── records that are not well formed ──
 
@@ -49,7 +53,7 @@ abbrev pub Formed : Which → Shared → (own other : State) → Type 0
 Formed w s o t = well_formed (paired w s o t) ≡ true
 
 abbrev pub Fit : Shared → (handles sizes : List ℕ) → Type 0
-Fit s handles sizes = tables_refused s.slots (length handles) (length sizes) ≡ false
+Fit s handles sizes = tables_refused s (length handles) (length sizes) ≡ false
 
 pub tables-fit : (s : Shared) (handles sizes : List ℕ) → length handles ≡ s.slots → length sizes ≡ s.slots → Fit s handles sizes
 tables-fit s handles sizes h z = rw (eq-eqb (length handles) s.slots h, eq-eqb (length sizes) s.slots z)
@@ -57,18 +61,18 @@ tables-fit s handles sizes h z = rw (eq-eqb (length handles) s.slots h, eq-eqb (
 -- ── a tick ──
 
 module _ (s : Shared) (o t : State) (clock : ℕ) where
-  pub tick-late : (w : Which) → Formed w s o t → clock_refused o.clock.0 clock ≡ true → tick (paired w s o t) w clock ≡ refused_by 4 (paired w s o t)
+  pub tick-late : (w : Which) → Formed w s o t → clock_refused o clock ≡ true → tick (paired w s o t) w clock ≡ refused_by 4 (paired w s o t)
   unfolding tick tick_refusal
   tick-late Intercom f e = rw (f, e)
   tick-late Passengers f e = rw (f, e)
 
-  pub tick-early : (w : Which) → Formed w s o t → clock_refused o.clock.0 clock ≡ false → too_soon_refused period o.last.0 clock ≡ true →
+  pub tick-early : (w : Which) → Formed w s o t → clock_refused o clock ≡ false → too_soon_refused o clock ≡ true →
       tick (paired w s o t) w clock ≡ refused_by 5 (paired w s o t)
   unfolding tick tick_refusal
   tick-early Intercom f e k = rw (f, e, k)
   tick-early Passengers f e k = rw (f, e, k)
 
-  pub tick-made : (w : Which) → Formed w s o t → clock_refused o.clock.0 clock ≡ false → too_soon_refused period o.last.0 clock ≡ false →
+  pub tick-made : (w : Which) → Formed w s o t → clock_refused o clock ≡ false → too_soon_refused o clock ≡ false →
       tick (paired w s o t) w clock ≡ record { answer = ticked; pair = paired w s (ticked_state o clock) t }
   unfolding tick tick_refusal
   tick-made Intercom f e k = rw (f, e, k)
@@ -82,39 +86,34 @@ pub ticked-gives : (w : Which) (s : Shared) (o t : State) (clock : ℕ) (ow ow' 
 ticked-gives Intercom s o t clock ow ow' e eo = rw e (refl, eo)
 ticked-gives Passengers s o t clock ow ow' e eo = rw e (refl, eo)
 
-pub tick-refused-gives : (w : Which) (s : Shared) (o t : State) (clock number : ℕ) (ow : List ℕ) →
-    tick (paired w s o t) w clock ≡ refused_by number (paired w s o t) →
-    let a = tick (paired w s o t) w clock in (100 + number ≡ code_of a.answer) × (ow ≡ own_after w a ow)
-tick-refused-gives w s o t clock number ow e = rw e (refl, refl)
-
 -- ── a departure ──
 
 pub departure-tables : (w : Which) (s : Shared) (o t : State) (handles sizes : List ℕ) (clock : ℕ) → Formed w s o t →
-    tables_refused s.slots (length handles) (length sizes) ≡ true → departure (paired w s o t) w handles sizes clock ≡ refused_by 3 (paired w s o t)
+    tables_refused s (length handles) (length sizes) ≡ true → departure (paired w s o t) w handles sizes clock ≡ refused_by 3 (paired w s o t)
 unfolding departure departure_refusal
 departure-tables Intercom s o t handles sizes clock f e = rw (f, e)
 departure-tables Passengers s o t handles sizes clock f e = rw (f, e)
 
 module _ (s : Shared) (o t : State) (handles sizes : List ℕ) (clock : ℕ) (fit : Fit s handles sizes) where
-  pub departure-late : (w : Which) → Formed w s o t → clock_refused o.clock.0 clock ≡ true →
+  pub departure-late : (w : Which) → Formed w s o t → clock_refused o clock ≡ true →
       departure (paired w s o t) w handles sizes clock ≡ refused_by 4 (paired w s o t)
   unfolding departure departure_refusal
   departure-late Intercom f e = rw (f, fit, e)
   departure-late Passengers f e = rw (f, fit, e)
 
-  pub departure-empty : (w : Which) → Formed w s o t → clock_refused o.clock.0 clock ≡ false → empty_refused o.backlog ≡ true →
+  pub departure-empty : (w : Which) → Formed w s o t → clock_refused o clock ≡ false → empty_refused o ≡ true →
       departure (paired w s o t) w handles sizes clock ≡ refused_by 6 (paired w s o t)
   unfolding departure departure_refusal
   departure-empty Intercom f e k = rw (f, fit, e, k)
   departure-empty Passengers f e k = rw (f, fit, e, k)
 
-  pub departure-wrong : (w : Which) → Formed w s o t → clock_refused o.clock.0 clock ≡ false → empty_refused o.backlog ≡ false →
+  pub departure-wrong : (w : Which) → Formed w s o t → clock_refused o clock ≡ false → empty_refused o ≡ false →
       head_word_refused s.slots o sizes ≡ true → departure (paired w s o t) w handles sizes clock ≡ refused_by 9 (paired w s o t)
   unfolding departure departure_refusal
   departure-wrong Intercom f e k x = rw (f, fit, e, k, x)
   departure-wrong Passengers f e k x = rw (f, fit, e, k, x)
 
-  pub departure-made : (w : Which) → Formed w s o t → clock_refused o.clock.0 clock ≡ false → empty_refused o.backlog ≡ false →
+  pub departure-made : (w : Which) → Formed w s o t → clock_refused o clock ≡ false → empty_refused o ≡ false →
       head_word_refused s.slots o sizes ≡ false →
       departure (paired w s o t) w handles sizes clock
       ≡ record {
@@ -145,53 +144,43 @@ pub departed-gives : (w : Which) (s : Shared) (o t : State) (handles sizes : Lis
 departed-gives Intercom s o t handles sizes clock sh sh' ow ow' sizes' packet e es eo ez ep = rw e (refl, es, eo, ez, ep)
 departed-gives Passengers s o t handles sizes clock sh sh' ow ow' sizes' packet e es eo ez ep = rw e (refl, es, eo, ez, ep)
 
-pub departure-refused-gives : (w : Which) (s : Shared) (o t : State) (handles sizes : List ℕ) (clock number : ℕ) (sh ow packet : List ℕ) →
-    departure (paired w s o t) w handles sizes clock ≡ refused_by number (paired w s o t) → packet ≡ 0 ∷ 0 ∷ [] →
-    let a = departure (paired w s o t) w handles sizes clock in
-    (100 + number ≡ code_of a.answer)
-    × (sh ≡ shared_after a sh)
-    × (ow ≡ own_after w a ow)
-    × (sizes ≡ departed_sizes (paired w s o t) w a.answer sizes)
-    × (packet ≡ packet_of a.answer)
-departure-refused-gives w s o t handles sizes clock number sh ow packet e ep = rw e (refl, refl, refl, refl, ep)
-
 -- ── an arrival ──
 
 pub arrival-tables : (w : Which) (s : Shared) (o t : State) (handles sizes : List ℕ) (clock size : ℕ) (ecn : Bool) (u : ℕ) →
-    Formed w s o t → tables_refused s.slots (length handles) (length sizes) ≡ true →
+    Formed w s o t → tables_refused s (length handles) (length sizes) ≡ true →
     arrival (paired w s o t) w handles sizes clock size ecn u ≡ refused_by 3 (paired w s o t)
 unfolding arrival arrival_refusal
 arrival-tables Intercom s o t handles sizes clock size ecn u f e = rw (f, e)
 arrival-tables Passengers s o t handles sizes clock size ecn u f e = rw (f, e)
 
 module _ (s : Shared) (o t : State) (handles sizes : List ℕ) (clock size : ℕ) (ecn : Bool) (u : ℕ) (fit : Fit s handles sizes) where
-  pub arrival-late : (w : Which) → Formed w s o t → clock_refused o.clock.0 clock ≡ true →
+  pub arrival-late : (w : Which) → Formed w s o t → clock_refused o clock ≡ true →
       arrival (paired w s o t) w handles sizes clock size ecn u ≡ refused_by 4 (paired w s o t)
   unfolding arrival arrival_refusal
   arrival-late Intercom f e = rw (f, fit, e)
   arrival-late Passengers f e = rw (f, fit, e)
 
-  pub arrival-size : (w : Which) → Formed w s o t → clock_refused o.clock.0 clock ≡ false → size_refused size ≡ true →
+  pub arrival-size : (w : Which) → Formed w s o t → clock_refused o clock ≡ false → size_refused size ≡ true →
       arrival (paired w s o t) w handles sizes clock size ecn u ≡ refused_by 7 (paired w s o t)
   unfolding arrival arrival_refusal
   arrival-size Intercom f e k = rw (f, fit, e, k)
   arrival-size Passengers f e k = rw (f, fit, e, k)
 
-  pub arrival-counts : (w : Which) → Formed w s o t → clock_refused o.clock.0 clock ≡ false → size_refused size ≡ false → counts_refused o.verdicts ≡ true →
+  pub arrival-counts : (w : Which) → Formed w s o t → clock_refused o clock ≡ false → size_refused size ≡ false → counts_refused o ≡ true →
       arrival (paired w s o t) w handles sizes clock size ecn u ≡ refused_by 8 (paired w s o t)
   unfolding arrival arrival_refusal
   arrival-counts Intercom f e k x = rw (f, fit, e, k, x)
   arrival-counts Passengers f e k x = rw (f, fit, e, k, x)
 
   module _ (v : Verdict) where
-    pub arrival-lost : (w : Which) → Formed w s o t → clock_refused o.clock.0 clock ≡ false → size_refused size ≡ false → counts_refused o.verdicts ≡ false →
+    pub arrival-lost : (w : Which) → Formed w s o t → clock_refused o clock ≡ false → size_refused size ≡ false → counts_refused o ≡ false →
         v ≡ verdict_of (paired w s o t) w size ecn u → freed_refused s sizes v ≡ true →
         arrival (paired w s o t) w handles sizes clock size ecn u ≡ refused_by 9 (paired w s o t)
     unfolding arrival arrival_refusal
     arrival-lost Intercom f e k x ev y = rw (← ev, f, fit, e, k, x, y)
     arrival-lost Passengers f e k x ev y = rw (← ev, f, fit, e, k, x, y)
 
-    pub arrival-made : (w : Which) → Formed w s o t → clock_refused o.clock.0 clock ≡ false → size_refused size ≡ false → counts_refused o.verdicts ≡ false →
+    pub arrival-made : (w : Which) → Formed w s o t → clock_refused o clock ≡ false → size_refused size ≡ false → counts_refused o ≡ false →
         v ≡ verdict_of (paired w s o t) w size ecn u → freed_refused s sizes v ≡ false →
         arrival (paired w s o t) w handles sizes clock size ecn u
         ≡ record {
@@ -212,11 +201,6 @@ GivesArrival w s o t handles sizes clock size ecn u handle code sh sh' ow ow' ha
     × (ow' ≡ own_after w a ow)
     × (handles' ≡ arrived_handles (paired w s o t) a.answer handles handle)
     × (sizes' ≡ arrived_sizes (paired w s o t) w a.answer sizes size)
-
-pub arrival-refused-gives : (w : Which) (s : Shared) (o t : State) (handles sizes : List ℕ) (clock size : ℕ) (ecn : Bool) (u : ℕ)
-    (number handle : ℕ) (sh ow : List ℕ) → arrival (paired w s o t) w handles sizes clock size ecn u ≡ refused_by number (paired w s o t) →
-    GivesArrival w s o t handles sizes clock size ecn u handle (100 + number) sh sh ow ow handles sizes
-arrival-refused-gives w s o t handles sizes clock size ecn u number handle sh ow e = rw e (refl, refl, refl, refl, refl)
 
 module _ (s : Shared) (o t : State) (handles sizes : List ℕ) (clock size : ℕ) (ecn : Bool) (u : ℕ) (v : Verdict) where
   abbrev pub Made : Which → Type 0

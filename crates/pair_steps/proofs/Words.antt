@@ -9,10 +9,11 @@ use lib.ListN.{get_or, length, set}
 use lib.Seq.{get_or-set_other}
 use borrow.Author.Tests.{lt-leb, ltb-true, not-true}
 use Rattle.laws.proofs.Tests.{and_left, and_right}
-use Rattle.pie.specs.Backlog.{entered}
+use Rattle.pie.specs.Constants.{threshold}
+use Rattle.pie.specs.DepartureRate.{rate_after, running}
 use Rattle.pie.specs.Update.{updated}
 use Rattle.pie.specs.Verdicts.{admitted, place_of, raised}
-use Rattle.pie.specs.declared.Backlog.{Backlog}
+use Rattle.pie.specs.declared.Rate.{Rate}
 use Rattle.pie.specs.declared.Verdict.{Verdict}
 use Rattle.pie.specs.declared.Verdict.TheVariants.{Enqueued, Marked, DroppedBytes, DroppedSlots, DroppedEarly}
 use Rattle.store.specs.Following.{followed, link_refused}
@@ -27,8 +28,8 @@ use Rattle.pie_words.specs.Flags.{is_set}
 use Rattle.pair_words.specs.Words.{shared_of, shared_words, state_of, state_words, store_of}
 use Rattle.pie_words.proofs.Flags.{flag-kept}
 use Rattle.laws.proofs.Written.{listed, written_out}
-use Rattle.pie_words.specs.Words.{backlog_at, pie_at, rate_at, rate_words, updated_words}
-use Rattle.pair_steps.specs.Written.{departed_words, entered_words, left_words, settled_words}
+use Rattle.pie_words.specs.Words.{pie_at, rate_at, rate_words, updated_words}
+use Rattle.pair_steps.specs.Written.{entered_words, settled_words}
 
 -- what holds of any twenty-one words written out holds of twenty-one words
 pub for-words : (P : List ℕ → Type 0) → ((f : ℕ → ℕ) → P (listed 21 f)) → (w : List ℕ) → length w ≡ 21 → P w
@@ -39,31 +40,36 @@ for-shared P h w e = subst⁻¹ P (written_out 6 w e) (h (λ i. get_or w i 0))
 
 -- ── a departure ──
 
+-- clock, count, bytes and head
+abbrev pub left_words : List ℕ → (clock size head : ℕ) → List ℕ
+left_words w clock size head = set (set (set (set w 2 clock) 12 (get_or w 12 0 - 1)) 13 (get_or w 13 0 - size)) 14 head
+
+abbrev departure_written : List ℕ → (sizes : List ℕ) (clock size : ℕ) → List ℕ
+departure_written w sizes clock size =
+    let left = left_words w clock size (followed sizes (get_or w 14 0) (get_or w 12 0)) in
+    rate_words left 4 (rate_after (rate_at left 4) clock size (get_or w 12 0 - 1) (get_or w 13 0 - size))
+
 pub departed-words : (sizes : List ℕ) (clock size : ℕ) (w : List ℕ) → length w ≡ 21 →
-    departed_words w clock (backlog_at w 4) size (followed sizes (get_or w 14 0) (get_or w 12 0))
-    ≡ state_words w (departed_state (state_of w) sizes clock size)
+    departure_written w sizes clock size ≡ state_words w (departed_state (state_of w) sizes clock size)
 unfolding state_of state_words rate_words departed_state
 departed-words sizes clock size =
-    for-words
-    (λ w. departed_words w clock (backlog_at w 4) size (followed sizes (get_or w 14 0) (get_or w 12 0))
-    ≡ state_words w (departed_state (state_of w) sizes clock size))
-    (λ f. refl)
+    for-words (λ w. departure_written w sizes clock size ≡ state_words w (departed_state (state_of w) sizes clock size)) (λ f. refl)
 
-pub left-rate : (clock : ℕ) (rest : Backlog) (head : ℕ) (w : List ℕ) → length w ≡ 21 → rate_at (left_words w clock rest head) 4 ≡ rate_at w 4
-left-rate clock rest head = for-words (λ w. rate_at (left_words w clock rest head) 4 ≡ rate_at w 4) (λ f. refl)
+pub left-rate : (clock size head : ℕ) (w : List ℕ) → length w ≡ 21 → rate_at (left_words w clock size head) 4 ≡ rate_at w 4
+left-rate clock size head = for-words (λ w. rate_at (left_words w clock size head) 4 ≡ rate_at w 4) (λ f. refl)
 
-pub left-long : (clock : ℕ) (rest : Backlog) (head : ℕ) (w : List ℕ) → length w ≡ 21 → length (left_words w clock rest head) ≡ 21
-left-long clock rest head = for-words (λ w. length (left_words w clock rest head) ≡ 21) (λ f. refl)
+pub left-long : (clock size head : ℕ) (w : List ℕ) → length w ≡ 21 → length (left_words w clock size head) ≡ 21
+left-long clock size head = for-words (λ w. length (left_words w clock size head) ≡ 21) (λ f. refl)
 
 -- the store's words: freed, spare
 abbrev pub taken_words : List ℕ → (head : ℕ) → List ℕ
 taken_words w head = let next = set w 4 head in set next 5 (get_or next 5 0 + 1)
 
 pub taken-words : (head : ℕ) (w : List ℕ) → length w ≡ 6 →
-    taken_words w head ≡ shared_words (storing (shared_of w) (store_after_take (store_of w) head))
+    taken_words w head ≡ shared_words (storing (shared_of w) (store_after_take (shared_of w).store head))
 unfolding shared_of shared_words
 taken-words head =
-    for-shared (λ w. taken_words w head ≡ shared_words (storing (shared_of w) (store_after_take (store_of w) head))) (λ f. refl)
+    for-shared (λ w. taken_words w head ≡ shared_words (storing (shared_of w) (store_after_take (shared_of w).store head))) (λ f. refl)
 
 -- ── an arrival ──
 
@@ -89,17 +95,21 @@ pub same_head : (w : List ℕ) → length w ≡ 21 → w ≡ set w 14 (get_or w 
 same_head = for-words (λ w. w ≡ set w 14 (get_or w 14 0)) (λ f. refl)
 
 -- the other words of a packet that enters, after the head: count, bytes and tail
-abbrev pub queued_words : (words : List ℕ) → Backlog → (place : ℕ) → List ℕ
-queued_words w grown place = set (set (set w 12 grown.count) 13 grown.bytes.0) 15 place
+abbrev pub queued_words : (words : List ℕ) (count size place : ℕ) → List ℕ
+queued_words w count size place = let counted = set w 12 (count + 1) in set (set counted 13 (get_or counted 13 0 + size)) 15 place
 
 pub queued-words : (size place : ℕ) (w : List ℕ) → length w ≡ 21 →
-    queued_words (set w 14 (cond (eqb (get_or w 12 0) 0) place (get_or w 14 0))) (entered (backlog_at w 4) size) place ≡ entered_words w size place
+    queued_words (set w 14 (cond (eqb (get_or w 12 0) 0) place (get_or w 14 0))) (get_or w 12 0) size place ≡ entered_words w size place
 unfolding ends_after_put
 queued-words size place =
     for-words
-    (λ w. queued_words (set w 14 (cond (eqb (get_or w 12 0) 0) place (get_or w 14 0))) (entered (backlog_at w 4) size) place
-    ≡ entered_words w size place)
+    (λ w. queued_words (set w 14 (cond (eqb (get_or w 12 0) 0) place (get_or w 14 0))) (get_or w 12 0) size place ≡ entered_words w size place)
     (λ f. refl)
+
+-- the bytes stand beside head and count
+pub past-count : (w : List ℕ) (head count : ℕ) → get_or (set (set w 14 head) 12 count) 13 0 ≡ get_or w 13 0
+past-count w head count =
+    get_or-set_other (set w 14 head) 12 13 count 0 (λ x. omega arith) ∙ get_or-set_other w 14 13 head 0 (λ x. omega arith)
 
 abbrev pub settled : (w base : List ℕ) (clock : ℕ) → Verdict → List ℕ
 settled w base clock v = settled_words w clock (arrived_pie (state_of base) v).accumulated.0 v

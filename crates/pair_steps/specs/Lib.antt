@@ -1,3 +1,2 @@
--- Calls on two queues over words: what their inner functions write, and an arrival at a queue whose counts are full.
+-- Calls on two queues over words: what their inner functions write.
 pub mod Written
-pub mod Full

@@ -11,7 +11,7 @@ ghost use Rattle.pair_words.specs.Words.{pair_of, shared_of, state_of, which_of}
 use pair_words::{ACCUMULATED, BUFFER, BYTES, COUNT, INTERCOM, PASSENGERS, PIE, SLOTS, TARGET};
 use pie::{Decided, Verdict};
 use pie_words::{pie_at, spares};
-use units::{Bytes, Micros, Prob};
+use units::{Micros, Prob};
 
 // Rule 2, by the counts of the called queue (0, the intercom; 1, the passengers) and of the other one.
 fn slots_full(shared: &[u64; 6], queue: usize, own: u64, other: u64) -> bool
@@ -52,19 +52,19 @@ pub(crate) fn decided(
     own: &[u64; 21],
     other: &[u64; 21],
     queue: usize,
-    size: Bytes,
+    size: u64,
     ecn: bool,
     u: u32,
 ) -> Decided
     requires queue_bound { (queue < 2) × (length own.now ≡ 21) }
     requires other_value { well_formed (pair_of (eqb queue 1) shared.now own.now other.now) ≡ true }
-    requires size_le_largest { size.0 ≤ largest }
+    requires size_le_largest { size ≤ largest }
     ensures verdict_value { result.verdict ≡ verdict_of (pair_of (eqb queue 1) shared.now own.now other.now)
-        (which_of (eqb queue 1)) size.0 ecn u }
+        (which_of (eqb queue 1)) size ecn u }
     ensures accumulated_value { result.accumulated ≡ (arrived_pie (state_of own.now) result.verdict).accumulated }
 {
     let bytes = own[BYTES];
-    let bytes_full = own[BUFFER] < bytes + size.0;
+    let bytes_full = own[BUFFER] < bytes + size;
     if bytes_full {
         return undrawn(own, Verdict::DroppedBytes);
     }

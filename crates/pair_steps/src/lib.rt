@@ -2,14 +2,10 @@
 // Each reads a word where it needs it and writes those that it changes.
 #![tactic(auto)]
 mod arriving;
-mod counting;
 mod deciding;
 mod departing;
-mod entering;
-mod settling;
 mod ticking;
 
 pub use arriving::arrive;
-pub use counting::full_refusal;
 pub use departing::depart;
 pub use ticking::tick;

@@ -1,3 +1,2 @@
 -- What the proofs of the calls on words share.
 pub mod Counts
-pub mod Lent

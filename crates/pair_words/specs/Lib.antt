@@ -1,8 +1,3 @@
--- The records of two queues as words, and what a call leaves of them.
---
---   Words  the records as words
---   After  the words after a call
---   Lent   two queues as a C caller lends them, and what a call leaves
+-- The records of two queues as words, and the words after a call.
 pub mod Words
 pub mod After
-pub mod Lent

@@ -5,8 +5,9 @@ mod records;
 mod testing;
 
 pub use layout::{
-    ACCUMULATED, BUFFER, BYTES, CLOCK, COUNT, FREED, HEAD, INTERCOM, LAST, PASSENGERS, PIE, SLOTS,
-    SPARE, TAIL, TARGET, USED, VERDICTS,
+    ACCUMULATED, BUFFER, BYTES, CLOCK, COUNT, DROPPED_BYTES, DROPPED_EARLY, DROPPED_SLOTS,
+    ENQUEUED, FREED, HEAD, INTERCOM, LAST, MARKED, PASSENGERS, PIE, SLOTS, SPARE, TAIL, TARGET,
+    USED, VERDICTS,
 };
-pub use records::{counts_of, encode, encode_shared};
+pub use records::{encode, encode_shared};
 pub use testing::records_fit;

@@ -42,19 +42,6 @@ pub(crate) fn decode_shared(w: [u64; 6]) -> Shared
     }
 }
 
-// The five counts of a queue.
-pub fn counts_of(w: &[u64; 21]) -> [u64; 5]
-    ensures { result ≡ (state_of w.now).verdicts }
-{
-    [
-        w[ENQUEUED],
-        w[MARKED],
-        w[DROPPED_BYTES],
-        w[DROPPED_SLOTS],
-        w[DROPPED_EARLY],
-    ]
-}
-
 // The state that the words hold, and that they are twenty-one.
 pub(crate) fn decode(w: [u64; 21]) -> State
     ensures { (result ≡ state_of w) × (length w ≡ 21) }
@@ -72,7 +59,13 @@ pub(crate) fn decode(w: [u64; 21]) -> State
         head: w[HEAD],
         tail: w[TAIL],
     };
-    let verdicts = counts_of(&w);
+    let verdicts = [
+        w[ENQUEUED],
+        w[MARKED],
+        w[DROPPED_BYTES],
+        w[DROPPED_SLOTS],
+        w[DROPPED_EARLY],
+    ];
     State {
         settings,
         clock: Micros(w[CLOCK]),

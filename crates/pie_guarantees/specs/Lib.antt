@@ -2,8 +2,6 @@
 -- and its calls are given. Each claim stands in a file of its own; proofs/ proves it.
 --
 --   Shedding              a kind of queue that sheds load by PIE: what is read of it, and what each of its calls does
---   WhichVerdict          what rules 1 to 7 ask for each verdict, in plain numbers
---   IdleStep              Q-9: with both delays 0 the step is never positive, and rule 6's upper limit never acts
 --   AllowanceLasts        an allowance lasts its tick periods, rounded up, from the last tick on, whatever ticks are tried
 --   Grace                 so a full one lasts 150 ms after a tick that fills it
 --   Fading                ticks on an empty queue bring the probability to 0
@@ -17,8 +15,6 @@
 --   MeasuredWhileQueued   wherever a measurement runs, a packet is queued
 --   NeverGivenUp          a measurement that starts ends before the queue empties, or as it does
 pub mod Shedding
-pub mod WhichVerdict
-pub mod IdleStep
 pub mod AllowanceLasts
 pub mod Grace
 pub mod Fading

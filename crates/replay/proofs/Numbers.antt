@@ -6,7 +6,7 @@ use Prim.Native.Nat.{ℕ, zero, suc, ◌+◌, ◌<◌, ◌≤◌}
 use native.Mathlib.Omega.{arith}
 use lib.ListN.{length}
 use Rattle.refusals.specs.Answer.{Answer}
-use Rattle.refusals.specs.Tests.{tables_refused}
+use Rattle.ring.specs.Refusals.{tables_refused}
 use Rattle.log_codec.specs.declared.Record.{Record}
 use Rattle.ring.specs.Calls.{Queue, after, answer_of}
 use Rattle.log.specs.Answers.{given, refused as log_refused}
@@ -39,7 +39,7 @@ from-numbered number q (r ∷ rest) =
     (from-numbered (number + 1) next rest)
 
 contents-numbered : (c : Contents) (handles sizes : List ℕ) → Numbered (replay_contents c handles sizes)
-contents-numbered c handles sizes = go (tables_refused (fresh_queue c.header handles sizes).state.settings.slots (length handles) (length sizes))
+contents-numbered c handles sizes = go (tables_refused (fresh_queue c.header handles sizes).state (length handles) (length sizes))
   where
     go : (b : Bool) → Numbered (cond b (refused 3) (replay_from 0 (fresh_queue c.header handles sizes) c.records))
     go true = omega arith

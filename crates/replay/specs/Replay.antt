@@ -1,8 +1,8 @@
 -- A log run by the rules (Q-10): from its settings, over its records.
 use Rattle.std.specs.Prelude.{cond, List, [], ◌∷◌, ℕ, zero, suc, ◌+◌, length}
 use Rattle.refusals.specs.Answer.{Answer}
-use Rattle.refusals.specs.Tests.{tables_refused}
 use Rattle.ring.specs.Fresh.{fresh_state, settings_of}
+use Rattle.ring.specs.Refusals.{tables_refused}
 use Rattle.ring.specs.declared.State.{State}
 use Rattle.log_codec.specs.declared.Header.{Header}
 use Rattle.log_codec.specs.declared.Record.{Record}
@@ -45,7 +45,7 @@ fresh_queue h handles sizes = queue_of (fresh_state (settings_of h.target h.buff
 abbrev pub replay_contents : Contents → (handles sizes : List ℕ) → Replay
 replay_contents c handles sizes =
     let q = fresh_queue c.header handles sizes in
-    cond (tables_refused q.state.settings.slots (length handles) (length sizes)) (refused 3)
+    cond (tables_refused q.state (length handles) (length sizes)) (refused 3)
     (replay_from 0 q c.records)
 
 -- 11, 12 or 13 where the log, read whole, is refused

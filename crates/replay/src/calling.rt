@@ -7,7 +7,6 @@ ghost use Rattle.replay.specs.Agreement.{refusal_in, request_of, verdict_in};
 use crate::Called;
 use log_codec::Record;
 use ring_steps::{arrive, depart, tick};
-use units::Micros;
 
 // What the code of an answer says: 100 and the number of a refusal, or else the verdict.
 fn by_code(code: u64, verdict: u64) -> Called
@@ -35,17 +34,25 @@ pub(crate) fn call(w: &mut [u64; 23], r: Record, handles: &mut [u32], sizes: &mu
         × (result.verdict ≡ verdict_in a.answer)
         × (lent w.new handles.new sizes.new ≡ leaves q (request_of r)) }
 {
-    let clock = Micros(r.clock);
     let arrives = r.kind == 97;
     if arrives {
-        let code = arrive(w, handles, sizes, clock, r.handle, r.size, r.ecn == 1, r.u);
+        let code = arrive(
+            w,
+            handles,
+            sizes,
+            r.clock,
+            r.handle,
+            r.size,
+            r.ecn == 1,
+            r.u,
+        );
         return by_code(code, code);
     }
     let departs = r.kind == 100;
     if departs {
-        let word = depart(w, handles, sizes, clock);
+        let word = depart(w, handles, sizes, r.clock);
         return by_code(word % 65_536, word / 4_294_967_296);
     }
-    let code = tick(w, clock);
+    let code = tick(w, r.clock);
     by_code(code, 0)
 }

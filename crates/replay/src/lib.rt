@@ -5,8 +5,6 @@ ghost use Rattle.replay.specs.Replay.{replay};
 ghost use Rattle.replay.specs.Replied.{handles_after, sizes_after};
 ghost use Rattle.replay.specs.Found.{code_of, words_of};
 
-use refusals::REFUSED;
-
 mod calling;
 mod comparing;
 mod replaying;
@@ -60,7 +58,7 @@ pub extern "C" fn obikuteru_replay(
         r.bytes,
     ];
     if 0 < r.refused {
-        return REFUSED + r.refused;
+        return 100 + r.refused;
     }
     r.field
 }

@@ -9,8 +9,8 @@ use lib.Dec.{eqb}
 use lib.ListN.{length}
 use Rattle.laws.proofs.Tests.{and_left, and_right}
 use Rattle.refusals.specs.Answer.{Answer, refused}
-use Rattle.refusals.specs.Tests.{tables_refused}
 use Rattle.ring.specs.Departure.{head_of}
+use Rattle.ring.specs.Refusals.{tables_refused}
 use Rattle.ring.specs.State.{well_formed}
 use Rattle.ring.specs.declared.Settings.{Settings}
 use Rattle.ring.specs.declared.State.{State}
@@ -113,7 +113,7 @@ alike (r ∷ rest) k q q' b =
 
 module _ (h z h' z' : List ℕ) (eh : length h' ≡ length h) (ez : length z' ≡ length z) where
   contents-alike : (c : Contents) → replayed_of (replay_contents c h z) ≡ replayed_of (replay_contents c h' z')
-  contents-alike c = rw (eh, ez) (go (tables_refused q.state.settings.slots (length h) (length z)) refl)
+  contents-alike c = rw (eh, ez) (go (tables_refused q.state (length h) (length z)) refl)
     where
       q : Queue
       q = fresh_queue c.header h z
@@ -121,7 +121,7 @@ module _ (h z h' z' : List ℕ) (eh : length h' ≡ length h) (ez : length z' �
       q' : Queue
       q' = fresh_queue c.header h' z'
 
-      go : (b : Bool) → tables_refused q.state.settings.slots (length h) (length z) ≡ b →
+      go : (b : Bool) → tables_refused q.state (length h) (length z) ≡ b →
           replayed_of (cond b (misread 3) (replay_from 0 q c.records)) ≡ replayed_of (cond b (misread 3) (replay_from 0 q' c.records))
       go true e = refl
       go false e =

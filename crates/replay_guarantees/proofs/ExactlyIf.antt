@@ -1,11 +1,10 @@
 -- What the replay of a list of records says of each of them.
 use mathlib.Core.Path.{◌≡◌, refl, ap, subst, ◌∙◌}
 use mathlib.Core.Bool.{Bool, true, false, cond, not}
-use mathlib.Core.Logic.{◌≢◌}
-use mathlib.Core.List.{List, [], ◌∷◌, ◌++◌}
+use mathlib.Core.List.{List, [], ◌∷◌}
 use Prim.Native.Nat.{ℕ, zero, suc, ◌+◌}
 use native.Mathlib.Omega.{arith}
-use borrow.Author.Tests.{eq-eqb, eqb-false, eqb-true, ne_eqb}
+use borrow.Author.Tests.{eq-eqb, eqb-false, eqb-true}
 use lib.Dec.{eqb}
 use lib.ListN.{length}
 use Rattle.refusals.specs.Answer.{Answer}
@@ -13,9 +12,9 @@ use Rattle.ring.specs.declared.State.{State}
 use Rattle.log_codec.specs.declared.Record.{Record}
 use Rattle.ring.specs.Calls.{Queue, answer_of}
 use Rattle.replay.specs.Agreement.{disagreement, refusal_in, request_of, verdict_in}
-use Rattle.replay.specs.Replay.{Replay, accepted, disagrees, refused as misread, replay_from, unless_disagrees}
+use Rattle.replay.specs.Replay.{Replay, accepted, disagrees, replay_from, unless_disagrees}
 use Rattle.replay.specs.Replied.{bytes_in, prob_in}
-use Rattle.replay_guarantees.specs.ExactlyIf.{AllAgree, ExactlyIf, Field, FirstWrong, Grounds, after_all, after_record}
+use Rattle.replay_guarantees.specs.ExactlyIf.{AllAgree, ExactlyIf, Field, FirstWrong, after_all, after_record}
 use Rattle.replay_guarantees.specs.ExactlyIf.{bytes, none, probability, refused, verdict}
 
 -- ── one record ──
@@ -40,17 +39,15 @@ module _ (r : Record) (a : Answer) (s : State) where
   field_of =
       by_tests (eqb (refusal_in a) 0) (eqb r.verdict (verdict_in a)) (eqb r.prob (prob_in s)) (eqb r.bytes (bytes_in s)) refl refl refl refl
 
-  -- the field that disagrees is the one that is named
-  named : (n : ℕ) → Field r a s n → disagreement r a s ≡ n
+  -- where each agrees, none is named
+  unnamed : (n : ℕ) → n ≡ 0 → Field r a s n → disagreement r a s ≡ 0
   unfolding disagreement
-  named n (none e f g h) =
+  unnamed n z (none e f g h) =
       rw (eq-eqb (refusal_in a) 0 e, eq-eqb r.verdict (verdict_in a) f, eq-eqb r.prob (prob_in s) g, eq-eqb r.bytes (bytes_in s) h)
-  named n (refused e) = rw (ne_eqb (refusal_in a) 0 e)
-  named n (verdict e f) = rw (eq-eqb (refusal_in a) 0 e, ne_eqb r.verdict (verdict_in a) f)
-  named n (probability e f g) =
-      rw (eq-eqb (refusal_in a) 0 e, eq-eqb r.verdict (verdict_in a) f, ne_eqb r.prob (prob_in s) g)
-  named n (bytes e f g h) =
-      rw (eq-eqb (refusal_in a) 0 e, eq-eqb r.verdict (verdict_in a) f, eq-eqb r.prob (prob_in s) g, ne_eqb r.bytes (bytes_in s) h)
+  unnamed n z (refused e) = absurd (omega (arith, z))
+  unnamed n z (verdict e f) = absurd (omega (arith, z))
+  unnamed n z (probability e f g) = absurd (omega (arith, z))
+  unnamed n z (bytes e f g h) = absurd (omega (arith, z))
 
 -- ── all records ──
 
@@ -125,54 +122,30 @@ accepts-from [] number q all = let e : number ≡ number + 0 = omega arith in ap
 accepts-from (r ∷ rest) number q all =
     let next = after_record q r in
     let e : number + 1 + length rest ≡ number + length (r ∷ rest) = omega arith in
-    rw (named r (answer_of q (request_of r)) next.state 0 all.0)
+    rw (unnamed r (answer_of q (request_of r)) next.state 0 refl all.0)
     (accepts-from rest (number + 1) next all.1 ∙ ap (λ (m : ℕ). accepted m (after_all next rest)) e)
 
--- the rules' answer at the record after `before`, and the queue that they leave
-module _ (q : Queue) (before : List Record) (it : Record) where
-  abbrev ruling : Answer
-  ruling = answer_of (after_all q before) (request_of it)
+only-from : (number : ℕ) (q : Queue) (records : List Record) (R : Replay) → Ends number q records R → (n : ℕ) (left : Queue) →
+    R ≡ accepted n left → AllAgree q records
+only-from number q records R (agree all) n left e = all
+only-from number q records R (stop m field a p w) n left e = let z : ◌≡◌ {A = ℕ} 0 1 = cc in absurd (omega arith)
 
-  abbrev leaving : Queue
-  leaving = after_record (after_all q before) it
-
-names-from : (before : List Record) (number : ℕ) (q : Queue) (it : Record) (rest : List Record) (k : ℕ) → AllAgree q before →
-    Field it (ruling q before it) (leaving q before it).state (suc k) →
-    replay_from number q (before ++ it ∷ rest) ≡ disagrees (number + length before) (suc k) (ruling q before it) (leaving q before it)
-unfolding replay_from
-names-from [] number q it rest k all f =
-    let e : number ≡ number + 0 = omega arith in
-    rw (named it (ruling q [] it) (leaving q [] it).state (suc k) f) (ap (λ (m : ℕ). disagrees m (suc k) (ruling q [] it) (leaving q [] it)) e)
-names-from (r ∷ before) number q it rest k all f =
-    let next = after_record q r in
-    let e : number + 1 + length before ≡ number + length (r ∷ before) = omega arith in
-    rw (named r (answer_of q (request_of r)) next.state 0 all.0)
-    (names-from before (number + 1) next it rest k all.1 f
-    ∙ ap (λ (m : ℕ). disagrees m (suc k) (ruling next before it) (leaving next before it)) e)
-
-some-field : (q : Queue) (before : List Record) (it : Record) (rest : List Record) (field : ℕ) → field ≢ 0 → AllAgree q before →
-    Field it (ruling q before it) (leaving q before it).state field →
-    replay_from 0 q (before ++ it ∷ rest) ≡ disagrees (length before) field (ruling q before it) (leaving q before it)
-some-field q before it rest zero wrong all f = absurd (wrong refl)
-some-field q before it rest (suc k) wrong all f =
-    let z : 0 + length before ≡ length before = omega arith in
-    names-from before 0 q it rest k all f ∙ ap (λ (m : ℕ). disagrees m (suc k) (ruling q before it) (leaving q before it)) z
-
-answered : (q : Queue) (records : List Record) (R : Replay) → Grounds q records R → replay_from 0 q records ≡ R
-answered q records (misread number) g = absurd g
-answered q records (accepted n left) (all, counted, leaves) =
-    let z : 0 + length records ≡ length records = omega arith in
-    rw (counted, leaves) (accepts-from records 0 q all ∙ ap (λ (m : ℕ). accepted m (after_all q records)) z)
-answered q records (disagrees number field x left) w =
-    let is : Field w.it (ruling q w.before w.it) (leaving q w.before w.it).state field =
-    rw (w.ruled, w.leaves) at w.field_is in
-    rw (w.split, w.counted, w.ruled, w.leaves) (some-field q w.before w.it w.rest field w.wrong w.agree is)
-
-grounded : (q : Queue) (records : List Record) (R : Replay) → Ends 0 q records R → Grounds q records R
-grounded q records R (agree all) = (all, omega arith, refl)
-grounded q records R (stop n field a left w) =
-    let z : n ≡ 0 + n = omega arith in subst (λ (m : ℕ). FirstWrong q records m field a left) z w
+first-from : (q : Queue) (records : List Record) (R : Replay) → Ends 0 q records R → (n field : ℕ) (a : Answer) (left : Queue) →
+    R ≡ disagrees n field a left → FirstWrong q records n field a left
+first-from q records R (agree all) n field a left e = let z : ◌≡◌ {A = ℕ} 0 1 = cc in absurd (omega arith)
+first-from q records R (stop m f x p w) n field a left e =
+    let en : 0 + m ≡ n = cc in
+    let m≡n : m ≡ n = omega arith in
+    let ef : f ≡ field = cc in
+    let ea : x ≡ a = cc in
+    let el : p ≡ left = cc in
+    rw (← m≡n, ← ef, ← ea, ← el) w
 
 pub exactly-if : ExactlyIf
-exactly-if q records R =
-    (λ e. subst (Grounds q records) e (grounded q records (replay_from 0 q records) (ends records 0 q)), answered q records R)
+exactly-if q records =
+    let z : 0 + length records ≡ length records = omega arith in
+    record {
+      accepts = λ all. accepts-from records 0 q all ∙ ap (λ (m : ℕ). accepted m (after_all q records)) z;
+      only_then = only-from 0 q records (replay_from 0 q records) (ends records 0 q);
+      first = first-from q records (replay_from 0 q records) (ends records 0 q);
+    }

@@ -4,9 +4,6 @@ pub mod Agrees
 pub mod Fine
 pub mod Written
 pub mod ExactlyIf
-pub mod AnyLog
-pub mod LowestFirst
 pub mod AnyTables
 pub mod WhichRefusals
 pub mod AlwaysAccepted
-pub mod AnyRoom

@@ -14,13 +14,14 @@ use Rattle.laws.specs.Tests.{all}
 use Rattle.pie.specs.Constants.{largest, most_verdicts}
 use Rattle.pie.specs.Verdicts.{total}
 use Rattle.pie.proofs.Counts.{total-raised}
-use Rattle.refusals.specs.Tests.{size_refused, tables_refused}
+use Rattle.refusals.specs.Tests.{size_refused}
 use Rattle.ring.specs.Activity.{begun}
 use Rattle.ring.specs.Answer.{Reply}
 use Rattle.refusals.specs.Answer.{refused}
 use Rattle.ring.specs.Arrival.{arrived_state, verdict_of}
 use Rattle.ring.specs.Departure.{departed_state}
 use Rattle.ring.specs.Fresh.{settings_of}
+use Rattle.ring.specs.Refusals.{tables_refused}
 use Rattle.ring.specs.State.{well_formed}
 use Rattle.ring.specs.Tick.{ticked_state}
 use Rattle.ring.specs.declared.State.{State}
@@ -77,7 +78,7 @@ record Kept (q : Queue) (n : ℕ) : Type 0 where
   sizes : length q.sizes ≡ q.state.settings.slots
   few : total q.state.verdicts ≤ n
 
-fits : (q : Queue) (n : ℕ) → Kept q n → tables_refused q.state.settings.slots (length q.handles) (length q.sizes) ≡ false
+fits : (q : Queue) (n : ℕ) → Kept q n → tables_refused q.state (length q.handles) (length q.sizes) ≡ false
 fits q n k =
     let slots = q.state.settings.slots in
     rw (eq-eqb (length q.handles) slots k.handles, eq-eqb (length q.sizes) slots k.sizes)
@@ -229,14 +230,14 @@ module _ (c : Contents) (ok : Accepted c) (handles sizes : List ℕ) where
       call-within q r n sound.formed enough (none-faulty before r rest (rw split at ok.fine))
       (λ clock. ring-keeps.not-9 q (ask_departure clock) sound holds) e
 
-  replay-within : (number field n : ℕ) (left : Queue) (t : Bool) → tables_refused start.state.settings.slots (length handles) (length sizes) ≡ t →
+  replay-within : (number field n : ℕ) (left : Queue) (t : Bool) → tables_refused start.state (length handles) (length sizes) ≡ t →
       cond t (misread 3) (replay_from 0 start c.records) ≡ disagrees number field (refused n) left → Within n
   replay-within number field n left true e f = let z : ◌≡◌ {A = ℕ} 0 1 = cc in let w : ⊥ = omega arith in absurd w
   replay-within number field n left false e f =
       let fit = not-false _ e in
       let a = eqb-true (length handles) h.slots (and_left _ _ fit) in
       let b = eqb-true (length sizes) h.slots (and_right (eqb (length handles) h.slots) _ fit) in
-      let w = (exactly-if start c.records (disagrees number field (refused n) left)).0 f in
+      let w = (exactly-if start c.records).first number field (refused n) left f in
       run-within w.before w.it w.rest n w.split (record { handles = a; sizes = b; few = omega arith }) (sym w.ruled)
 
 pub which-refusals : WhichRefusals

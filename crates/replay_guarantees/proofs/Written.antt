@@ -24,10 +24,10 @@ use Rattle.log_guarantees.proofs.Kept.{Kept, at-start, one-call}
 
 module _ (h : Header) (note bytes : List ℕ) where
   -- room for so many records more
-  abbrev pub Room : Run → (more : ℕ) → Type 0
+  abbrev Room : Run → (more : ℕ) → Type 0
   Room q more = (length q.accepted + more ≤ 100000) × (48 + length note + 40 * (length q.accepted + more) ≤ length bytes)
 
-  pub writes : (q : Run) (r : Record) (more : ℕ) → Kept h note bytes q → faulty r ≡ false → Room q (1 + more) →
+  writes : (q : Run) (r : Record) (more : ℕ) → Kept h note bytes q → faulty r ≡ false → Room q (1 + more) →
       (after q r).accepted ≡ q.accepted ++ r ∷ []
   writes q r more k fine room =
       let w = q.writer in

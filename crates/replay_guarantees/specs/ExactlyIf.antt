@@ -1,14 +1,14 @@
 -- The replay of a list of records accepts exactly if the rules, run over the recorded calls, give each recorded verdict, probability and
--- bytes. Otherwise it disagrees, at the first record that is not so, in the first field that is not: verdict, probability, bytes; a call
--- that the rules refuse disagrees in its verdict (Q-10).
-use Rattle.std.specs.Prelude.{◌≡◌, ◌≢◌, ◌↔◌, ℕ, length}
+-- bytes. Otherwise it names the first record that disagrees, and the first field that does: verdict, probability, bytes; a call that the
+-- rules refuse disagrees in its verdict (Q-10).
+use Rattle.std.specs.Prelude.{◌≡◌, ◌≢◌, ℕ, length}
 use mathlib.Core.List.{List, [], ◌∷◌, ◌++◌, foldl}
 use Rattle.refusals.specs.Answer.{Answer}
 use Rattle.ring.specs.declared.State.{State}
 use Rattle.log_codec.specs.declared.Record.{Record}
 use Rattle.ring.specs.Calls.{Queue, after, answer_of}
 use Rattle.replay.specs.Agreement.{refusal_in, request_of, verdict_in}
-use Rattle.replay.specs.Replay.{Replay, accepted, disagrees, refused as misread, replay_from}
+use Rattle.replay.specs.Replay.{accepted, disagrees, replay_from}
 use Rattle.replay.specs.Replied.{bytes_in, prob_in}
 
 -- which field of a record disagrees with this answer and the state after the call: 0 none, 1 verdict, 2 probability, 3 bytes
@@ -44,12 +44,11 @@ pub record FirstWrong (q : Queue) (records : List Record) (number field : ℕ) (
   pub ruled : a ≡ answer_of (after_all q before) (request_of it)
   pub leaves : left ≡ after_record (after_all q before) it
 
--- what is so of the records, for each answer; they are refused on no ground
-abbrev pub Grounds : Queue → List Record → Replay → Type 0
-Grounds q records (misread number) = ⊥
-Grounds q records (accepted n left) = AllAgree q records × (n ≡ length records) × (left ≡ after_all q records)
-Grounds q records (disagrees number field a left) = FirstWrong q records number field a left
+pub record Exactly (q : Queue) (records : List Record) : Type 0 where
+  pub accepts : AllAgree q records → replay_from 0 q records ≡ accepted (length records) (after_all q records)
+  pub only_then : (n : ℕ) (left : Queue) → replay_from 0 q records ≡ accepted n left → AllAgree q records
+  pub first : (n field : ℕ) (a : Answer) (left : Queue) → replay_from 0 q records ≡ disagrees n field a left →
+      FirstWrong q records n field a left
 
--- each answer is given exactly on its ground
 abbrev pub ExactlyIf : Type 0
-ExactlyIf = (q : Queue) (records : List Record) (answer : Replay) → (replay_from 0 q records ≡ answer) ↔ Grounds q records answer
+ExactlyIf = (q : Queue) (records : List Record) → Exactly q records

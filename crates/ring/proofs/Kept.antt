@@ -6,21 +6,24 @@ use native.Mathlib.Nat.{mod-lt}
 use native.Mathlib.Omega.{arith}
 use lib.Dec.{eqb, leb, ltb}
 use lib.ListN.{get_or}
-use borrow.Author.Tests.{leb-true, ne_eqb, not-false}
+use borrow.Author.Tests.{eqb-true, leb-false, leb-true, ne_eqb, not-false}
 use Rattle.laws.proofs.Choice.{at-cond, either}
 use Rattle.laws.proofs.Tests.{and_left, and_right}
+use Rattle.units.specs.Kinds.{whole}
 use Rattle.units.specs.declared.Prob.{Prob}
-use Rattle.pie.specs.Constants.{largest, latest, most_accumulated, most_verdicts}
-use Rattle.pie.specs.DropDecision.{accumulated_after}
+use Rattle.pie.specs.Constants.{full_allowance, largest, latest, longest, most_accumulated, most_verdicts, threshold}
+use Rattle.pie.specs.DepartureRate.{counting, rate_after, resting, running, sample_of, starting}
+use Rattle.pie.specs.DropDecision.{accumulated_after, drop_decision}
 use Rattle.pie.specs.Start.{restarted}
 use Rattle.pie.specs.Update.{delay_of, next_prob, refills, updated}
 use Rattle.pie.specs.Verdicts.{admitted, total}
+use Rattle.pie.specs.declared.Backlog.{Backlog}
 use Rattle.pie.specs.declared.Pie.{Pie}
 use Rattle.pie.specs.declared.Rate.{Rate}
 use Rattle.pie.specs.declared.Verdict.{Verdict}
 use Rattle.pie.specs.declared.Verdict.TheVariants.{DroppedBytes, DroppedSlots}
 use Rattle.pie.proofs.Counts.{total-raised}
-use Rattle.pie.proofs.Ranges.{accumulated-lt, delay-le, next-allowance-le, next-prob-le}
+use Rattle.pie.proofs.Ranges.{accumulated-lt, average-le, delay-le, next-allowance-le, next-prob-le, sample-le}
 use Rattle.ring.specs.Activity.{above_third, begun, is_calm, turns_active, turns_inactive}
 use Rattle.ring.specs.Answer.{Reply}
 use Rattle.refusals.specs.Answer.{made}
@@ -35,9 +38,80 @@ use Rattle.ring.specs.Tick.{ticked_pie, ticked_state}
 use Rattle.ring.specs.declared.Settings.{Settings}
 use Rattle.ring.specs.declared.State.{State}
 use Rattle.ring.proofs.Admitted.{admitted-room}
+use Rattle.ring.proofs.Facts.{Facts, well-formed}
 use Rattle.ring.proofs.WhenAccepted.{ArrivalAccepted, DepartureAccepted, TickAccepted}
-use Rattle.ring.proofs.Fits.{SettingsFit, PieFits, RateFits, BacklogFits, Busy, InactiveCalm, Fits, fits, fits-well-formed, later-fits, rest-fits}
-use Rattle.ring.proofs.Measuring.{rate-after-busy, rate-after-fits}
+
+-- ── the facts of a state, part by part ──
+
+record SettingsFit (s : Settings) : Type 0 where
+  target-low : 1000 ≤ s.target.0
+  target-high : s.target.0 ≤ 100000
+  buffer-low : 1 ≤ s.buffer.0
+  buffer-high : s.buffer.0 ≤ 16777216
+  slots-low : 1 ≤ s.slots
+  slots-high : s.slots ≤ 65536
+  profile-high : s.profile ≤ 1
+
+record PieFits (pie : Pie) : Type 0 where
+  prob-high : pie.prob.0 ≤ whole
+  old-high : pie.old.0 ≤ longest
+  allowance-high : pie.allowance.0 ≤ full_allowance
+  accumulated-high : pie.accumulated.0 < most_accumulated
+
+record RateFits (clock : ℕ) (r : Rate) : Type 0 where
+  average-high : r.average.0 ≤ longest
+  start-high : r.start.0 ≤ clock
+  counted-high : r.counted.0 < threshold
+  idle-start : r.measuring || eqb r.start.0 0 ≡ true
+  idle-counted : r.measuring || eqb r.counted.0 0 ≡ true
+
+record BacklogFits (s : Settings) (b : Backlog) : Type 0 where
+  count-high : b.count ≤ s.slots
+  bytes_low : b.count ≤ b.bytes.0
+  bytes_high : b.bytes.0 ≤ largest * b.count
+  bytes_fit : b.bytes.0 ≤ s.buffer.0
+
+-- no measurement runs on an empty queue
+abbrev Busy : Rate → Backlog → Type 0
+Busy r b = not (r.measuring && eqb b.count 0) ≡ true
+
+-- an inactive queue is calm and its probability is 0
+abbrev InactiveCalm : (active calm : Bool) → Pie → Type 0
+InactiveCalm active calm pie = active || (calm && eqb pie.prob.0 0) ≡ true
+
+record Fits (s : State) : Type 0 where
+  settings : SettingsFit s.settings
+  last-high : s.last.0 ≤ s.clock.0
+  clock-high : s.clock.0 ≤ latest
+  pie : PieFits s.pie
+  rate : RateFits s.clock.0 s.pie.rate
+  backlog : BacklogFits s.settings s.backlog
+  busy : Busy s.pie.rate s.backlog
+  first-high : s.first < s.settings.slots
+  total-high : total s.verdicts ≤ most_verdicts
+  inactive-calm : InactiveCalm s.active (is_calm s.settings) s.pie
+
+fits : (s : State) → Facts s → Fits s
+fits s f = search
+
+fits-well-formed : (s : State) → Fits s → well_formed s ≡ true
+fits-well-formed s f = well-formed s (search)
+
+-- a clock that is no earlier
+later-fits : (clock later : ℕ) (r : Rate) → clock ≤ later → RateFits clock r → RateFits later r
+later-fits clock later r h f =
+    record {
+      average-high = f.average-high;
+      start-high = omega arith;
+      counted-high = f.counted-high;
+      idle-start = f.idle-start;
+      idle-counted = f.idle-counted;
+    }
+
+-- no measurement runs
+rest-fits : (average clock : ℕ) → average ≤ longest → RateFits clock (resting average)
+rest-fits average clock h =
+    record { average-high = h; start-high = omega arith; counted-high = omega arith; idle-start = refl; idle-counted = refl }
 
 -- ── an arrival ──
 
@@ -130,6 +204,60 @@ arrived-well-formed s handles_length sizes_length clock size ecn u a =
     a.total-low)
 
 -- ── a departure ──
+
+run_fits : (average start counted clock : ℕ) → average ≤ longest → start ≤ clock → counted < threshold → RateFits clock (running average start counted)
+run_fits average start counted clock h k l =
+    record { average-high = h; start-high = k; counted-high = l; idle-start = refl; idle-counted = refl }
+
+counting-fits : (r : Rate) (clock size count_left : ℕ) → RateFits clock r → RateFits clock (counting r clock size count_left)
+counting-fits r clock size count_left f =
+    at-cond (RateFits clock) (leb threshold (r.counted.0 + size))
+    (λ e. rest-fits _ clock (average-le r.average.0 (sample_of clock r.start.0) f.average-high (sample-le clock r.start.0)))
+    (λ e.
+    at-cond (RateFits clock) (eqb count_left 0)
+    (λ none. rest-fits r.average.0 clock f.average-high)
+    (λ some. run_fits r.average.0 r.start.0 _ clock f.average-high f.start-high (leb-false _ _ e)))
+
+starting-fits : (r : Rate) (clock bytes_left : ℕ) → RateFits clock r → RateFits clock (starting r clock bytes_left)
+starting-fits r clock bytes_left f =
+    at-cond (RateFits clock) r.measuring
+    (λ e. f)
+    (λ e. at-cond (RateFits clock) (leb threshold bytes_left) (λ e. run_fits r.average.0 clock 0 clock f.average-high (omega arith) (omega arith)) (λ e. f))
+
+rate-after-fits : (r : Rate) (clock size count_left bytes_left : ℕ) → RateFits clock r →
+    RateFits clock (rate_after r clock size count_left bytes_left)
+unfolding rate_after
+rate-after-fits r clock size count_left bytes_left f =
+    starting-fits (cond r.measuring (counting r clock size count_left) r) clock bytes_left
+    (at-cond (RateFits clock) r.measuring (λ e. counting-fits r clock size count_left f) (λ e. f))
+
+abbrev Rests : Rate → Type 0
+Rests r = r.measuring ≡ false
+
+given-up : (r : Rate) (clock size count_left : ℕ) → eqb count_left 0 ≡ true → Rests (cond r.measuring (counting r clock size count_left) r)
+given-up r clock size count_left none =
+    at-cond Rests r.measuring
+    (λ runs. at-cond Rests (leb threshold (r.counted.0 + size)) (λ ends. refl) (λ goes_on. rw none))
+    (λ rests. rests)
+
+none-starts : (r : Rate) (clock bytes_left : ℕ) → Rests r → bytes_left < threshold → Rests (starting r clock bytes_left)
+none-starts r clock bytes_left rests h =
+    at-cond Rests r.measuring
+    (λ runs. rests)
+    (λ rests. at-cond Rests (leb threshold bytes_left) (λ e. absurd (omega (arith, leb-true threshold bytes_left e))) (λ e. rests))
+
+-- where no packets are left, none runs
+rate-after-busy : (r : Rate) (clock size count_left bytes_left : ℕ) → bytes_left ≤ largest * count_left →
+    not ((rate_after r clock size count_left bytes_left).measuring && eqb count_left 0) ≡ true
+unfolding rate_after
+rate-after-busy r clock size count_left bytes_left h = go (eqb count_left 0) refl
+  where
+    go : (b : Bool) → eqb count_left 0 ≡ b → not ((rate_after r clock size count_left bytes_left).measuring && b) ≡ true
+    go true e =
+        let none : count_left ≡ 0 = eqb-true count_left 0 e in
+        let counted = cond r.measuring (counting r clock size count_left) r in
+        rw (none-starts counted clock bytes_left (given-up r clock size count_left e) (omega arith))
+    go false e = rw and-false
 
 pub departed-well-formed : (s : State) (handles_length sizes_length clock head_size : ℕ) →
     DepartureAccepted s handles_length sizes_length clock head_size → well_formed (departed_state s clock head_size) ≡ true

@@ -4,6 +4,4 @@ pub mod WhenAccepted
 pub mod Replies
 pub mod Admitted
 pub mod Activation
-pub mod Fits
-pub mod Measuring
 pub mod Kept

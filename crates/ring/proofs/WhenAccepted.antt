@@ -13,7 +13,7 @@ use Rattle.ring.specs.Arrival.{arrival_refusal, arrival_refusals}
 use Rattle.ring.specs.Departure.{departure_refusal, departure_refusals}
 use Rattle.refusals.proofs.Fitting.{head-fits, size-in-range}
 use Rattle.refusals.proofs.Ordered.{none-refuses}
-use Rattle.refusals.specs.Tests.{clock_refused, tables_refused}
+use Rattle.ring.specs.Refusals.{clock_refused, tables_refused}
 use Rattle.ring.specs.State.{well_formed}
 use Rattle.ring.specs.Tick.{tick_refusal, tick_refusals}
 use Rattle.ring.specs.declared.State.{State}
@@ -54,14 +54,14 @@ pub record TickAccepted (s : State) (clock : ℕ) : Type 0 where
 -- ── what each test's failing says ──
 
 tables-fit : (s : State) (handles_length sizes_length : ℕ) →
-    tables_refused s.settings.slots handles_length sizes_length ≡ false → (handles_length ≡ s.settings.slots) × (sizes_length ≡ s.settings.slots)
+    tables_refused s handles_length sizes_length ≡ false → (handles_length ≡ s.settings.slots) × (sizes_length ≡ s.settings.slots)
 tables-fit s handles_length sizes_length e =
     let h = eqb handles_length s.settings.slots in
     let z = eqb sizes_length s.settings.slots in
     let both : h && z ≡ true = not-false (h && z) e in
     (eqb-true _ _ (and_left h z both), eqb-true _ _ (and_right h z both))
 
-clock-in-order : (s : State) (clock : ℕ) → clock_refused s.clock.0 clock ≡ false → (s.clock.0 ≤ clock) × (clock ≤ latest)
+clock-in-order : (s : State) (clock : ℕ) → clock_refused s clock ≡ false → (s.clock.0 ≤ clock) × (clock ≤ latest)
 clock-in-order s clock e =
     let n = or-neither (ltb clock s.clock.0) (ltb latest clock) e in
     (ltb-false _ _ n.0, ltb-false _ _ n.1)

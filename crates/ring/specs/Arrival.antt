@@ -8,20 +8,20 @@ use Rattle.pie.specs.declared.Pie.{Pie}
 use Rattle.pie.specs.declared.Verdict.{Verdict}
 use Rattle.pie.specs.declared.Verdict.TheVariants.{DroppedBytes, DroppedSlots, Enqueued}
 use Rattle.refusals.specs.Rows.{first_refusal}
-use Rattle.refusals.specs.Tests.{clock_refused, counts_refused, size_refused, tables_refused}
+use Rattle.refusals.specs.Tests.{size_refused}
 use Rattle.ring.specs.Activity.{begun}
 use Rattle.refusals.specs.Answer.{Answer, admits, verdict}
 use Rattle.ring.specs.Answer.{Reply, unless_refused}
-use Rattle.ring.specs.Refusals.{state_refused}
+use Rattle.ring.specs.Refusals.{clock_refused, counts_refused, state_refused, tables_refused}
 use Rattle.ring.specs.declared.State.{State}
 
 abbrev pub arrival_refusals : State → (handles_length sizes_length clock size : ℕ) → List (ℕ × Bool)
 arrival_refusals s handles_length sizes_length clock size =
     (2, state_refused s)
-    ∷ (3, tables_refused s.settings.slots handles_length sizes_length)
-    ∷ (4, clock_refused s.clock.0 clock)
+    ∷ (3, tables_refused s handles_length sizes_length)
+    ∷ (4, clock_refused s clock)
     ∷ (7, size_refused size)
-    ∷ (8, counts_refused s.verdicts)
+    ∷ (8, counts_refused s)
     ∷ []
 
 unfoldable pub arrival_refusal : State → (handles_length sizes_length clock size : ℕ) → ℕ

@@ -5,10 +5,10 @@ use Rattle.pie.specs.Backlog.{left}
 use Rattle.pie.specs.DepartureRate.{rate_after}
 use Rattle.pie.specs.declared.Pie.{Pie}
 use Rattle.refusals.specs.Rows.{first_refusal}
-use Rattle.refusals.specs.Tests.{clock_refused, empty_refused, head_refused, tables_refused}
+use Rattle.refusals.specs.Tests.{head_refused}
 use Rattle.ring.specs.Answer.{Reply, unless_refused}
 use Rattle.refusals.specs.Answer.{departed}
-use Rattle.ring.specs.Refusals.{state_refused}
+use Rattle.ring.specs.Refusals.{clock_refused, empty_refused, state_refused, tables_refused}
 use Rattle.ring.specs.declared.State.{State}
 
 -- the head's entry in a table
@@ -18,9 +18,9 @@ head_of s table = get_or table s.first 0
 abbrev pub departure_refusals : State → (handles_length sizes_length clock head_size : ℕ) → List (ℕ × Bool)
 departure_refusals s handles_length sizes_length clock head_size =
     (2, state_refused s)
-    ∷ (3, tables_refused s.settings.slots handles_length sizes_length)
-    ∷ (4, clock_refused s.clock.0 clock)
-    ∷ (6, empty_refused s.backlog)
+    ∷ (3, tables_refused s handles_length sizes_length)
+    ∷ (4, clock_refused s clock)
+    ∷ (6, empty_refused s)
     ∷ (9, head_refused s.backlog head_size)
     ∷ []
 

@@ -7,16 +7,14 @@ use Rattle.refusals.specs.Rows.{first_refusal}
 use Rattle.ring.specs.Activity.{is_calm, turns_inactive}
 use Rattle.ring.specs.Answer.{Reply, unless_refused}
 use Rattle.refusals.specs.Answer.{ticked}
-use Rattle.pie.specs.Constants.{period}
-use Rattle.refusals.specs.Tests.{clock_refused, too_soon_refused}
-use Rattle.ring.specs.Refusals.{state_refused}
+use Rattle.ring.specs.Refusals.{clock_refused, too_soon_refused, state_refused}
 use Rattle.ring.specs.declared.State.{State}
 
 abbrev pub tick_refusals : State → (clock : ℕ) → List (ℕ × Bool)
 tick_refusals s clock =
     (2, state_refused s)
-    ∷ (4, clock_refused s.clock.0 clock)
-    ∷ (5, too_soon_refused period s.last.0 clock)
+    ∷ (4, clock_refused s clock)
+    ∷ (5, too_soon_refused s clock)
     ∷ []
 
 unfoldable pub tick_refusal : State → (clock : ℕ) → ℕ

@@ -10,11 +10,9 @@ ghost use Rattle.ring.specs.Answer.{arrival_reply};
 ghost use Rattle.ring.specs.Arrival.{arrival, arrival_refusal, arrived_pie, arrived_state, stored, tail_place, verdict_of};
 
 use crate::{Arrived, State};
-use pie::{Backlog, Decided, Pie, Verdict, raise};
+use pie::{Backlog, Decided, LARGEST, LATEST, Pie, Verdict, raise};
 use places::store;
-use refusals::{
-    Accepted, ArrivalAnswer, Refusal, counts_fit, counts_full, wrong_clock, wrong_size,
-};
+use refusals::{Accepted, ArrivalAnswer, Refusal, counts_fit, counts_full};
 use units::{Bytes, Micros, Prob};
 
 impl State {
@@ -36,12 +34,12 @@ impl State {
         if !fit {
             return Accepted::No(Refusal::Tables);
         }
-        let clock_refused = wrong_clock(self.clock, clock);
-        if clock_refused {
+        let wrong_clock = (clock.0 < self.clock.0) | (LATEST < clock.0);
+        if wrong_clock {
             return Accepted::No(Refusal::Clock);
         }
-        let size_refused = wrong_size(size);
-        if size_refused {
+        let wrong_size = (size.0 == 0) | (LARGEST < size.0);
+        if wrong_size {
             return Accepted::No(Refusal::Size);
         }
         let full = counts_full(counts);

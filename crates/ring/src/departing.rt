@@ -8,9 +8,9 @@ ghost use Rattle.refusals.specs.Answer.{handle_in, size_in};
 ghost use Rattle.ring.specs.Departure.{departed_state, departure, departure_refusal, head_of};
 
 use crate::{Departed, State};
-use pie::Pie;
+use pie::{LATEST, Pie};
 use places::place;
-use refusals::{Accepted, Refusal, counts_fit, wrong_clock, wrong_head};
+use refusals::{Accepted, Refusal, counts_fit, wrong_head};
 use units::{Bytes, Micros};
 
 impl State {
@@ -33,8 +33,8 @@ impl State {
         if !fit {
             return Accepted::No(Refusal::Tables);
         }
-        let clock_refused = wrong_clock(self.clock, clock);
-        if clock_refused {
+        let wrong_clock = (clock.0 < self.clock.0) | (LATEST < clock.0);
+        if wrong_clock {
             return Accepted::No(Refusal::Clock);
         }
         let backlog = self.backlog;

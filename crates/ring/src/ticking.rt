@@ -6,8 +6,8 @@ ghost use Rattle.ring.specs.Answer.{tick_reply};
 ghost use Rattle.ring.specs.Tick.{tick, tick_refusal, ticked_state};
 
 use crate::{Returned, State};
-use pie::PERIOD;
-use refusals::{Accepted, Refusal, counts_fit, too_soon, wrong_clock};
+use pie::{LATEST, PERIOD};
+use refusals::{Accepted, Refusal, counts_fit};
 use units::Micros;
 
 impl State {
@@ -24,12 +24,12 @@ impl State {
         if !formed {
             return Accepted::No(Refusal::Malformed);
         }
-        let clock_refused = wrong_clock(self.clock, clock);
-        if clock_refused {
+        let wrong_clock = (clock.0 < self.clock.0) | (LATEST < clock.0);
+        if wrong_clock {
             return Accepted::No(Refusal::Clock);
         }
-        let soon = too_soon(Micros(PERIOD), self.last, clock);
-        if soon {
+        let too_soon = clock.0 < self.last.0 + PERIOD;
+        if too_soon {
             return Accepted::No(Refusal::TooSoon);
         }
         Accepted::Yes

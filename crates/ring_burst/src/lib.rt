@@ -12,10 +12,7 @@ ghost use Rattle.ring_words.specs.Lent.{lent};
 ghost use Rattle.ring_steps.specs.Fitting.{Ready};
 ghost use Rattle.ring_burst.specs.Burst.{after, answer_to, ring_bursts};
 
-use bursts::{
-    DEPARTURE, ECN_ARRIVAL, HANDLE, KIND, NUMBERS, SIZE, TICK, U, UNKNOWN, clock_at, has_room,
-    number_at, wide, word,
-};
+use bursts::{clock_of, has_room, wide, word};
 use ring_c::{obikuteru_arrival, obikuteru_departure, obikuteru_tick, obikuteru_well_formed};
 use ring_steps::{arrive, depart, tick};
 use ring_words::{DROPPED_BYTES, DROPPED_EARLY, DROPPED_SLOTS, ENQUEUED, MARKED, SLOTS};
@@ -37,33 +34,30 @@ fn known(w: &mut [u64; 23], handles: &mut [u32], sizes: &mut [u32], calls: &[u32
     ensures sizes_after { lent w.new handles.new sizes.new
         ≡ after (lent w.old handles.old sizes.old) (call_at calls.now at) }
 {
-    let clock = clock_at(calls, at);
-    let kind = number_at(calls, at, KIND);
-    let departs = kind == DEPARTURE;
+    let clock = clock_of(calls[at], calls[at + 1]);
+    let kind = calls[at + 5];
+    let departs = kind == 2;
     if departs {
         return depart(w, handles, sizes, clock);
     }
-    let arrives = kind < DEPARTURE;
+    let arrives = kind < 2;
     if arrives {
-        let handle = number_at(calls, at, HANDLE);
-        let size = number_at(calls, at, SIZE);
-        let u = number_at(calls, at, U);
         return arrive(
             w,
             handles,
             sizes,
             clock,
-            handle,
-            size,
-            kind == ECN_ARRIVAL,
-            u,
+            calls[at + 2],
+            calls[at + 3],
+            kind == 1,
+            calls[at + 4],
         );
     }
-    let ticks = kind == TICK;
+    let ticks = kind == 3;
     if ticks {
         return tick(w, clock);
     }
-    UNKNOWN
+    120
 }
 
 // The call at `at`, by the single entries.
@@ -80,27 +74,33 @@ fn single(
     ensures sizes_after { lent w.new handles.new sizes.new
         ≡ after (lent w.old handles.old sizes.old) (call_at calls.now at) }
 {
-    let clock = clock_at(calls, at).0;
-    let kind = number_at(calls, at, KIND);
-    let arrives = kind < DEPARTURE;
+    let clock = clock_of(calls[at], calls[at + 1]);
+    let kind = calls[at + 5];
+    let arrives = kind < 2;
     if arrives {
-        let handle = number_at(calls, at, HANDLE);
-        let size = number_at(calls, at, SIZE);
-        let u = number_at(calls, at, U);
-        let ecn = kind == ECN_ARRIVAL;
-        return wide(obikuteru_arrival(w, handles, sizes, clock, handle, size, ecn, u));
+        let code = obikuteru_arrival(
+            w,
+            handles,
+            sizes,
+            clock,
+            calls[at + 2],
+            calls[at + 3],
+            kind == 1,
+            calls[at + 4],
+        );
+        return wide(code);
     }
-    let departs = kind == DEPARTURE;
+    let departs = kind == 2;
     if departs {
         let mut packet: [u32; 2] = [0, 0];
         let code = obikuteru_departure(w, handles, sizes, clock, &mut packet);
         return word(code, packet[1], packet[0]);
     }
-    let ticks = kind == TICK;
+    let ticks = kind == 3;
     if ticks {
         return wide(obikuteru_tick(w, clock));
     }
-    UNKNOWN
+    120
 }
 
 // Whether a state is well formed, the tables fit it and its counts have room for `n` arrivals. It decides only the cost.
@@ -150,7 +150,7 @@ fn all_known(
 {
     let mut i: usize = 0;
     while i < answers.len() {
-        let answer = known(words, handles, sizes, calls, NUMBERS * i);
+        let answer = known(words, handles, sizes, calls, 6 * i);
         answers[i] = answer;
         i += 1;
     }
@@ -171,7 +171,7 @@ fn all_single(
 {
     let mut i: usize = 0;
     while i < answers.len() {
-        let answer = single(words, handles, sizes, calls, NUMBERS * i);
+        let answer = single(words, handles, sizes, calls, 6 * i);
         answers[i] = answer;
         i += 1;
     }
@@ -192,9 +192,9 @@ pub extern "C" fn obikuteru_calls(
         calls.now answers.old }
 {
     let n = answers.len();
-    let fit = (calls.len() % NUMBERS == 0) & (calls.len() / NUMBERS == n);
+    let fit = (calls.len() % 6 == 0) & (calls.len() / 6 == n);
     if !fit {
-        return refusals::UNKNOWN;
+        return 120;
     }
     let ahead = ready(words, handles.len() as u64, sizes.len() as u64, n as u64);
     if ahead {

@@ -37,7 +37,7 @@ lines-back : (s : State) (calls : List Call) → map entry_at (map line_of_state
 lines-back s [] = refl
 lines-back s (c ∷ cs) = ap (λ (l : List Entry). entry s c ∷ l) (lines-back (reply s c).state cs)
 
-pub trace-of : (words : List ℕ) (calls : List Call) → map entry_of (c_trace words calls) ≡ trace (state_of words) calls
+trace-of : (words : List ℕ) (calls : List Call) → map entry_of (c_trace words calls) ≡ trace (state_of words) calls
 trace-of w calls =
     sym (map-map entry_at line_of_words (c_trace w calls)) ∙ ap (map entry_at) (traces-joined w calls) ∙ lines-back (state_of w) calls
 
@@ -79,10 +79,10 @@ own-ticked e t o called accepted =
     let told = sym (own_code e o) ∙ accepted in rw called (tick-answered (state_of e.given) t (rw called at told))
 
 module _ (s : State) (handles sizes : List ℕ) (clock handle size : ℕ) (ecn : Bool) (u : ℕ) where
-  abbrev pub arrived : Call
+  abbrev arrived : Call
   arrived = arrive handles sizes clock handle size ecn u
 
-  pub arrival-answered : code_of (reply s arrived).answer < 100 → (v : Verdict) × ((reply s arrived).answer ≡ verdict v)
+  arrival-answered : code_of (reply s arrived).answer < 100 → (v : Verdict) × ((reply s arrived).answer ≡ verdict v)
   arrival-answered =
       at-one-reply (λ r. code_of r.answer < 100 → (v : Verdict) × (r.answer ≡ verdict v)) s arrived
       (λ number h. absurd (omega arith))

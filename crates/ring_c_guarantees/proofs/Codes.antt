@@ -1,7 +1,7 @@
 -- What the number of an answer tells of it.
-use mathlib.Core.Path.{◌≡◌, refl, ap, sym, ◌∙◌}
+use mathlib.Core.Path.{◌≡◌, refl, ap}
 use mathlib.Core.Bool.{Bool, true, false, cond}
-use Prim.Native.Nat.{ℕ, zero, suc, ◌+◌, ◌<◌}
+use Prim.Native.Nat.{ℕ, ◌+◌, ◌<◌}
 use native.Mathlib.Omega.{arith}
 use borrow.Author.Tests.{le-ltb, ne_eqb}
 use lib.Dec.{eqb, ltb}
@@ -38,21 +38,3 @@ code-refused made number e = absurd (omega arith)
 code-refused (verdict v) number e = absurd (omega (arith, place-lt v))
 code-refused (departed handle size) number e = absurd (omega arith)
 code-refused ticked number e = absurd (omega arith)
-
--- each verdict has a number of its own
-abbrev verdict_at : ℕ → Verdict
-verdict_at zero = Enqueued
-verdict_at (suc zero) = Marked
-verdict_at (suc (suc zero)) = DroppedBytes
-verdict_at (suc (suc (suc zero))) = DroppedSlots
-verdict_at (suc (suc (suc (suc n)))) = DroppedEarly
-
-placed : (v : Verdict) → verdict_at (place_of v) ≡ v
-placed Enqueued = refl
-placed Marked = refl
-placed DroppedBytes = refl
-placed DroppedSlots = refl
-placed DroppedEarly = refl
-
-pub same_place : (v w : Verdict) → place_of v ≡ place_of w → v ≡ w
-same_place v w e = sym (placed v) ∙ ap verdict_at e ∙ placed w

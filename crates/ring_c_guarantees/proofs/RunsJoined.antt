@@ -102,7 +102,7 @@ codes_same : (q : Lent) (requests : List Request) →
 codes_same q [] = refl
 codes_same q (r ∷ requests) = ap (λ (l : List ℕ). code_to q r ∷ l) (codes_same (leaves q r) requests)
 
-pub fresh-five : (settings : Settings) (clock : ℕ) → length (fresh settings clock).state.verdicts ≡ 5
+fresh-five : (settings : Settings) (clock : ℕ) → length (fresh settings clock).state.verdicts ≡ 5
 unfolding fresh
 fresh-five settings clock = either (λ (r : Reply). length r.state.verdicts ≡ 5) (settings_refused settings clock) _ _ refl refl
 

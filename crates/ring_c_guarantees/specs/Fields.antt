@@ -10,20 +10,11 @@ buffer_in w = get_or w 1 0
 abbrev pub slots_in : (words : List ℕ) → ℕ
 slots_in w = get_or w 2 0
 
-abbrev pub last_tick_in : (words : List ℕ) → ℕ
-last_tick_in w = get_or w 4 0
-
 abbrev pub probability_in : (words : List ℕ) → ℕ
 probability_in w = get_or w 5 0
 
-abbrev pub old_delay_in : (words : List ℕ) → ℕ
-old_delay_in w = get_or w 6 0
-
 abbrev pub allowance_in : (words : List ℕ) → ℕ
 allowance_in w = get_or w 7 0
-
-abbrev pub accumulated_in : (words : List ℕ) → ℕ
-accumulated_in w = get_or w 8 0
 
 abbrev pub count_in : (words : List ℕ) → ℕ
 count_in w = get_or w 13 0
@@ -37,7 +28,3 @@ first_in w = get_or w 15 0
 -- verdicts[i]
 abbrev pub verdicts_in : (words : List ℕ) (i : ℕ) → ℕ
 verdicts_in w i = get_or w (16 + i) 0
-
--- 0: the queue is inactive (Q-12); any other number: it is active
-abbrev pub active_in : (words : List ℕ) → ℕ
-active_in w = get_or w 22 0

@@ -1,15 +1,14 @@
 -- The ring queue by the rules before profiles (document 01, with the tickets before Q-12): its record has no profile, and it is neither
 -- active nor inactive. What other crates define and Q-12 did not change is cited.
-use Rattle.std.specs.Prelude.{Bool, not, cond, ◌&&◌, List, [], ◌∷◌, ◌++◌, ℕ, zero, suc, ◌+◌, ◌-◌, ◌%◌, eqb, leb, ltb, pos, ◌+ℤ◌, get_or, length, set}
+use Rattle.std.specs.Prelude.{Bool, not, cond, ◌&&◌, ◌||◌, List, [], ◌∷◌, ◌++◌, ℕ, zero, suc, ◌+◌, ◌-◌, ◌*◌, ◌%◌, eqb, leb, ltb, pos, ◌+ℤ◌, get_or, length, set}
 use Rattle.laws.specs.Tests.{all}
-use Rattle.units.specs.Kinds.{bytes, micros, none, prob}
+use Rattle.units.specs.Kinds.{bytes, micros, none, prob, whole}
 use Rattle.units.specs.declared.Bytes.{Bytes}
 use Rattle.units.specs.declared.Micros.{Micros}
 use Rattle.pie.specs.Backlog.{entered, left}
-use Rattle.pie.specs.Constants.{full_allowance, latest, most_verdicts, period}
+use Rattle.pie.specs.Constants.{full_allowance, largest, latest, longest, most_accumulated, most_verdicts, period, threshold}
 use Rattle.pie.specs.DepartureRate.{resting}
 use Rattle.pie.specs.DropDecision.{accumulated_after, drop_decision}
-use Rattle.pie.specs.Ranges.{backlog_conditions, buffer_conditions, measurement_conditions, pie_conditions, slots_conditions, target_conditions}
 use Rattle.pie.specs.Update.{decayed, delay_of, divisor_of, error_of, idle, limited, next_allowance, step_of}
 use Rattle.pie.specs.Verdicts.{admitted, raised, total}
 use Rattle.pie.specs.declared.Backlog.{Backlog}
@@ -17,7 +16,7 @@ use Rattle.pie.specs.declared.Pie.{Pie}
 use Rattle.pie.specs.declared.Verdict.{Verdict}
 use Rattle.pie.specs.declared.Verdict.TheVariants.{DroppedBytes, DroppedSlots}
 use Rattle.refusals.specs.Rows.{first_refusal}
-use Rattle.refusals.specs.Tests.{clock_refused, counts_refused, empty_refused, head_refused, size_refused, tables_refused, too_soon_refused}
+use Rattle.refusals.specs.Tests.{head_refused, size_refused}
 use Rattle.refusals.specs.Answer.{Answer, departed, refused, ticked, verdict}
 use Rattle.ring.specs.Departure.{departed_pie}
 use Rattle.ring.specs.Calls.{Call, arrive, depart, update}
@@ -40,17 +39,34 @@ pub record State : Type 0 where
 
 abbrev pub settings_conditions : Settings → List Bool
 settings_conditions s =
-    target_conditions s.target.0 ++ buffer_conditions s.buffer.0 ++ slots_conditions s.slots
+    leb 1000 s.target.0
+    ∷ leb s.target.0 100000
+    ∷ leb 1 s.buffer.0
+    ∷ leb s.buffer.0 16777216
+    ∷ leb 1 s.slots
+    ∷ leb s.slots 65536
+    ∷ []
 
 abbrev pub state_conditions : State → List Bool
 state_conditions s =
     leb s.last.0 s.clock.0
     ∷ leb s.clock.0 latest
-    ∷ pie_conditions s.pie
-    ++ ltb s.first s.settings.slots
-    ∷ backlog_conditions s.settings.slots s.settings.buffer.0 s.backlog
-    ++ measurement_conditions s.pie.rate s.backlog.count s.clock.0
-    ++ leb (total s.verdicts) most_verdicts
+    ∷ leb s.pie.prob.0 whole
+    ∷ leb s.pie.old.0 longest
+    ∷ leb s.pie.allowance.0 full_allowance
+    ∷ ltb s.pie.accumulated.0 most_accumulated
+    ∷ leb s.pie.rate.average.0 longest
+    ∷ ltb s.first s.settings.slots
+    ∷ leb s.backlog.count s.settings.slots
+    ∷ leb s.backlog.count s.backlog.bytes.0
+    ∷ leb s.backlog.bytes.0 (largest * s.backlog.count)
+    ∷ leb s.backlog.bytes.0 s.settings.buffer.0
+    ∷ leb s.pie.rate.start.0 s.clock.0
+    ∷ ltb s.pie.rate.counted.0 threshold
+    ∷ (s.pie.rate.measuring || eqb s.pie.rate.start.0 0)
+    ∷ (s.pie.rate.measuring || eqb s.pie.rate.counted.0 0)
+    ∷ not (s.pie.rate.measuring && eqb s.backlog.count 0)
+    ∷ leb (total s.verdicts) most_verdicts
     ∷ []
 
 unfoldable pub well_formed : State → Bool
@@ -68,10 +84,16 @@ fresh_state settings clock =
       verdicts = 0 ∷ 0 ∷ 0 ∷ 0 ∷ 0 ∷ [];
     }
 
--- ── the refusals: 1 and 2 are this record's own ──
+-- ── refusals 1 to 9 ──
 
 abbrev pub settings_refused : Settings → (clock : ℕ) → Bool
 settings_refused s clock = not (all (settings_conditions s) && leb clock latest)
+
+abbrev pub tables_refused : State → (handles_length sizes_length : ℕ) → Bool
+tables_refused s handles_length sizes_length = not (eqb handles_length s.settings.slots && eqb sizes_length s.settings.slots)
+
+abbrev pub clock_refused : State → (clock : ℕ) → Bool
+clock_refused s clock = ltb clock s.clock.0 || ltb latest clock
 
 -- the head's entry in a table
 abbrev pub head_of : State → (table : List ℕ) → ℕ
@@ -80,22 +102,22 @@ head_of s table = get_or table s.first 0
 abbrev pub rows_of : State → Call → List (ℕ × Bool)
 rows_of s (arrive handles sizes clock handle size ecn u) =
     (2, not (well_formed s))
-    ∷ (3, tables_refused s.settings.slots (length handles) (length sizes))
-    ∷ (4, clock_refused s.clock.0 clock)
+    ∷ (3, tables_refused s (length handles) (length sizes))
+    ∷ (4, clock_refused s clock)
     ∷ (7, size_refused size)
-    ∷ (8, counts_refused s.verdicts)
+    ∷ (8, eqb (total s.verdicts) most_verdicts)
     ∷ []
 rows_of s (depart handles sizes clock) =
     (2, not (well_formed s))
-    ∷ (3, tables_refused s.settings.slots (length handles) (length sizes))
-    ∷ (4, clock_refused s.clock.0 clock)
-    ∷ (6, empty_refused s.backlog)
+    ∷ (3, tables_refused s (length handles) (length sizes))
+    ∷ (4, clock_refused s clock)
+    ∷ (6, eqb s.backlog.count 0)
     ∷ (9, head_refused s.backlog (head_of s sizes))
     ∷ []
 rows_of s (update clock) =
     (2, not (well_formed s))
-    ∷ (4, clock_refused s.clock.0 clock)
-    ∷ (5, too_soon_refused period s.last.0 clock)
+    ∷ (4, clock_refused s clock)
+    ∷ (5, ltb clock (s.last.0 + period))
     ∷ []
 
 -- ── an arrival: rules 1 to 7 ──

@@ -52,24 +52,16 @@ module _ (v : Verdict) (place : ℕ) (e : place ≡ place_of v) where
 
 -- the words below the counts, but for clock and accumulated probability, are read as they were
 module _ (w d : List ℕ) (x : ℕ) (k : d ≡ set w 8 x) (clock place count : ℕ) where
-  past : (i : ℕ) → i < 16 → i ≢ 3 → i ≢ 8 → get_or (set (set d 3 clock) (16 + place) count) i 0 ≡ get_or w i 0
+  pub past : (i : ℕ) → i < 16 → i ≢ 3 → i ≢ 8 → get_or (set (set d 3 clock) (16 + place) count) i 0 ≡ get_or w i 0
   past i h n m =
       get_or-set_other (set d 3 clock) (16 + place) i count 0 (λ e. omega arith)
       ∙ get_or-set_other d 3 i clock 0 n
       ∙ ap (λ (l : List ℕ). get_or l i 0) k
       ∙ get_or-set_other w 8 i x 0 m
 
-  pub past-slots : get_or (set (set d 3 clock) (16 + place) count) 2 0 ≡ get_or w 2 0
-  past-slots = past 2 (omega arith) (omega arith) (omega arith)
-
-  pub past-count : get_or (set (set d 3 clock) (16 + place) count) 13 0 ≡ get_or w 13 0
-  past-count = past 13 (omega arith) (omega arith) (omega arith)
-
-  pub past_bytes : get_or (set (set d 3 clock) (16 + place) count) 14 0 ≡ get_or w 14 0
-  past_bytes = past 14 (omega arith) (omega arith) (omega arith)
-
-  pub past_first : get_or (set (set d 3 clock) (16 + place) count) 15 0 ≡ get_or w 15 0
-  past_first = past 15 (omega arith) (omega arith) (omega arith)
+  pub past_bytes : (n : ℕ) → get_or (set (set (set d 3 clock) (16 + place) count) 13 n) 14 0 ≡ get_or w 14 0
+  past_bytes n =
+      get_or-set_other (set (set d 3 clock) (16 + place) count) 13 14 n 0 (λ e. omega arith) ∙ past 14 (omega arith) (omega arith) (omega arith)
 
 -- the words d of the rules on the state as it is given, and whether the queue turns active
 module _ (clock size : ℕ) (v : Verdict) (w d : List ℕ) (k : d ≡ state_words w (arrived_state (state_of w) clock size v)) where

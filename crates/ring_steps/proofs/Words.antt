@@ -49,7 +49,8 @@ counted_words w clock place =
 
 -- count and bytes
 abbrev pub entered_words : List ℕ → (size : ℕ) → List ℕ
-entered_words w size = set (set w 13 (get_or w 13 0 + 1)) 14 (get_or w 14 0 + size)
+entered_words w size =
+    let next = set w 13 (get_or w 13 0 + 1) in set next 14 (get_or next 14 0 + size)
 
 abbrev arrival_written : List ℕ → (clock size : ℕ) → Verdict → List ℕ
 arrival_written w clock size v =

@@ -15,17 +15,16 @@ ghost use Rattle.ring_words.specs.Lent.{lent};
 ghost use Rattle.ring_steps.specs.Fitting.{Ready};
 ghost use Rattle.ring_steps.specs.Words.{decided_words, drawn_words};
 
-use crate::verdicts::{DROPPED_BYTES, DROPPED_EARLY, DROPPED_SLOTS, ENQUEUED, MARKED};
-use bursts::{REFUSED_CLOCK, REFUSED_SIZE, wide};
-use pie::{Backlog, Verdict};
+use crate::codes::{REFUSED_CLOCK, REFUSED_SIZE};
+use bursts::wide;
+use pie::{LARGEST, LATEST, Verdict};
 use pie_words::{pie_at, spares};
 use places::tail_place;
-use refusals::{wrong_clock, wrong_size};
 use ring_words::{
     ACCUMULATED, ACTIVE, BUFFER, BYTES, CLOCK, COUNT, FIRST, PIE, SLOTS, TARGET, VERDICTS,
     write_restart,
 };
-use units::{Bytes, Micros};
+use units::Micros;
 
 // Past rule 5: gives the place of the verdict, and writes the accumulated probability. An arm for each verdict: with one write before them
 // the compiler tests the place again (docs/PERFORMANCE.md).
@@ -39,49 +38,48 @@ fn draw(w: &mut [u64; 23], ecn: bool, u: u32) -> usize
     match v {
         Verdict::Enqueued => {
             w[ACCUMULATED] = found.accumulated.0;
-            ENQUEUED
+            0
         }
         Verdict::Marked => {
             w[ACCUMULATED] = found.accumulated.0;
-            MARKED
+            1
         }
         Verdict::DroppedBytes => {
             w[ACCUMULATED] = found.accumulated.0;
-            DROPPED_BYTES
+            2
         }
         Verdict::DroppedSlots => {
             w[ACCUMULATED] = found.accumulated.0;
-            DROPPED_SLOTS
+            3
         }
         Verdict::DroppedEarly => {
             w[ACCUMULATED] = found.accumulated.0;
-            DROPPED_EARLY
+            4
         }
     }
 }
 
 // Rules 1 to 7: gives the place of the verdict. The accumulated probability is written where it moves. An inactive queue's probability is
 // 0, and rules 3 to 7 enqueue in it.
-fn decide(w: &mut [u64; 23], size: Bytes, ecn: bool, u: u32) -> usize
+fn decide(w: &mut [u64; 23], size: u64, ecn: bool, u: u32) -> usize
     requires w_len { (length w.old ≡ 23) × (well_formed (state_of w.old) ≡ true) }
-    requires size_le_largest { size.0 ≤ largest }
-    ensures value { result ≡ place_of (verdict_of (state_of w.old) size.0 ecn u) }
-    ensures w_after { w.new ≡ decided_words w.old (verdict_of (state_of w.old) size.0 ecn u) }
+    requires size_le_largest { size ≤ largest }
+    ensures value { result ≡ place_of (verdict_of (state_of w.old) size ecn u) }
+    ensures w_after { w.new ≡ decided_words w.old (verdict_of (state_of w.old) size ecn u) }
 {
-    let queued = Bytes(w[BYTES]);
-    let buffer = Bytes(w[BUFFER]);
-    let bytes_full = buffer.0 < queued.0 + size.0;
+    let bytes = w[BYTES];
+    let bytes_full = w[BUFFER] < bytes + size;
     if bytes_full {
-        return DROPPED_BYTES;
+        return 2;
     }
     let slots_full = w[COUNT] == w[SLOTS];
     if slots_full {
-        return DROPPED_SLOTS;
+        return 3;
     }
     let target = Micros(w[TARGET]);
     let spared = spares(w, PIE, target);
     if spared {
-        return ENQUEUED;
+        return 0;
     }
     draw(w, ecn, u)
 }
@@ -91,7 +89,7 @@ fn take(
     w: &mut [u64; 23],
     handles: &mut [u32],
     sizes: &mut [u32],
-    clock: Micros,
+    clock: u64,
     handle: u32,
     size: u32,
     ecn: bool,
@@ -102,25 +100,20 @@ fn take(
     ensures { let s = state_of w.old in
         let v = verdict_of s size ecn u in
         (result ≡ place_of v)
-        × (w.new ≡ state_words w.old (arrived_state s clock.0 size v))
+        × (w.new ≡ state_words w.old (arrived_state s clock size v))
         × (handles.new ≡ stored s (verdict v) handles.old handle)
         × (sizes.new ≡ stored s (verdict v) sizes.old size) }
 {
-    let bytes = Bytes(wide(size));
+    let bytes = wide(size);
     let v = decide(w, bytes, ecn, u);
     let row = VERDICTS + v;
-    w[CLOCK] = clock.0;
+    w[CLOCK] = clock;
     w[row] = w[row] + 1;
-    let admits = v < DROPPED_BYTES;
+    let admits = v < 2;
     if admits {
-        let queued = Backlog {
-            count: w[COUNT],
-            bytes: Bytes(w[BYTES]),
-        };
-        let tail = tail_place(w[FIRST], queued.count, w[SLOTS]) as usize;
-        let entered = queued.enter(bytes);
-        w[COUNT] = entered.count;
-        w[BYTES] = entered.bytes.0;
+        let tail = tail_place(w[FIRST], w[COUNT], w[SLOTS]) as usize;
+        w[COUNT] = w[COUNT] + 1;
+        w[BYTES] = w[BYTES] + bytes;
         handles[tail] = handle;
         sizes[tail] = size;
     }
@@ -140,7 +133,7 @@ pub fn arrive(
     w: &mut [u64; 23],
     handles: &mut [u32],
     sizes: &mut [u32],
-    clock: Micros,
+    clock: u64,
     handle: u32,
     size: u32,
     ecn: bool,
@@ -148,29 +141,28 @@ pub fn arrive(
 ) -> u64
     requires { Ready (lent w.old handles.old sizes.old) 1 }
     ensures { let s = state_of w.old in
-        let a = arrival s handles.old sizes.old clock.0 size ecn u in
+        let a = arrival s handles.old sizes.old clock size ecn u in
         (result ≡ code_of a.answer)
         × (w.new ≡ words_after a w.old)
         × (handles.new ≡ stored s a.answer handles.old handle)
         × (sizes.new ≡ stored s a.answer sizes.old size) }
 {
-    let recorded = Micros(w[CLOCK]);
-    let clock_refused = wrong_clock(recorded, clock);
-    if clock_refused {
+    let wrong_clock = (clock < w[CLOCK]) | (LATEST < clock);
+    if wrong_clock {
         return REFUSED_CLOCK;
     }
-    let size_refused = wrong_size(Bytes(wide(size)));
-    if size_refused {
+    let bytes = wide(size);
+    let wrong_size = (bytes == 0) | (LARGEST < bytes);
+    if wrong_size {
         return REFUSED_SIZE;
     }
-    let found = Bytes(w[BYTES]);
+    let found = w[BYTES];
     let v = take(w, handles, sizes, clock, handle, size, ecn, u);
     let active = w[ACTIVE] != 0;
     if active {
         return v as u64;
     }
-    let buffer = Bytes(w[BUFFER]);
-    let loaded = buffer.0 < 3 * found.0;
+    let loaded = w[BUFFER] < 3 * found;
     if loaded {
         restart(w);
     }

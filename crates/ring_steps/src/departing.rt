@@ -7,23 +7,23 @@ ghost use Rattle.bursts.specs.Answers.{answer_word};
 ghost use Rattle.ring_words.specs.Lent.{lent};
 ghost use Rattle.ring_steps.specs.Fitting.{Fitting};
 
-use bursts::{REFUSED_CLOCK, REFUSED_EMPTY, REFUSED_HEAD, wide, word};
-use pie::Backlog;
+use crate::codes::{REFUSED_CLOCK, REFUSED_EMPTY, REFUSED_HEAD};
+use bursts::{wide, word};
+use pie::{Backlog, LATEST};
 use pie_words::measure;
 use places::following;
-use refusals::{wrong_clock, wrong_head};
+use refusals::wrong_head;
 use ring_words::{BYTES, CLOCK, COUNT, FIRST, PIE, SLOTS};
 use units::{Bytes, Micros};
 
 // The head leaves.
-pub fn depart(w: &mut [u64; 23], handles: &[u32], sizes: &[u32], clock: Micros) -> u64
+pub fn depart(w: &mut [u64; 23], handles: &[u32], sizes: &[u32], clock: u64) -> u64
     requires { Fitting (lent w.old handles.now sizes.now) }
-    ensures { let a = departure (state_of w.old) handles.now sizes.now clock.0 in
+    ensures { let a = departure (state_of w.old) handles.now sizes.now clock in
         (result ≡ answer_word a.answer) × (w.new ≡ words_after a w.old) }
 {
-    let recorded = Micros(w[CLOCK]);
-    let clock_refused = wrong_clock(recorded, clock);
-    if clock_refused {
+    let wrong_clock = (clock < w[CLOCK]) | (LATEST < clock);
+    if wrong_clock {
         return REFUSED_CLOCK;
     }
     let count = w[COUNT];
@@ -47,10 +47,10 @@ pub fn depart(w: &mut [u64; 23], handles: &[u32], sizes: &[u32], clock: Micros) 
     let handle = handles[at];
     let rest = backlog.leave(Bytes(size));
     let next = following(first, w[SLOTS]);
-    w[CLOCK] = clock.0;
+    w[CLOCK] = clock;
     w[COUNT] = rest.count;
     w[BYTES] = rest.bytes.0;
     w[FIRST] = next;
-    measure(w, PIE, clock, Bytes(size), rest);
+    measure(w, PIE, Micros(clock), Bytes(size), rest);
     word(0, head, handle)
 }

@@ -2,9 +2,9 @@
 // over its words in place and writes those that it changes.
 #![tactic(auto)]
 mod arriving;
+mod codes;
 mod departing;
 mod ticking;
-mod verdicts;
 
 pub use arriving::arrive;
 pub use departing::depart;

@@ -7,33 +7,31 @@ ghost use Rattle.refusals.specs.Codes.{code_of};
 ghost use Rattle.ring_words.specs.Codes.{words_after};
 ghost use Rattle.ring_words.specs.Words.{state_of, state_words};
 
-use bursts::{REFUSED_CLOCK, REFUSED_TOO_SOON};
-use pie::{PERIOD, refills};
+use crate::codes::{REFUSED_CLOCK, REFUSED_TOO_SOON};
+use pie::{LATEST, PERIOD, refills};
 use pie_words::update;
-use refusals::{too_soon, wrong_clock};
 use ring_words::{ACTIVE, BUFFER, BYTES, CLOCK, LAST, OLD, PIE, PROFILE, TARGET};
-use units::{Bytes, Micros};
+use units::Micros;
 
 // The tick of a calm queue: an inactive one's clocks alone; an active one may turn inactive (Q-12).
-fn tick_calm(w: &mut [u64; 23], clock: Micros)
+fn tick_calm(w: &mut [u64; 23], clock: u64)
     requires { (length w.old ≡ 23) × (well_formed (state_of w.old) ≡ true) × (is_calm (state_of w.old).settings ≡ true) }
-    ensures { w.new ≡ state_words w.old (ticked_state (state_of w.old) clock.0) }
+    ensures { w.new ≡ state_words w.old (ticked_state (state_of w.old) clock) }
 {
     let inactive = w[ACTIVE] == 0;
     if inactive {
-        w[CLOCK] = clock.0;
-        w[LAST] = clock.0;
+        w[CLOCK] = clock;
+        w[LAST] = clock;
         return;
     }
     let target = Micros(w[TARGET]);
     let old = Micros(w[OLD]);
-    let queued = Bytes(w[BYTES]);
+    let queued = w[BYTES];
     let next = update(w, PIE, true, target);
     let quiet = refills(next.prob, next.old, old, target);
-    let buffer = Bytes(w[BUFFER]);
-    let loaded = buffer.0 < 3 * queued.0;
-    w[CLOCK] = clock.0;
-    w[LAST] = clock.0;
+    let loaded = w[BUFFER] < 3 * queued;
+    w[CLOCK] = clock;
+    w[LAST] = clock;
     let turns = quiet & !loaded;
     if turns {
         w[ACTIVE] = 0;
@@ -41,19 +39,17 @@ fn tick_calm(w: &mut [u64; 23], clock: Micros)
 }
 
 // The periodic update. A plain queue is always active.
-pub fn tick(w: &mut [u64; 23], clock: Micros) -> u64
+pub fn tick(w: &mut [u64; 23], clock: u64) -> u64
     requires { (length w.old ≡ 23) × (well_formed (state_of w.old) ≡ true) }
-    ensures { let a = tick (state_of w.old) clock.0 in
+    ensures { let a = tick (state_of w.old) clock in
         (result ≡ code_of a.answer) × (w.new ≡ words_after a w.old) }
 {
-    let recorded = Micros(w[CLOCK]);
-    let clock_refused = wrong_clock(recorded, clock);
-    if clock_refused {
+    let wrong_clock = (clock < w[CLOCK]) | (LATEST < clock);
+    if wrong_clock {
         return REFUSED_CLOCK;
     }
-    let last = Micros(w[LAST]);
-    let soon = too_soon(Micros(PERIOD), last, clock);
-    if soon {
+    let too_soon = clock < w[LAST] + PERIOD;
+    if too_soon {
         return REFUSED_TOO_SOON;
     }
     let calm = w[PROFILE] == 1;
@@ -63,7 +59,7 @@ pub fn tick(w: &mut [u64; 23], clock: Micros) -> u64
     }
     let target = Micros(w[TARGET]);
     update(w, PIE, false, target);
-    w[CLOCK] = clock.0;
-    w[LAST] = clock.0;
+    w[CLOCK] = clock;
+    w[LAST] = clock;
     0
 }

@@ -10,8 +10,21 @@ pub use layout::{
     ENQUEUED, FIRST, LAST, MARKED, OLD, PIE, PROB, PROFILE, SLOTS, TARGET, VERDICTS,
 };
 pub use reading::decode;
-pub use refusals::{
-    REFUSED_CLOCK, REFUSED_COUNTS, REFUSED_EMPTY, REFUSED_HEAD, REFUSED_MALFORMED, REFUSED_SIZE,
-    REFUSED_TABLES, REFUSED_TOO_SOON,
-};
 pub use writing::{encode, write_arrival, write_departure, write_restart};
+
+// What C gets for a refusal, for calls that give it by its number.
+pub const REFUSED_MALFORMED: u32 = 102;
+
+pub const REFUSED_TABLES: u32 = 103;
+
+pub const REFUSED_CLOCK: u32 = 104;
+
+pub const REFUSED_TOO_SOON: u32 = 105;
+
+pub const REFUSED_EMPTY: u32 = 106;
+
+pub const REFUSED_SIZE: u32 = 107;
+
+pub const REFUSED_COUNTS: u32 = 108;
+
+pub const REFUSED_HEAD: u32 = 109;

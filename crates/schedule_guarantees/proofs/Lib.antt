@@ -9,8 +9,6 @@ pub mod Kept
 pub mod KeptInRing
 pub mod ChoosingEnds
 pub mod LongestChoice
-pub mod ChoosingEmpties
-pub mod LongestEmptying
 pub mod Stretch
 pub mod Before
 pub mod Levels

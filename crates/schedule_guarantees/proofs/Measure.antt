@@ -116,17 +116,7 @@ module _ (counts ds : List ℕ) (x : ℕ) where
   new-holds : (get_or counts x 0 ≡ 0 → ⊥) → new_weight counts ds x ≤ 44
   new-holds h = rw (ne_eqb (get_or counts x 0) 0 h) (omega arith)
 
--- 64 × 45
-pub all-moves-high : (counts : List ℕ) (l : TwoLists) → length l.new + length l.old ≤ 64 → moves_left counts l ≤ 2880
-unfolding moves_left
-all-moves-high counts l room =
-    omega (
-      arith,
-      weights-high (new_weight counts l.deficits) l.new (new-high counts l.deficits),
-      weights-high (old_weight counts l.deficits) l.old (old-high counts l.deficits),
-    )
-
--- 63 × 45 + 44 where a listed flow has a packet
+-- 63 × 45 + 44
 module _ (counts : List ℕ) (l : TwoLists) (x : ℕ) where
   abbrev new : ℕ → ℕ
   new = new_weight counts l.deficits

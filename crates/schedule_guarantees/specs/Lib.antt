@@ -3,10 +3,8 @@
 --
 --   Kept              choosing, an arrival and a departure keep the lists well formed
 --   KeptInRing        and so the ring
---   ChoosingEnds      where a flow has a packet, choosing ends at a flow that may be served, within 2,879 moves
+--   ChoosingEnds      choosing ends at a flow that may be served, within 2,879 moves
 --   LongestChoice     a choice of 2,879 moves
---   ChoosingEmpties   where none has, choosing empties both lists, by a number of moves that the deficits give, at most 2,880
---   LongestEmptying   one of 2,880 moves
 --   NeverUnlists      choosing never unlists a flow with packets
 --   Stretch           a stretch of arrivals and departures, and the bytes that it serves to a flow
 --   Fairness          two flows that have packets are served the same bytes, but for two largest packets and two quanta
@@ -18,8 +16,6 @@ pub mod Kept
 pub mod KeptInRing
 pub mod ChoosingEnds
 pub mod LongestChoice
-pub mod ChoosingEmpties
-pub mod LongestEmptying
 pub mod NeverUnlists
 pub mod Stretch
 pub mod Fairness

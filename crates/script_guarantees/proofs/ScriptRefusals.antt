@@ -13,8 +13,7 @@ use Rattle.ring.specs.Answer.{Reply}
 use Rattle.refusals.specs.Answer.{made, refused}
 use Rattle.ring.specs.Fresh.{fresh, settings_of, zero_state}
 use Rattle.refusals.specs.Rows.{first_refusal}
-use Rattle.refusals.specs.Tests.{tables_refused}
-use Rattle.ring.specs.Refusals.{settings_refused}
+use Rattle.ring.specs.Refusals.{settings_refused, tables_refused}
 use Rattle.ring.specs.declared.State.{State}
 use Rattle.ring.proofs.Kept.{made-accepted}
 use Rattle.ring_guarantees.specs.Calls.{Entry, ring_calls}
@@ -49,7 +48,7 @@ rows_other ((number, test) ∷ rows) h =
     ⊎_elim (λ o. either Other test number (first_refusal rows) o rest) (λ e. rw e rest) h.0
 
 module _ (q : Queue) (w : Whole q) where
-  whole-tables : tables_refused q.state.settings.slots (length q.handles) (length q.sizes) ≡ false
+  whole-tables : tables_refused q.state (length q.handles) (length q.sizes) ≡ false
   whole-tables = rw (eq-eqb _ _ w.handles, eq-eqb _ _ w.sizes)
 
   number-other : (r : Request) → Other (number_given q.state (call_of q r))

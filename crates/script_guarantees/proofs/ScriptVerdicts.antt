@@ -8,7 +8,7 @@ use Rattle.pie.specs.declared.Verdict.{Verdict}
 use Rattle.refusals.specs.Answer.{verdict}
 use Rattle.ring.specs.Calls.{Call, arrive, reply}
 use Rattle.ring_guarantees.specs.Calls.{Entry, ring_calls}
-use Rattle.ring_guarantees.specs.WhichVerdict.{grounds_of}
+use Rattle.ring_guarantees.specs.WhichVerdict.{Grounds}
 use Rattle.ring_guarantees.proofs.WhichVerdict.{which-verdict}
 use Rattle.calls.proofs.Traces.{along}
 use Rattle.script_guarantees.specs.Asked.{asked}
@@ -20,7 +20,7 @@ abbrev Exact : Entry → Type 0
 Exact e =
     (handles sizes : List ℕ) (clock handle size : ℕ) (ecn : Bool) (u : ℕ) (v : Verdict) →
     e.call ≡ arrive handles sizes clock handle size ecn u → e.answer ≡ verdict v →
-    (w : Verdict) → (v ≡ w) ↔ grounds_of e.given size ecn u w
+    (w : Verdict) → (v ≡ w) ↔ Grounds e.given size ecn u w
 
 pub script-verdicts : ScriptVerdicts
 script-verdicts input =

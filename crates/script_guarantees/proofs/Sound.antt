@@ -66,7 +66,7 @@ idle-steps (q ∷ requests) r i =
 idle-sound : (r : Run) → Idle r → Sound r
 idle-sound r i = record { order = rw (i.admitted, i.departed, i.state); bytes = rw i.state }
 
-pub run_sound : (target buffer slots : ℕ) (requests : List Request) → Sound (run_of target buffer slots requests)
+run_sound : (target buffer slots : ℕ) (requests : List Request) → Sound (run_of target buffer slots requests)
 run_sound target buffer slots requests =
     by-start (Sound (run_of target buffer slots requests)) target buffer slots
     (λ e. record { order = first-in-first-out _ _ _ _ requests e; bytes = (conservation _ _ _ _ requests e).held })
@@ -74,7 +74,7 @@ run_sound target buffer slots requests =
 
 -- ── up to a request ──
 
-pub trace-take : (k : ℕ) (requests : List Request) (q : Queue) → trace_of q (take k requests) ≡ take k (trace_of q requests)
+trace-take : (k : ℕ) (requests : List Request) (q : Queue) → trace_of q (take k requests) ≡ take k (trace_of q requests)
 trace-take zero requests q = refl
 trace-take (suc k) [] q = refl
 trace-take (suc k) (r ∷ requests) q =

@@ -4,7 +4,7 @@
 --   ScriptEnd        where it ends: the state and the tables of `run` over its requests
 --   RunTrace         `run` and the trace tell the same
 --   ScriptVerdicts   question 1: a packet is dropped early or marked exactly when the rules require it
---   ScriptOrder      demand 2: first in, first out; what waits is what the tables hold
+--   ScriptOrder      demand 2: first in, first out
 --   ScriptBytes      question 3: the bytes on a line are those admitted so far less those departed so far
 --   ScriptRecovery   demand 3 and question 4: 1,000 ticks on an empty queue
 --   ScriptGrace      question 2: a refilled allowance lasts 150 ms

@@ -5,7 +5,7 @@ use Rattle.pie.specs.declared.Verdict.{Verdict}
 use Rattle.refusals.specs.Answer.{verdict}
 use Rattle.ring_guarantees.specs.Calls.{Entry}
 use Rattle.ring.specs.Calls.{arrive}
-use Rattle.ring_guarantees.specs.WhichVerdict.{grounds_of}
+use Rattle.ring_guarantees.specs.WhichVerdict.{Grounds}
 use Rattle.script_guarantees.specs.Asked.{asked}
 use Rattle.script_guarantees.specs.Entries.{entries_of}
 
@@ -14,4 +14,4 @@ ScriptVerdicts =
     (input : List ℕ) (e : Entry) → Memᴰ e (entries_of (asked input)) →
     (handles sizes : List ℕ) (clock handle size : ℕ) (ecn : Bool) (u : ℕ) (v : Verdict) →
     e.call ≡ arrive handles sizes clock handle size ecn u → e.answer ≡ verdict v →
-    (w : Verdict) → (v ≡ w) ↔ grounds_of e.given size ecn u w
+    (w : Verdict) → (v ≡ w) ↔ Grounds e.given size ecn u w

@@ -1,8 +1,9 @@
-//! Ends of ranges in well-formed records.
+//! Ends of ranges in well-formed records, and ends of tables.
 
 use crate::flows::Flow;
 use crate::kind::{Call, Side};
 use crate::model::formed::verdict_sum;
+use crate::shared::area::PAGE;
 use crate::shared::coverage::Found;
 use crate::shared::kind::What;
 
@@ -44,5 +45,26 @@ pub fn ends(before: &Side, call: &Call, _after: &Side) -> Found {
         ("head 0", any(&|f| f.head == 0)), ("head = slots - 1", any(&|f| f.head + 1 == c.slots)),
         ("tail 0", any(&|f| f.tail == 0)), ("tail = slots - 1", any(&|f| f.tail + 1 == c.slots)),
         ("size 1", size == 1), ("size 65,535", size == 65_535),
+    ]
+}
+
+/// Which end of tables of whole pages an accepted call wrote or read: guarded memory then ends
+/// right beside both of their ends.
+#[rustfmt::skip]
+pub fn whole_pages(before: &Side, call: &Call, after: &Side) -> Found {
+    let slots = before.state.common.slots;
+    let whole = after.answer < 100 && slots as usize * 4 % PAGE == 0;
+    let arrives = matches!(call.what, What::Arrival(_));
+    let flow = if arrives { after.flow } else { after.packet.flow } as usize;
+    let (f, now) = (&before.state.flows[flow], &after.state.flows[flow]);
+    let wrote = whole && now.count > f.count;
+    let left = whole && now.count < f.count;
+    vec![
+        ("first element taken", wrote && now.tail == 0),
+        ("last element taken", wrote && now.tail + 1 == slots),
+        ("first element linked", wrote && f.count > 0 && f.tail == 0),
+        ("last element linked", wrote && f.count > 0 && f.tail + 1 == slots),
+        ("first element left", left && f.head == 0),
+        ("last element left", left && f.head + 1 == slots),
     ]
 }

@@ -44,12 +44,6 @@ pub fn settings_edges(field: usize) -> Vec<Edge> {
     }
 }
 
-/// The edges of all fields of the settings, each with its field's number.
-pub fn all_settings_edges() -> Vec<(usize, Edge)> {
-    let of = |field| settings_edges(field).into_iter().map(move |edge| (field, edge));
-    (0..6).flat_map(of).collect()
-}
-
 pub fn set_settings(settings: &mut Settings, field: usize, value: u64) {
     match field {
         0 => settings.target = value,
@@ -84,13 +78,6 @@ pub fn record_edges(kind: u8, field: usize) -> Vec<Edge> {
         9 => range(0, 1 << 32, u64::MAX),
         _ => unused(32),
     }
-}
-
-/// The edges of all fields of each kind of record, with the kind and the field's number.
-pub fn all_record_edges() -> Vec<(u8, usize, Edge)> {
-    let of =
-        |kind, field| record_edges(kind, field).into_iter().map(move |edge| (kind, field, edge));
-    KINDS.into_iter().flat_map(|kind| (0..10).flat_map(move |field| of(kind, field))).collect()
 }
 
 pub fn set_record(record: &mut Record, field: usize, value: u64) {

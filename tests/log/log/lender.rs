@@ -36,9 +36,6 @@ pub const ROOM: usize = 4_010_000;
 /// What stands where the library is to write: no call gives it back by chance.
 const UNWRITTEN: [u8; 40] = [0xA5; 40];
 
-/// What the writer's state is before a begin: a refused one leaves it.
-pub const UNBEGUN: State = State { offset: 0xA5A5_A5A5, count: 0x5A5A_5A5A };
-
 pub struct Lender {
     bytes: Area,
     note: Area,
@@ -71,10 +68,10 @@ impl Lender {
         self.bytes.change()[at] = byte;
     }
 
-    pub fn begin(&mut self, state: State, settings: &Settings, note: &[u8]) -> (u32, State) {
+    pub fn begin(&mut self, settings: &Settings, note: &[u8]) -> (u32, State) {
         self.given.lend(&[*settings]);
         self.note.lend(note);
-        self.state.lend(&[state]);
+        self.state.lend(&UNWRITTEN[..8]);
         let (state, given) = (self.state.write(), self.given.read());
         let (text, bytes) = (self.note.read(), self.bytes.write());
         let room = self.bytes.bytes();

@@ -158,11 +158,11 @@ pub fn begin_refusals(settings: &Settings, note: usize, room: usize) -> Refusals
     applying
 }
 
-/// Begins a log over a state: the answer and the writer's state.
-pub fn begin(state: State, settings: &Settings, note: &[u8], bytes: &mut [u8]) -> (u32, State) {
+/// Begins a log: the answer and the writer's state.
+pub fn begin(settings: &Settings, note: &[u8], bytes: &mut [u8]) -> (u32, State) {
     let answer = lowest(&begin_refusals(settings, note.len(), bytes.len()));
     if answer != 0 {
-        return (answer, state);
+        return (answer, State::default());
     }
     let end = SETTINGS + note.len();
     let state = State { offset: end as u32, count: 0 };

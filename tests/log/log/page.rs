@@ -1,6 +1,6 @@
 //! The worked log of docs/LOG.md: the page's bytes are the writer's, and the reader reads them.
 
-use super::lender::{Lender, UNBEGUN};
+use super::lender::Lender;
 use super::types::Record;
 use super::{makers, model};
 use crate::failure::{expect, Failure};
@@ -25,7 +25,7 @@ pub fn check(page: &str) -> Result<(), Failure> {
     let page = dump(page);
     let mut lender = Lender::new(true);
     lender.lend(&vec![0; 175]);
-    let (answer, mut state) = lender.begin(UNBEGUN, &settings, note);
+    let (answer, mut state) = lender.begin(&settings, note);
     expect("the answer of begin", answer, 0)?;
     for record in &records {
         let added = lender.add(state, record);

@@ -1,22 +1,25 @@
 //! The labels of the ends of the fields' ranges, in the order in which they are run.
 
-use super::edges::{all_record_edges, all_settings_edges, Edge};
+use super::edges::{record_edges, settings_edges, Edge, KINDS};
 use super::model::{RECORD_FIELDS, SETTINGS_FIELDS};
 
-pub const SETTINGS: &str = "settings at both sides of an end";
-pub const RECORDS: &str = "record at both sides of an end";
-
-fn label(name: &str, (value, allowed): Edge) -> String {
-    format!("{name} {value} {}", if allowed { "accepted" } else { "refused" })
+fn labels(name: &str, edges: Vec<Edge>) -> Vec<String> {
+    let word = |allowed| if allowed { "accepted" } else { "refused" };
+    let label = |&(value, allowed): &Edge| format!("{name} {value} {}", word(allowed));
+    edges.iter().map(label).collect()
 }
 
 pub fn of_settings() -> Vec<String> {
-    let of = |(field, edge)| label(SETTINGS_FIELDS[field], edge);
-    all_settings_edges().into_iter().map(of).collect()
+    let fields = SETTINGS_FIELDS.iter().enumerate();
+    fields.flat_map(|(field, name)| labels(name, settings_edges(field))).collect()
 }
 
 pub fn of_records() -> Vec<String> {
-    let of =
-        |(kind, field, edge)| label(&format!("{} {}", kind as char, RECORD_FIELDS[field]), edge);
-    all_record_edges().into_iter().map(of).collect()
+    let mut all = Vec::new();
+    for kind in KINDS {
+        for (field, name) in RECORD_FIELDS.iter().enumerate() {
+            all.extend(labels(&format!("{} {name}", kind as char), record_edges(kind, field)));
+        }
+    }
+    all
 }

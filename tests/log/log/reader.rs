@@ -1,11 +1,11 @@
 //! The reader: records at any place, settings and note, of good logs, damaged ones and any bytes.
 
-use super::edges::{all_record_edges, all_settings_edges, set_record, set_settings};
+use super::edges::{record_edges, set_record, set_settings, settings_edges, KINDS};
 use super::lender::Lender;
-use super::model;
+use super::model::{self, RECORD_FIELDS, SETTINGS_FIELDS};
 use super::reader_labels as labels;
 use super::types::{Record, State};
-use super::{damage, makers, range_labels};
+use super::{damage, makers};
 use crate::coverage::Coverage;
 use crate::failure::{same, Failure};
 use crate::shared::random::Random;
@@ -79,29 +79,39 @@ impl Reader<'_> {
     }
 
     fn settings_ends(&mut self, r: &mut Random) -> Result<(), Failure> {
-        for (label, (field, (value, allowed))) in all_settings_edges().into_iter().enumerate() {
-            let mut settings = makers::settings(r);
-            set_settings(&mut settings, field, value);
-            let count = r.range(0, 2);
-            let records: Vec<Record> = (0..count).map(|_| makers::any_record(r)).collect();
-            let log = makers::log(&settings, &makers::note(r), &records);
-            self.whole(r, &log)?;
-            if (model::settings(&log).0 == 0) == allowed {
-                self.coverage.hit(range_labels::SETTINGS, label);
+        let mut label = 0;
+        for field in 0..SETTINGS_FIELDS.len() {
+            for (value, allowed) in settings_edges(field) {
+                let mut settings = makers::settings(r);
+                set_settings(&mut settings, field, value);
+                let count = r.range(0, 2);
+                let records: Vec<Record> = (0..count).map(|_| makers::any_record(r)).collect();
+                let log = makers::log(&settings, &makers::note(r), &records);
+                self.whole(r, &log)?;
+                if (model::settings(&log).0 == 0) == allowed {
+                    self.coverage.hit(labels::SETTINGS_EDGES, label);
+                }
+                label += 1;
             }
         }
         Ok(())
     }
 
     fn record_ends(&mut self, r: &mut Random) -> Result<(), Failure> {
-        for (label, (kind, field, (value, allowed))) in all_record_edges().into_iter().enumerate() {
-            let mut record = makers::record(r, kind);
-            set_record(&mut record, field, value);
-            let records = [makers::any_record(r), record, makers::any_record(r)];
-            let log = makers::log(&makers::settings(r), &makers::note(r), &records);
-            self.lender.lend(&log);
-            if (self.read(&log, 1)? == 0) == allowed {
-                self.coverage.hit(range_labels::RECORDS, label);
+        let mut label = 0;
+        for kind in KINDS {
+            for field in 0..RECORD_FIELDS.len() {
+                for (value, allowed) in record_edges(kind, field) {
+                    let mut record = makers::record(r, kind);
+                    set_record(&mut record, field, value);
+                    let records = [makers::any_record(r), record, makers::any_record(r)];
+                    let log = makers::log(&makers::settings(r), &makers::note(r), &records);
+                    self.lender.lend(&log);
+                    if (self.read(&log, 1)? == 0) == allowed {
+                        self.coverage.hit(labels::RECORD_EDGES, label);
+                    }
+                    label += 1;
+                }
             }
         }
         Ok(())

@@ -1,11 +1,11 @@
 //! The writer: each call on both sides; answer, state and all of the lent bytes are compared.
 
-use super::edges::{all_record_edges, all_settings_edges, set_record, set_settings};
-use super::lender::{Lender, ROOM, UNBEGUN};
-use super::model;
+use super::edges::{record_edges, set_record, set_settings, settings_edges, KINDS};
+use super::lender::{Lender, ROOM};
+use super::makers;
+use super::model::{self, RECORD_FIELDS, SETTINGS_FIELDS};
 use super::types::{Record, Settings, State};
 use super::writer_labels as labels;
-use super::{makers, range_labels};
 use crate::coverage::Coverage;
 use crate::failure::{same, same_content, Failure};
 use crate::shared::random::Random;
@@ -32,9 +32,9 @@ impl Writer<'_> {
     /// One begin in a copy of the bytes; gives the model's answer.
     fn begin(&mut self, settings: &Settings, note: &[u8], before: &[u8]) -> Result<u32, Failure> {
         let mut bytes = before.to_vec();
-        let model = model::begin(UNBEGUN, settings, note, &mut bytes);
+        let model = model::begin(settings, note, &mut bytes);
         self.lender.lend(before);
-        let library = self.lender.begin(UNBEGUN, settings, note);
+        let library = self.lender.begin(settings, note);
         let (length, room) = (note.len(), before.len());
         let call = || format!("begin, {settings:?}, a note of {length}, room {room}");
         same(&model, &library, call)?;
@@ -66,12 +66,18 @@ impl Writer<'_> {
     }
 
     fn settings_ends(&mut self, r: &mut Random) -> Result<(), Failure> {
-        for (label, (field, (value, allowed))) in all_settings_edges().into_iter().enumerate() {
-            let mut settings = makers::settings(r);
-            set_settings(&mut settings, field, value);
-            let (note, before) = (makers::bytes(r, 5), makers::bytes(r, 60));
-            if (self.begin(&settings, &note, &before)? == 0) == allowed {
-                self.coverage.hit(range_labels::SETTINGS, label);
+        let mut label = 0;
+        for field in 0..SETTINGS_FIELDS.len() {
+            for (value, allowed) in settings_edges(field) {
+                let mut settings = makers::settings(r);
+                set_settings(&mut settings, field, value);
+                let note = makers::bytes(r, 5);
+                let before = makers::bytes(r, 60);
+                let answer = self.begin(&settings, &note, &before)?;
+                if (answer == 0) == allowed {
+                    self.coverage.hit(labels::SETTINGS_EDGES, label);
+                }
+                label += 1;
             }
         }
         Ok(())
@@ -93,15 +99,22 @@ impl Writer<'_> {
     }
 
     fn record_ends(&mut self, r: &mut Random) -> Result<(), Failure> {
-        for (label, (kind, field, (value, allowed))) in all_record_edges().into_iter().enumerate() {
-            let mut record = makers::record(r, kind);
-            set_record(&mut record, field, value);
-            let state = State { offset: 32 + r.range(0, 9) as u32, count: 2 };
-            let room = model::length(state) as usize + r.pick(&[40, 41, 300]);
-            let mut bytes = makers::bytes(r, room);
-            self.lender.lend(&bytes);
-            if (self.add(state, &record, &mut bytes, true)?.0 == 0) == allowed {
-                self.coverage.hit(range_labels::RECORDS, label);
+        let mut label = 0;
+        for kind in KINDS {
+            for field in 0..RECORD_FIELDS.len() {
+                for (value, allowed) in record_edges(kind, field) {
+                    let mut record = makers::record(r, kind);
+                    set_record(&mut record, field, value);
+                    let state = State { offset: 32 + r.range(0, 9) as u32, count: 2 };
+                    let room = model::length(state) as usize + r.pick(&[40, 41, 300]);
+                    let mut bytes = makers::bytes(r, room);
+                    self.lender.lend(&bytes);
+                    let answer = self.add(state, &record, &mut bytes, true)?.0;
+                    if (answer == 0) == allowed {
+                        self.coverage.hit(labels::RECORD_EDGES, label);
+                    }
+                    label += 1;
+                }
             }
         }
         Ok(())
@@ -156,7 +169,7 @@ impl Writer<'_> {
         let room = 48 + note.len() + 40 * most + r.range(0, 39) as usize;
         let mut bytes = makers::bytes(r, room);
         self.begin(&settings, &note, &bytes)?;
-        let mut state = model::begin(UNBEGUN, &settings, &note, &mut bytes).1;
+        let mut state = model::begin(&settings, &note, &mut bytes).1;
         let mut records = Vec::new();
         for _ in 0..most + 3 {
             let mut record = makers::any_record(r);
@@ -177,7 +190,7 @@ impl Writer<'_> {
         let (settings, note) = (makers::settings(r), makers::note(r));
         let mut bytes = makers::bytes(r, 48 + note.len() + 40 * 100_002);
         self.begin(&settings, &note, &bytes)?;
-        let mut state = model::begin(UNBEGUN, &settings, &note, &mut bytes).1;
+        let mut state = model::begin(&settings, &note, &mut bytes).1;
         let mut records = Vec::new();
         for i in 0..100_001 {
             let record = makers::any_record(r);

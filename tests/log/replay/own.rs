@@ -5,7 +5,7 @@ use super::lender::Lender;
 use super::model::{asked, Replayed};
 use super::runs::{self, Run};
 use crate::failure::{expect, Failure};
-use crate::log::lender::{Lender as Writer, UNBEGUN};
+use crate::log::lender::Lender as Writer;
 use crate::log::types::{Record, Settings, ARRIVAL, DEPARTURE};
 use crate::own::Own;
 use crate::shared::random::Random;
@@ -46,7 +46,7 @@ pub fn run(
     let Run { settings, records } = runs::run(r, kind, 2_000);
     let mut queue = made(r, &settings);
     writer.lend(&vec![0; 48 + 40 * 2 * records.len()]);
-    let mut state = writer.begin(UNBEGUN, &settings, b"").1;
+    let mut state = writer.begin(&settings, b"").1;
     for call in &records {
         for _ in 0..r.pick(&[1, 1, 1, 2]) {
             if let Some(record) = record_of(&mut queue, call) {

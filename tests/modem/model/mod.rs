@@ -14,7 +14,7 @@ mod tick;
 
 pub use arrival::{arrival, decide, scaled, Arriving, Decision};
 pub use departure::departure;
-pub use formed::{conditions, row_sum, well_formed};
+pub use formed::{conditions, row_sum, well_formed, CONDITIONS};
 pub use fresh::fresh;
 pub use refusals::{
     arrival_refusals, departure_refusals, fresh_refusals, row, tick_refusals, Refusals,

@@ -14,7 +14,7 @@ pub fn row(counts: &Counts, flow: u32) -> Row {
 
 /// Refusal 2.
 fn wrong_record(s: &State, row: &Row) -> bool {
-    !conditions(s, row).iter().all(|(_, holds)| *holds)
+    !conditions(s, row).iter().all(|&holds| holds)
 }
 
 /// Refusal 3.

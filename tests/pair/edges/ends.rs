@@ -1,7 +1,8 @@
-//! Ends of ranges in well-formed records.
+//! Ends of ranges in well-formed records, and ends of tables.
 
 use crate::kind::{Call, Side};
 use crate::model::formed::{common_slots, verdict_sum};
+use crate::shared::area::PAGE;
 use crate::shared::coverage::Found;
 use crate::shared::kind::What;
 
@@ -40,5 +41,24 @@ pub fn ends(before: &Side, call: &Call, _after: &Side) -> Found {
         ("counts of 0", sum == 0), ("counts of 2^48", sum == 1 << 48),
         ("counts of 2^48 of the other queue", verdict_sum(other) == 1 << 48),
         ("size 1", size == 1), ("size 65,535", size == 65_535),
+    ]
+}
+
+/// Which end of tables of whole pages an accepted call wrote or read: guarded memory then ends
+/// right beside both of their ends.
+#[rustfmt::skip]
+pub fn whole_pages(before: &Side, call: &Call, after: &Side) -> Found {
+    let slots = before.state.shared.slots;
+    let whole = after.answer < 100 && slots as usize * 4 % PAGE == 0;
+    let (q, now) = (&before.state.queues[call.to], &after.state.queues[call.to]);
+    let wrote = whole && now.count > q.count;
+    let left = whole && now.count < q.count;
+    vec![
+        ("first element taken", wrote && now.tail == 0),
+        ("last element taken", wrote && now.tail + 1 == slots),
+        ("first element linked", wrote && q.count > 0 && q.tail == 0),
+        ("last element linked", wrote && q.count > 0 && q.tail + 1 == slots),
+        ("first element left", left && q.head == 0),
+        ("last element left", left && q.head + 1 == slots),
     ]
 }

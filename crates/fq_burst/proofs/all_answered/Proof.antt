@@ -13,8 +13,7 @@ use Rattle.fq_words.specs.Words.{flows_of}
 use Rattle.fq_words.specs.Words as words
 use Rattle.fq_guarantees.specs.Kept.{Sound}
 use Rattle.fq_burst.specs.Calls.{call_at}
-use Rattle.fq_words.specs.Lent.{Lent, held, state_in}
-use Rattle.fq_burst.specs.Burst.{fq_bursts}
+use Rattle.fq_burst.specs.Burst.{Lent, fq_bursts, held, state_in}
 use Rattle.fq_burst.proofs.Left.{after-long, sound-after, total-after}
 use Rattle.fq_burst.proofs.all_answered.Statement.{statement}
 use Rattle.fq_burst.proofs.all_answered.Tie as tie

@@ -8,8 +8,7 @@ use lib.ListN.{length, length-set}
 use Rattle.bursts.specs.Burst.{burst, done}
 use Rattle.bursts.proofs.Steps.{one_more}
 use Rattle.fq_state.specs.WellFormed.{well_formed}
-use Rattle.fq_words.specs.Lent.{Lent, state_in}
-use Rattle.fq_burst.specs.Burst.{fq_bursts}
+use Rattle.fq_burst.specs.Burst.{Lent, fq_bursts, state_in}
 use Rattle.fq_burst.proofs.Malformed.{malformed-step}
 use Rattle.fq_burst.proofs.all_refused.Statement.{statement}
 use Rattle.fq_burst.proofs.all_refused.Tie as tie

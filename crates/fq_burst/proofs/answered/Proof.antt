@@ -1,16 +1,9 @@
 -- `answered`: by the kind of the call.
 use borrow.Author.Rules.{rules}
 use mathlib.Core.Path.{sym, ◌∙◌}
-use Rattle.fq_words.specs.Lent.{Lent, held}
 use Rattle.fq_burst.proofs.Steps.{arrival-step, departure-small, departure-step, tick-step, unknown-step}
 use Rattle.fq_burst.proofs.answered.Statement.{statement}
 use Rattle.fq_burst.proofs.answered.Tie as tie
-
--- all that is lent
-abbrev all-lent : tie.Start → Lent
-all-lent c =
-    let a = c.args in
-    held a.common.now a.order.now a.flows.now a.deficits.now a.handles.now a.sizes.now
 
 mul-clock-of : tie.Need-overflow-mul-clock-of
 mul-clock-of c = search rules
@@ -129,8 +122,11 @@ returns c =
     let a = t.before.before.before.before.before.before in
     let r = c.before.before.before.before.before.arrive.ensures in
     let e = r.0 in (
-      arrival-step (all-lent a) a.args.calls.now a.args.at t.clock-of.result k.key_of.result t.clock-of.ensures k.key_of.ensures
-          f.if1.true _ _ _ c.wide.ensures e,
+      arrival-step a.args.common.now a.args.order.now a.args.flows.now a.args.deficits.now
+          a.args.handles.now a.args.sizes.now
+          a.args.calls.now a.args.at t.clock-of.result k.key_of.result t.clock-of.ensures k.key_of.ensures
+          f.if1.true _ _ _ _ _ _ _
+          (c.wide.ensures ∙ e.0) e.1 e.2 e.3 e.4 e.5 e.6,
       r.1,
     )
 
@@ -155,7 +151,7 @@ word-requires c κs =
     let small =
     departure-small a.args.common.now a.args.order.now a.args.flows.now a.args.deficits.now
     a.args.handles.now a.args.sizes.now t.clock-of.result in
-    let e = c.before.before.depart.ensures.0 in (rw e.0 small.0, rw e.2 small.1, rw e.2 small.2)
+    let e = c.before.before.depart.ensures.0 in (rw e.0 small.0, rw e.6 small.1, rw e.6 small.2)
 
 same-length-3 : tie.Need-same-length-3
 same-length-3 c = search rules
@@ -170,8 +166,11 @@ returns-2 c =
     let a = t.before.before.before.before.before.before in
     let r = c.before.before.before.depart.ensures in
     let e = r.0 in (
-      departure-step (all-lent a) a.args.calls.now a.args.at t.clock-of.result t.clock-of.ensures f.before.if1.false
-          f.if2.true _ _ (rw (e.0, e.2) at c.word.ensures) e.1,
+      departure-step a.args.common.now a.args.order.now a.args.flows.now a.args.deficits.now
+          a.args.handles.now a.args.sizes.now
+          a.args.calls.now a.args.at t.clock-of.result t.clock-of.ensures f.before.if1.false
+          f.if2.true _ _ _ _ _ _
+          (rw (e.0, e.6) at c.word.ensures) e.1 e.2 e.3 e.4 e.5,
       r.1,
     )
 
@@ -188,16 +187,22 @@ returns-3 c =
     let f = c.before.before.before.before.before.before in
     let t = f.before.before.before.before in
     let a = t.before.before.before.before.before.before in
-    let r = c.before.update.ensures in (
-      tick-step (all-lent a) a.args.calls.now a.args.at t.clock-of.result t.clock-of.ensures f.before.before.if1.false
-          f.before.if2.false f.if3.true _ _ _ c.wide2.ensures (r.0 a.args.handles.now a.args.sizes.now),
+    let r = c.before.update.ensures in
+    let e = r.0 in (
+      tick-step a.args.common.now a.args.order.now a.args.flows.now a.args.deficits.now a.args.handles.now
+          a.args.sizes.now
+          a.args.calls.now a.args.at t.clock-of.result t.clock-of.ensures f.before.before.if1.false
+          f.before.if2.false f.if3.true _ _ _
+          (c.wide2.ensures ∙ e.0) e.1 e.2,
       a.requires.1.0 ∙ sym r.1,
     )
 
 returns-4 : tie.Need-returns-4
 returns-4 c =
     let a = c.before.before.before.before.before.before.before.before.before.before in (
-      unknown-step (all-lent a) a.args.calls.now a.args.at c.before.before.if1.false c.before.if2.false c.if3.false,
+      unknown-step a.args.common.now a.args.order.now a.args.flows.now a.args.deficits.now
+          a.args.handles.now a.args.sizes.now
+          a.args.calls.now a.args.at c.before.before.if1.false c.before.if2.false c.if3.false,
       a.requires.1.0,
     )
 

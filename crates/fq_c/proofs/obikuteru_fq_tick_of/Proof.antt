@@ -1,53 +1,54 @@
 -- `obikuteru_fq_tick_of`: refused by 2, or as the call on a well-formed record.
-use mathlib.Core.Path.{◌≡◌, sym, ◌∙◌}
+use mathlib.Core.Path.{◌≡◌, refl, sym, ◌∙◌}
 use mathlib.Core.Bool.{true, false}
-use mathlib.Core.List.{[]}
 use borrow.Author.Rules.{rules}
 use borrow.Author.Tests.{not-false, not-true}
+use Rattle.fq_state.specs.State.{State}
 use Rattle.fq_state.specs.WellFormed.{well_formed}
-use Rattle.fq_rules.specs.Calls.{Request, ask_tick}
-use Rattle.fq_words.specs.Lent.{Lent, held, state_in}
-use Rattle.fq_words.proofs.Returned.{malformed}
+use Rattle.fq_rules.proofs.Malformed.{malformed-tick}
+use Rattle.fq_words.specs.Words.{lent}
 use Rattle.fq_c.proofs.obikuteru_fq_tick_of.Statement.{statement}
 use Rattle.fq_c.proofs.obikuteru_fq_tick_of.Tie as tie
 
-well-formed-requires : tie.Need-well-formed-requires
-well-formed-requires c κs = search rules
+fits-requires : tie.Need-fits-requires
+fits-requires c κs = search rules
 
-abbrev begun : tie.After-well-formed → tie.Start
-begun c = c.before.before.before
+abbrev begun : tie.After-fits2 → tie.Start
+begun c = c.before.before.before.before
 
--- all that is lent, what is asked, and what the test of the record says
-abbrev all-lent : tie.Start → Lent
-all-lent c =
-    let a = c.args in held a.common.now a.order.now a.flows.now a.deficits.now [] []
+-- the record as it is lent, and what its test says
+abbrev given : tie.After-fits2 → State
+given c =
+    let a = (begun c).args in lent a.common.now a.order.now a.deficits.now a.flows.now
 
-abbrev request : tie.Start → Request
-request c =
-    let a = c.args in ask_tick a.clock
+malformed : (c : tie.Then1) → well_formed (given c.before) ≡ false
+malformed c = sym c.before.fits2.ensures.0 ∙ not-true _ c.if1.true
 
-not-formed : (c : tie.Then1) → well_formed (state_in (all-lent (begun c.before))) ≡ false
-not-formed c = sym c.before.well-formed-2.ensures ∙ not-true _ c.if1.true
+formed : (c : tie.Else1) → well_formed (given c.before) ≡ true
+formed c = sym c.before.fits2.ensures.0 ∙ not-false _ c.if1.false
 
-formed : (c : tie.Else1) → well_formed (state_in (all-lent (begun c.before))) ≡ true
-formed c = sym c.before.well-formed-2.ensures ∙ not-false _ c.if1.false
+refused-requires : tie.Need-refused-requires
+refused-requires c κs = search rules
 
 returns : tie.Need-returns
 returns c =
-    let b = begun c.before in malformed (all-lent b) (request b) (not-formed c)
+    let t = c.before in
+    let a = (begun t.before).args in
+    rw (malformed-tick (given t.before) a.clock (malformed t)) (c.refused.ensures, refl, refl)
 
 update-requires : tie.Need-update-requires
 update-requires c κs =
     let e = c.before.before in formed e
 
 returns-2 : tie.Need-returns-2
-returns-2 c = c.update.ensures.0 [] []
+returns-2 c = c.update.ensures.0
 
 pub obikuteru-fq-tick-of-spec : {M : Type 1} → statement M
 obikuteru-fq-tick-of-spec =
     tie.close
     (tie.spec
-    well-formed-requires
+    fits-requires
+    refused-requires
     returns
     update-requires
     returns-2)

@@ -1,5 +1,5 @@
 -- `obikuteru_log_begin`: the library's `begin`, in words and bytes.
-use Rattle.log_c.proofs.Answered.{begun, none-begun}
+use Rattle.log_c.proofs.Answered.{written}
 use borrow.Author.Rules.{rules}
 use Rattle.log_c.proofs.obikuteru_log_begin.Statement.{statement}
 use Rattle.log_c.proofs.obikuteru_log_begin.Tie as tie
@@ -13,38 +13,14 @@ get-header-requires c κs = search rules
 begin-requires : tie.Need-begin-requires
 begin-requires c κs = search rules
 
-enum_told : tie.Need-enum-told
-enum_told c = search rules
-
-enum-known-accepted : tie.Need-enum-known-accepted
-enum-known-accepted c = search rules
-
-number-requires : tie.Need-number-requires
-number-requires c κs = search rules
-
-add-result : tie.Need-overflow-add-result
-add-result c = search rules
+code-requires : tie.Need-code-requires
+code-requires c κs = search rules
 
 same_length : tie.Need-same-length
 same_length c = search rules
 
 returns : tie.Need-returns
-returns c =
-    let s = c.before.before.before.before.before.before.before.before.before.before.before.before.before.before.args in
-    let b = c.before.before.before.before.before.before.begin in
-    begun b.result s.words.now (rw c.before.before.before.before.before.before.before.before.get-header.ensures at b.ensures)
-    c.before.enum_told.given.1
-
-same-length-2 : tie.Need-same-length-2
-same-length-2 c = search rules
-
-returns-2 : tie.Need-returns-2
-returns-2 c =
-    let s = c.before.before.before.before.before.before.before.before.before.before.before.before.before.before.before.args in
-    let b = c.before.before.before.before.before.before.before.begin in
-    none-begun b.result s.words.now
-    (rw c.before.before.before.before.before.before.before.before.before.get-header.ensures at b.ensures)
-    c.before.before.accepted.given.1 c.number.ensures.0
+returns c = written c.before.before.before.before.before.begin.result (rw c.before.before.before.before.before.before.before.get-header.ensures at c.before.before.before.before.before.begin.ensures) c.code.ensures
 
 pub obikuteru-log-begin-spec : {M : Type 1} → statement M
 obikuteru-log-begin-spec =
@@ -53,11 +29,6 @@ obikuteru-log-begin-spec =
     thirty-two-requires
     get-header-requires
     begin-requires
-    enum_told
-    enum-known-accepted
-    number-requires
-    add-result
+    code-requires
     same_length
-    returns
-    same-length-2
-    returns-2)
+    returns)

@@ -1,17 +1,24 @@
 -- `all_single`: after i calls the burst of i calls is done.
 use Rattle.modem_burst.proofs.all_single.Statement.{statement}
 use Rattle.modem_burst.proofs.all_single.Tie as tie
-use mathlib.Core.Path.{◌≡◌, refl}
-use Prim.Native.Nat.{◌-◌}
+use mathlib.Core.Path.{◌≡◌, ap, refl, ◌∙◌}
+use Prim.Native.Nat.{◌-◌, ◌*◌, ◌≤◌}
 use native.Mathlib.Omega.{arith}
-use lib.ListN.{length}
-use Rattle.bursts.specs.Burst.{burst}
-use Rattle.modem_words.specs.Lent.{lent}
-use Rattle.modem_burst.proofs.Kept.{Going, goes_on}
+use lib.ListN.{length, length-set}
+use Rattle.bursts.specs.Burst.{burst, done}
+use Rattle.bursts.proofs.Steps.{one_more}
+use Rattle.modem_burst.specs.Calls.{call_at}
+use Rattle.modem_words.specs.Lent.{Lent, lent}
+use Rattle.modem_burst.specs.Burst.{flow_bursts}
+use Rattle.modem_burst.proofs.Kept.{after-long}
 
 abbrev invariant-loop : tie.invariant-loop
 invariant-loop words₀ counts₀ flow handles₀ sizes₀ calls answers₀ i₀ words counts handles sizes answers i =
-    Going flow (lent words₀ counts₀ handles₀ sizes₀) calls answers₀ (lent words counts handles sizes) answers i
+    (i ≤ length answers₀)
+    × (length answers ≡ length answers₀)
+    × (length handles ≡ length handles₀)
+    × (length sizes ≡ length sizes₀)
+    × (done (flow_bursts flow) (lent words counts handles sizes) answers ≡ burst (flow_bursts flow) (lent words₀ counts₀ handles₀ sizes₀) calls answers₀ i)
 
 abbrev decreases-loop : tie.decreases-loop
 decreases-loop words₀ counts₀ flow handles₀ sizes₀ calls answers₀ i₀ words counts handles sizes answers i = length answers₀ - i
@@ -40,10 +47,19 @@ loop-less c = omega arith
 
 loop-again : tie.Need-loop-preserved invariant-loop decreases-loop
 loop-again c =
-    let a = c.before.before.before.before.before.before.before.before.before.before.before.before.before.before.before.args in
+    let a = c.before.before.before.before.before.before.before.before.before.before.before.before.before.before.before in
     let l = c.before.before.before.before.before.before.before.before.before.before.loop in
     let k = c.before.before.before.before.single in
-    goes_on a.flow (lent a.words.now a.counts.now a.handles.now a.sizes.now) a.calls.now a.answers.now (lent l.words l.counts l.handles l.sizes) _ l.answers l.i k.result (omega (arith, c.before.before.before.before.before.before.before.before.before.loop-test.true)) l.invariant k.ensures
+    let flow = a.args.flow in
+    let calls = a.args.calls.now in
+    let given = lent l.words l.counts l.handles l.sizes in
+    let long = after-long flow given (call_at calls (6 * l.i)) in (
+      omega (arith, l.invariant.1, c.before.before.before.before.before.before.before.before.before.loop-test.true),
+      length-set l.answers l.i k.result ∙ l.invariant.1,
+      ap (λ (q : Lent). length q.handles) k.ensures.1 ∙ long.0 ∙ l.invariant.2,
+      ap (λ (q : Lent). length q.sizes) k.ensures.1 ∙ long.1 ∙ l.invariant.3,
+      one_more (flow_bursts flow) _ calls a.args.answers.now l.i given l.answers k.result _ l.invariant.4 (k.ensures.0, k.ensures.1),
+    )
 
 same_length : tie.Need-same-length invariant-loop decreases-loop
 same_length c = c.before.loop.invariant.2

@@ -2,7 +2,7 @@
 use borrow.Author.Rules.{rules}
 use Rattle.modem_burst.proofs.single_tick.Statement.{statement}
 use Rattle.modem_burst.proofs.single_tick.Tie as tie
-use mathlib.Core.Path.{◌≡◌, refl, sym, ◌∙◌}
+use mathlib.Core.Path.{◌≡◌, sym, ◌∙◌}
 use mathlib.Core.Bool.{true, not, ◌&&◌}
 use Prim.Native.Nat.{◌≤◌}
 use borrow.Author.Tests.{ltb-false, not-true}
@@ -11,10 +11,9 @@ use Rattle.modem_flow.specs.State.{well_formed}
 use Rattle.modem_flow.proofs.Facts.{record-formed, row_fits}
 use Rattle.modem.specs.Calls.{flow_refused, tick}
 use Rattle.modem.specs.Counts.{row_of}
-use Rattle.modem.proofs.Replies.{tick-keeps}
-use Rattle.modem_steps.proofs.Entries.{lent-as}
 use Rattle.modem_words.specs.Words.{state_of}
 use Rattle.modem_burst.proofs.Kept.{within}
+use Rattle.modem_burst.proofs.Within.{tick-uncounted}
 
 both : (c : tie.Then1) → let a = c.before.before.before.args in not (flow_refused a.flow) && well_formed (state_of a.w.now) (row_of a.counts.now a.flow) ≡ true
 both c = sym c.before.record-fits.ensures.0 ∙ c.if1.true
@@ -41,8 +40,7 @@ returns c =
     let s = state_of a.w.now in
     let row = row_of a.counts.now a.flow in
     let e = rw c.before.wide.ensures at (c.tick.ensures row (row_fits _ _ (formed c.before.before.before))) in
-    rw (within a.flow s a.counts.now _ (low c.before.before.before))
-    (e.0, lent-as e.1 (tick-keeps s row a.clock.0 a.credits a.counts.now a.flow) refl refl)
+    rw (within a.flow s a.counts.now _ (low c.before.before.before)) (e.0, e.1, tick-uncounted a.counts.now a.flow s row a.clock a.credits)
 
 lent-tick-requires : tie.Need-lent-tick-requires
 lent-tick-requires c κs = search rules
@@ -51,7 +49,7 @@ wide-requires-2 : tie.Need-wide-requires-2
 wide-requires-2 c κs = search rules
 
 returns-2 : tie.Need-returns-2
-returns-2 c = let e = c.before.lent-tick.ensures in (c.wide2.ensures ∙ e.0, e.1)
+returns-2 c = search rules
 
 pub single-tick-spec : {M : Type 1} → statement M
 single-tick-spec =

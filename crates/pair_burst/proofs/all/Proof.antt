@@ -9,8 +9,7 @@ use lib.ListN.{length, length-set}
 use Rattle.bursts.specs.Burst.{burst, done}
 use Rattle.bursts.proofs.Steps.{one_more, ready-next}
 use Rattle.pair_burst.specs.Calls.{call_at}
-use Rattle.pair_words.specs.Lent.{Lent}
-use Rattle.pair_burst.specs.Burst.{pair_bursts}
+use Rattle.pair_burst.specs.Burst.{Lent, pair_bursts}
 use Rattle.pair_burst.specs.Fitting.{Ready, lent_both}
 use Rattle.pair_burst.proofs.Kept.{after-long}
 use Rattle.pair_burst.proofs.Readiness.{ready-kept, ready-one}

@@ -1,15 +1,13 @@
 -- `obikuteru_pair_departure_of`: refusals 2 and 3; all others, and the packet, are the call's on well-formed records.
 use borrow.Author.Rules.{rules}
 use borrow.Author.Tests.{eqb-true, not-false, not-true}
-use mathlib.Core.Path.{◌≡◌, ap, refl, sym, ◌∙◌}
+use mathlib.Core.Path.{◌≡◌, refl, sym, ◌∙◌}
 use mathlib.Core.Bool.{true, ◌&&◌}
 use lib.Dec.{eqb}
 use lib.ListN.{length}
 use Rattle.laws.proofs.Tests.{and_left, and_right}
 use Rattle.pair_rules.specs.WellFormed.{well_formed}
 use Rattle.pair_words.specs.Words.{pair_of, shared_of, state_of, which_of}
-use Rattle.refusals.specs.Codes.{code_of, packet_of}
-use Rattle.pair_words.proofs.Lent.{departure-gives, departure-refused}
 use Rattle.pair_steps.proofs.Replies.{departure-malformed, departure-tables}
 use Rattle.pair_c.proofs.obikuteru_pair_departure_of.Statement.{statement}
 use Rattle.pair_c.proofs.obikuteru_pair_departure_of.Tie as tie
@@ -28,9 +26,8 @@ returns : tie.Need-returns
 returns c =
     let a = c.before.before.before.before.before.before.before.args in
     let p = pair_of a.second a.shared.now a.own.now a.other.now in
-    let l = departure-refused a.second a.shared.now a.own.now a.other.now a.handles.now a.sizes.now a.clock 2
-    (departure-malformed p (which_of a.second) a.handles.now a.sizes.now a.clock
-    (sym c.before.records-fit.ensures.0 ∙ not-true _ c.if1.true)) in (ap code_of l.0, l.1, ap packet_of l.0)
+    rw (departure-malformed p (which_of a.second) a.handles.now a.sizes.now a.clock
+    (sym c.before.records-fit.ensures.0 ∙ not-true _ c.if1.true)) (refl, refl, refl, refl, refl)
 
 element-copy-out-slots : tie.Need-element-copy-out-slots
 element-copy-out-slots c = search rules
@@ -40,9 +37,8 @@ unfolding shared_of
 returns-2 c =
     let e1 = c.before.before in
     let a = (at-start e1).args in
-    let l = departure-refused a.second a.shared.now a.own.now a.other.now a.handles.now a.sizes.now a.clock 3
-    (departure-tables (which_of a.second) (shared_of a.shared.now) (state_of a.own.now) (state_of a.other.now)
-    a.handles.now a.sizes.now a.clock (formed e1) c.if2.true) in (ap code_of l.0, l.1, ap packet_of l.0)
+    rw (departure-tables (which_of a.second) (shared_of a.shared.now) (state_of a.own.now) (state_of a.other.now)
+    a.handles.now a.sizes.now a.clock (formed e1) c.if2.true) (refl, refl, refl, refl, refl)
 
 depart-requires : tie.Need-depart-requires
 unfolding shared_of
@@ -63,12 +59,7 @@ same_length : tie.Need-same-length
 same_length c = search rules
 
 returns-3 : tie.Need-returns-3
-returns-3 c =
-    let at-depart = c.before.before in
-    let a = (at-start at-depart.before.before.before.before.before.before.before).args in
-    let e = at-depart.depart.ensures in
-    let g = departure-gives a.second a.shared.now a.own.now a.other.now a.handles.now a.sizes.now a.clock _ _ _
-    e.1 e.2 e.3 in (e.0 ∙ ap code_of g.0, g.1, e.4 ∙ ap packet_of g.0)
+returns-3 c = search rules
 
 pub obikuteru-pair-departure-of-spec : {M : Type 1} → statement M
 obikuteru-pair-departure-of-spec =

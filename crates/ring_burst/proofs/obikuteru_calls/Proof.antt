@@ -1,4 +1,5 @@
 -- `obikuteru_calls`: both ways are the burst.
+use borrow.Author.Rules.{rules}
 use Rattle.ring_burst.proofs.obikuteru_calls.Statement.{statement}
 use Rattle.ring_burst.proofs.obikuteru_calls.Tie as tie
 use mathlib.Core.Path.{◌≡◌, refl}
@@ -23,7 +24,7 @@ returns c =
     let e = not-true (fits ring_bursts a.args.calls.now a.args.answers.now) c.if1.true in rw e (refl, refl)
 
 ready-requires : tie.Need-ready-requires
-ready-requires c κs = tt
+ready-requires c κs = search rules
 
 all-known-requires : tie.Need-all-known-requires
 all-known-requires c κs =
@@ -31,13 +32,13 @@ all-known-requires c κs =
     (((q.0, q.1, q.2, q.3), q.4), six c.before.before.before.before.before.before.before)
 
 same_length : tie.Need-same-length
-same_length c = c.before.before.before.before.before.before.all_Known.auto.1.0
+same_length c = search rules
 
 same-length-2 : tie.Need-same-length-2
-same-length-2 c = c.before.before.before.before.before.before.all_Known.auto.1.1.0
+same-length-2 c = search rules
 
 same-length-3 : tie.Need-same-length-3
-same-length-3 c = c.before.before.before.before.before.before.all_Known.auto.1.1.1.1.0
+same-length-3 c = search rules
 
 returns-2 : tie.Need-returns-2
 returns-2 c = rw (fit c.before.before.before.before.before.before.before.before.before.before.before.before.before.before) (refl, c.before.before.before.before.before.before.all_Known.ensures)
@@ -46,13 +47,13 @@ all-single-requires : tie.Need-all-single-requires
 all-single-requires c κs = six c.before.before.before.before.before.before.before
 
 same-length-4 : tie.Need-same-length-4
-same-length-4 c = c.before.before.before.before.before.before.all-single.auto.1.0
+same-length-4 c = search rules
 
 same-length-5 : tie.Need-same-length-5
-same-length-5 c = c.before.before.before.before.before.before.all-single.auto.1.1.0
+same-length-5 c = search rules
 
 same-length-6 : tie.Need-same-length-6
-same-length-6 c = c.before.before.before.before.before.before.all-single.auto.1.1.1.1.0
+same-length-6 c = search rules
 
 returns-3 : tie.Need-returns-3
 returns-3 c = rw (fit c.before.before.before.before.before.before.before.before.before.before.before.before.before.before) (refl, c.before.before.before.before.before.before.all-single.ensures)

@@ -22,10 +22,10 @@ room : (c : tie.Else1) → total (state_of c.before.before.before.before.args.w.
 room c = (facts _ (formed c)).total-high
 
 held-requires : tie.Need-held-requires
-held-requires c κs = tt
+held-requires c κs = search rules
 
 obikuteru-well-formed-requires : tie.Need-obikuteru-well-formed-requires
-obikuteru-well-formed-requires c κs = tt
+obikuteru-well-formed-requires c κs = search rules
 
 returns : tie.Need-returns
 returns c = λ e. absurd (false≢true e)

@@ -7,11 +7,10 @@ use Rattle.fq_state.specs.WellFormed.{well_formed}
 use Rattle.fq_words.specs.Words.{state_of}
 use Rattle.fq_state.proofs.Facts.{common-fits, passes}
 use Rattle.fq_rules.specs.Answer.{arrival_answer}
-use Rattle.fq_rules.specs.Calls.{Request, ask_arrival}
-use Rattle.fq_words.specs.Lent.{Lent, held}
+use Rattle.fq_words.proofs.Kept.{arrival-kept}
+use Rattle.fq_words.proofs.Returned.{accepted, not-accepted}
 use Rattle.fq_words.proofs.Words.{length-flows}
 use borrow.Author.Rules.{rules}
-use Rattle.fq_steps.proofs.Answering.{kept_out, taken_in}
 use Rattle.fq_steps.proofs.Noting.{arrival-low, arrival-noted}
 use Rattle.fq_steps.proofs.Stays.{arrival-stays}
 use Rattle.fq_steps.proofs.entering.arrive.Statement.{statement}
@@ -25,16 +24,6 @@ decode-requires c κs = search rules
 
 decode-lists-requires : tie.Need-decode-lists-requires
 decode-lists-requires c κs = search rules
-
--- all that is lent, and what is asked
-abbrev all-lent : tie.Start → Lent
-all-lent c =
-    let a = c.args in
-    held a.common.now a.order.now a.flows.now a.deficits.now a.handles.now a.sizes.now
-
-abbrev request : tie.Start → Request
-request c =
-    let a = c.args in ask_arrival a.clock a.key.now a.handle a.size a.ecn a.u
 
 -- the record as it is lent
 abbrev given : tie.After-decode-lists → State
@@ -126,13 +115,15 @@ returns c =
     let a = start.args in
     let e = k.arrival-of.ensures a.key.now f.flow-of.ensures.0 in
     let given' = sym e.0 ∙ ap arrival_answer c.before.before.answer.given.1 in
+    let same = arrival-kept _ _ _ _ _ _ _ _ _ given' in
+    let g =
+    not-accepted _ _ _ _ a.common.now a.order.now a.deficits.now a.flows.now _ _ _
+    z.sized2.ensures e.1 _ _ y.sized.ensures _ given' same c.refused.ensures in
     let counts =
     arrival-noted (given l) (formed l) (length-flows 64 a.flows.now) _ _ _ _ start.requires.1.0 n.note.ensures _ _ _ _ _ _ _
-    f.flow-of.ensures.0 f.flow-of.ensures.1 (ap (λ (s : State). s.flows) e.1) in (
-      kept_out (all-lent start) (request start) _ _ d.decode.ensures l.decode-lists.ensures _ _ _ _ _ _ _ _
-          z.sized2.ensures e.1 e.2 e.3 y.sized.ensures _ given' c.refused.ensures,
-      counts,
-    )
+    f.flow-of.ensures.0 f.flow-of.ensures.1 (ap (λ (s : State). s.flows) e.1) in
+    rw (← d.decode.ensures, ← l.decode-lists.ensures)
+    ((g.code_is, g.common-is, g.order_is, g.flows-are, g.deficits-are, e.2, e.3), counts)
 
 same-length-3 : tie.Need-same-length-3
 same-length-3 c = search rules
@@ -153,13 +144,14 @@ returns-2 c =
     let a = start.args in
     let e = k.arrival-of.ensures a.key.now f.flow-of.ensures.0 in
     let told = sym e.0 ∙ ap arrival_answer w.before.before.before.answer2.given.1 in
+    let g =
+    accepted _ _ _ _ a.common.now a.order.now a.deficits.now a.flows.now _ _ _
+    z.sized2.ensures e.1 _ _ told refl c.numbered.ensures w.write-arrived.ensures in
     let counts =
     arrival-noted (given l) (formed l) (length-flows 64 a.flows.now) _ _ _ _ start.requires.1.0 n.note.ensures _ _ _ _ _ _ _
-    f.flow-of.ensures.0 f.flow-of.ensures.1 (ap (λ (s : State). s.flows) e.1) in (
-      taken_in (all-lent start) (request start) _ _ d.decode.ensures l.decode-lists.ensures _ _ _ _ _ _ _ _
-          z.sized2.ensures e.1 e.2 e.3 _ _ told refl c.numbered.ensures w.write-arrived.ensures,
-      counts,
-    )
+    f.flow-of.ensures.0 f.flow-of.ensures.1 (ap (λ (s : State). s.flows) e.1) in
+    rw (← d.decode.ensures, ← l.decode-lists.ensures)
+    ((g.code_is, g.common-is, g.order_is, g.flows-are, g.deficits-are, e.2, e.3), counts)
 
 pub arrive-spec : {M : Type 1} → statement M
 arrive-spec =

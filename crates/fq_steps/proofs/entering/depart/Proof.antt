@@ -5,12 +5,10 @@ use Rattle.fq_state.specs.State.{State}
 use Rattle.fq_state.specs.WellFormed.{well_formed}
 use Rattle.fq_words.specs.Words.{state_of}
 use Rattle.fq_rules.specs.Answer.{departed}
-use Rattle.fq_rules.specs.Calls.{Request, ask_departure}
-use Rattle.fq_words.specs.Lent.{Lent, held}
-use Rattle.fq_words.proofs.Returned.{told-no, told-yes}
+use Rattle.fq_words.proofs.Kept.{departure-kept}
+use Rattle.fq_words.proofs.Returned.{accepted, not-accepted, told-no, told-yes}
 use Rattle.fq_words.proofs.Words.{length-flows}
 use borrow.Author.Rules.{rules}
-use Rattle.fq_steps.proofs.Answering.{kept_out, packet-is, taken_in}
 use Rattle.fq_steps.proofs.Noting.{departure-low, departure-noted}
 use Rattle.fq_steps.proofs.Stays.{departure-stays}
 use Rattle.fq_steps.proofs.entering.depart.Statement.{statement}
@@ -24,15 +22,6 @@ decode-requires c κs = search rules
 
 decode-lists-requires : tie.Need-decode-lists-requires
 decode-lists-requires c κs = search rules
-
--- all that is lent, and what is asked
-abbrev all-lent : tie.Start → Lent
-all-lent c =
-    let a = c.args in
-    held a.common.now a.order.now a.flows.now a.deficits.now a.handles.now a.sizes.now
-
-abbrev request : tie.Start → Request
-request c = ask_departure c.args.clock
 
 -- the record as it is lent
 abbrev given : tie.After-decode-lists → State
@@ -100,14 +89,15 @@ returns c =
     let e = k.departure-of.ensures.0 in
     let given' = sym e.0 ∙ told-no r.accepted _ (departed r.flow r.handle r.size)
     c.before.before.accepted.given.1 in
+    let same = departure-kept _ _ _ _ _ given' in
     let g =
-    kept_out (all-lent start) (request start) _ _ d.decode.ensures l.decode-lists.ensures _ _ _ _ _ _ _ _
-    z.sized2.ensures e.4 refl e.5 y.sized.ensures _ given' c.refused.ensures in
+    not-accepted _ _ _ _ a.common.now a.order.now a.deficits.now a.flows.now _ _ _
+    z.sized2.ensures e.4 _ _ y.sized.ensures _ given' same c.refused.ensures in
     let counts =
     departure-noted (given l) (formed l) (length-flows 64 a.flows.now) _ _ _ _ start.requires.1 n.note.ensures _ _ _ e.1
     k.departure-of.ensures.1 (ap (λ (s : State). s.flows) e.4) in
-    let packet = packet-is (all-lent start) (request start) _ _ d.decode.ensures l.decode-lists.ensures _ _ _ e.1 e.2 e.3 in
-    ((g.0, g.1, packet), counts)
+    rw (← d.decode.ensures, ← l.decode-lists.ensures)
+    ((g.code_is, g.common-is, g.order_is, g.flows-are, g.deficits-are, e.5, rw (e.1, e.2, e.3)), counts)
 
 same-length-2 : tie.Need-same-length-2
 same-length-2 c = search rules
@@ -126,13 +116,13 @@ returns-2 c =
     let e = k.departure-of.ensures.0 in
     let told = sym e.0 ∙ told-yes r.accepted (departed r.flow r.handle r.size) t.enum_told.given.1 in
     let g =
-    taken_in (all-lent start) (request start) _ _ d.decode.ensures l.decode-lists.ensures _ _ _ _ _ _ _ _
-    z.sized2.ensures e.4 refl e.5 _ _ told refl refl c.write-left.ensures in
+    accepted _ _ _ _ a.common.now a.order.now a.deficits.now a.flows.now _ _ _
+    z.sized2.ensures e.4 _ _ told refl refl c.write-left.ensures in
     let counts =
     departure-noted (given l) (formed l) (length-flows 64 a.flows.now) _ _ _ _ start.requires.1 n.note.ensures _ _ _ e.1
     k.departure-of.ensures.1 (ap (λ (s : State). s.flows) e.4) in
-    let packet = packet-is (all-lent start) (request start) _ _ d.decode.ensures l.decode-lists.ensures _ _ _ e.1 e.2 e.3 in
-    ((g.0, g.1, packet), counts)
+    rw (← d.decode.ensures, ← l.decode-lists.ensures)
+    ((g.code_is, g.common-is, g.order_is, g.flows-are, g.deficits-are, e.5, rw (e.1, e.2, e.3)), counts)
 
 pub depart-spec : {M : Type 1} → statement M
 depart-spec =

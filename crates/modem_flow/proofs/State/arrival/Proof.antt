@@ -15,9 +15,6 @@ check-arrival-requires c κs = search rules
 enum-known-checked : tie.Need-enum-known-checked
 enum-known-checked c = search rules
 
-answered-requires : tie.Need-answered-requires
-answered-requires c κs = search rules
-
 enum_told : tie.Need-enum-told
 enum_told c = search rules
 
@@ -48,12 +45,10 @@ arrived-requires : tie.Need-arrived-requires
 arrived-requires c κs =
     let k = known c.before.before.before.before.before.before.before.before.before in (k.good, k.size-high)
 
-answered-requires-2 : tie.Need-answered-requires-2
-answered-requires-2 c κs = search rules
-
 returns : tie.Need-returns
 returns c =
-    rw c.answered.ensures (arrival-refused _ _ _ _ _ _ _ _ _ _ c.before.before.checked.given.1 c.before.before.before.before.check-arrival.ensures)
+    let k = c.before.before.before in
+    arrival-refused _ _ _ _ _ _ _ _ _ _ c.before.checked.given.1 k.check-arrival.ensures
 
 same_length : tie.Need-same-length
 same_length c = search rules
@@ -63,13 +58,16 @@ same-length-2 c = search rules
 
 returns-2 : tie.Need-returns-2
 returns-2 c =
-    rw c.answered2.ensures
-    (arrival-decided _ _ _ _ _ _ _ _ _ _ _ _ _
-    c.before.before.before.before.before.before.before.before.before.before.before.enum_told.given.1
-    c.before.before.before.before.before.before.before.before.before.before.before.before.before.check-arrival.ensures
-    c.before.before.before.before.before.before.before.before.before.before.decide.ensures
-    c.before.arrived.ensures
-    c.before.before.before.before.before.before.store.ensures)
+    let p = c.before.before.before.before.before in
+    let r = p.before.before.before.before in
+    let e = r.before in
+    let w = e.before.before in
+    arrival-decided _ _ _ _ _ _ _ _ _ _ _ _ _
+    e.enum_told.given.1
+    w.check-arrival.ensures
+    r.decide.ensures
+    c.arrived.ensures
+    p.store.ensures
 
 pub arrival-spec : {M : Type 1} → statement M
 arrival-spec =
@@ -77,13 +75,11 @@ arrival-spec =
     (tie.spec
     check-arrival-requires
     enum-known-checked
-    answered-requires
     enum_told
     decide-requires
     cast-store
     store-requires
     arrived-requires
-    answered-requires-2
     returns
     same_length
     same-length-2

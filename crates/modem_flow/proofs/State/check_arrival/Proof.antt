@@ -43,45 +43,36 @@ returns-3 : tie.Need-returns-3
 unfolding arrival_refusal
 returns-3 c = simp (good c.before, c.if3.true)
 
-wrong-clock-requires : tie.Need-wrong-clock-requires
-wrong-clock-requires c κs = search rules
-
 returns-4 : tie.Need-returns-4
 unfolding arrival_refusal
-returns-4 c = simp (good c.before.before.before, c.before.before.if3.false, sym c.before.wrong-clock.ensures ∙ c.if4.true)
-
-wrong-size-requires : tie.Need-wrong-size-requires
-wrong-size-requires c κs = search rules
+returns-4 c =
+    let e3 = c.before.before.before.before in simp (good e3.before, e3.if3.false, c.if4.true)
 
 returns-5 : tie.Need-returns-5
 unfolding arrival_refusal
 returns-5 c =
-    simp (good c.before.before.before.before.before, c.before.before.before.before.if3.false, sym c.before.before.before.wrong-clock.ensures ∙ c.before.before.if4.false, sym c.before.wrong_size.ensures ∙ c.if5.true)
+    let e4 = c.before.before.before in
+    let e3 = e4.before.before.before.before in simp (good e3.before, e3.if3.false, e4.if4.false, c.if5.true)
 
 returns-6 : tie.Need-returns-6
 unfolding arrival_refusal
 returns-6 c =
-    let size = sym c.before.before.wrong_size.ensures ∙ c.before.if5.false in
-    simp (good c.before.before.before.before.before.before, c.before.before.before.before.before.if3.false, sym c.before.before.before.before.wrong-clock.ensures ∙ c.before.before.before.if4.false, size, ← (full c.before.before.before.before.before.before), c.if6.true)
+    let e5 = c.before in
+    let e4 = e5.before.before.before in
+    let e3 = e4.before.before.before.before in
+    let e2 = e3.before in
+    simp (good e2, e3.if3.false, e4.if4.false, e5.if5.false, ← (full e2), c.if6.true)
 
 returns-7 : tie.Need-returns-7
 unfolding arrival_refusal
 returns-7 c =
-    let size = sym c.before.before.wrong_size.ensures ∙ c.before.if5.false in
-    simp (good c.before.before.before.before.before.before, c.before.before.before.before.before.if3.false, sym c.before.before.before.before.wrong-clock.ensures ∙ c.before.before.before.if4.false, size, ← (full c.before.before.before.before.before.before), c.if6.false)
+    let e5 = c.before in
+    let e4 = e5.before.before.before in
+    let e3 = e4.before.before.before.before in
+    let e2 = e3.before in
+    simp (good e2, e3.if3.false, e4.if4.false, e5.if5.false, ← (full e2), c.if6.false)
 
 pub check-arrival-spec : {M : Type 1} → statement M
 check-arrival-spec =
     tie.close
-    (tie.spec
-    counts-left-requires
-    returns
-    formed-requires
-    returns-2
-    returns-3
-    wrong-clock-requires
-    returns-4
-    wrong-size-requires
-    returns-5
-    returns-6
-    returns-7)
+    (tie.spec counts-left-requires returns formed-requires returns-2 returns-3 returns-4 returns-5 returns-6 returns-7)

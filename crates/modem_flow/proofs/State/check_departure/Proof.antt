@@ -1,7 +1,7 @@
 -- `State::check_departure`: each test in turn is the definition's own; the head is read once the tables are known to fit.
 use borrow.Author.Rules.{rules}
 use borrow.Author.Tests.{eqb-false, eqb-true, not-false}
-use mathlib.Core.Path.{◌≡◌, sym, ◌∙◌}
+use mathlib.Core.Path.{◌≡◌}
 use mathlib.Core.Bool.{true}
 use mathlib.Core.Logic.{◌≢◌}
 use native.Mathlib.Omega.{arith}
@@ -38,28 +38,29 @@ returns-3 : tie.Need-returns-3
 unfolding departure_refusal
 returns-3 c = simp (good c.before, c.if3.true)
 
-wrong-clock-requires : tie.Need-wrong-clock-requires
-wrong-clock-requires c κs = search rules
-
 returns-4 : tie.Need-returns-4
 unfolding departure_refusal
-returns-4 c = simp (good c.before.before.before, c.before.before.if3.false, sym c.before.wrong-clock.ensures ∙ c.if4.true)
+returns-4 c =
+    let e3 = c.before.before.before.before in simp (good e3.before, e3.if3.false, c.if4.true)
 
 returns-5 : tie.Need-returns-5
 unfolding departure_refusal
-returns-5 c = simp (good c.before.before.before.before.before.before, c.before.before.before.before.before.if3.false, sym c.before.before.before.before.wrong-clock.ensures ∙ c.before.before.before.if4.false, c.if5.true)
+returns-5 c =
+    let e4 = c.before.before.before in
+    let e3 = e4.before.before.before.before in simp (good e3.before, e3.if3.false, e4.if4.false, c.if5.true)
 
 -- what is known where the head is read: the state's facts, that the table fits, and that a packet is queued
-abbrev at-start : (c : tie.Else5) → tie.Start
-at-start c = c.before.before.before.before.before.before.before.before.before.before.before
+abbrev at-start : tie.Else5 → tie.Start
+at-start c = c.before.before.before.before.before.before.before.before.before.before.before.before.before
 
 known : (c : tie.Else5) → Facts (at-start c).args.self
-known c = facts _ (record-formed _ _ (good c.before.before.before.before.before.before))
+known c = facts _ (record-formed _ _ (good c.before.before.before.before.before.before.before.before))
 
 fits : (c : tie.Else5) → length (at-start c).args.sizes.now ≡ (at-start c).args.self.settings.slots
 fits c =
+    let e3 = c.before.before.before.before.before.before.before in
     let a = (at-start c).args in
-    eqb-true _ _ (and_right (eqb a.handles a.self.settings.slots) _ (not-false _ c.before.before.before.before.before.if3.false))
+    eqb-true _ _ (and_right (eqb a.handles a.self.settings.slots) _ (not-false _ e3.if3.false))
 
 some : (c : tie.Else5) → (at-start c).args.self.backlog.count ≢ 0
 some c = eqb-false _ _ c.if5.false
@@ -80,14 +81,18 @@ wrong-head-requires c κs =
 returns-6 : tie.Need-returns-6
 unfolding departure_refusal
 returns-6 c =
-    let late = sym c.before.before.before.before.before.before.before.wrong-clock.ensures ∙ c.before.before.before.before.before.before.if4.false in
-    simp (good c.before.before.before.before.before.before.before.before.before, c.before.before.before.before.before.before.before.before.if3.false, late, c.before.before.before.if5.false, ← c.before.wrong-head.ensures, c.if6.true)
+    let e5 = c.before.before.before in
+    let e4 = e5.before.before.before in
+    let e3 = e4.before.before.before.before in
+    simp (good e3.before, e3.if3.false, e4.if4.false, e5.if5.false, ← c.before.wrong-head.ensures, c.if6.true)
 
 returns-7 : tie.Need-returns-7
 unfolding departure_refusal
 returns-7 c =
-    let late = sym c.before.before.before.before.before.before.before.wrong-clock.ensures ∙ c.before.before.before.before.before.before.if4.false in
-    simp (good c.before.before.before.before.before.before.before.before.before, c.before.before.before.before.before.before.before.before.if3.false, late, c.before.before.before.if5.false, ← c.before.wrong-head.ensures, c.if6.false)
+    let e5 = c.before.before.before in
+    let e4 = e5.before.before.before in
+    let e3 = e4.before.before.before.before in
+    simp (good e3.before, e3.if3.false, e4.if4.false, e5.if5.false, ← c.before.wrong-head.ensures, c.if6.false)
 
 pub check-departure-spec : {M : Type 1} → statement M
 check-departure-spec =
@@ -98,7 +103,6 @@ check-departure-spec =
     formed-requires
     returns-2
     returns-3
-    wrong-clock-requires
     returns-4
     returns-5
     mul-size

@@ -1,8 +1,11 @@
 -- `State::check_tick`: each test in turn is the definition's own.
 use borrow.Author.Rules.{rules}
-use mathlib.Core.Path.{◌≡◌, sym, ◌∙◌}
+use borrow.Author.Tests.{lt-ltb, ltb-true}
+use mathlib.Core.Path.{◌≡◌}
 use mathlib.Core.Bool.{true}
+use Prim.Native.Nat.{◌+◌}
 use native.Mathlib.Omega.{arith}
+use Rattle.docsis_pie.specs.Constants.{period}
 use Rattle.modem_flow.specs.State.{well_formed}
 use Rattle.modem_flow.specs.Tick.{tick_refusal}
 use Rattle.modem_flow.proofs.Facts.{both-pass, facts, record-fails, record-formed, row-fails}
@@ -29,34 +32,29 @@ returns-2 : tie.Need-returns-2
 unfolding tick_refusal
 returns-2 c = let a = c.before.before.before.before.args in simp (record-fails a.self a.row _ c.before.formed.ensures c.if2.true)
 
-wrong-clock-requires : tie.Need-wrong-clock-requires
-wrong-clock-requires c κs = search rules
-
 returns-3 : tie.Need-returns-3
 unfolding tick_refusal
-returns-3 c = simp (good c.before.before, sym c.before.wrong-clock.ensures ∙ c.if3.true)
+returns-3 c = simp (good c.before.before.before.before, c.if3.true)
 
-too-soon-requires : tie.Need-too-soon-requires
-too-soon-requires c κs = let f = facts c.before.before.before.before.before.before.args.self (record-formed _ _ (good c.before.before)) in omega arith
+add-too-soon : tie.Need-overflow-add-too-soon
+add-too-soon c =
+    let e2 = c.before.before.before.before.before in
+    let f = facts (at-start e2).args.self (record-formed _ _ (good e2)) in omega arith
 
 returns-4 : tie.Need-returns-4
 unfolding tick_refusal
-returns-4 c = simp (good c.before.before.before.before, sym c.before.before.before.wrong-clock.ensures ∙ c.before.before.if3.false, sym c.before.too-soon.ensures ∙ c.if4.true)
+returns-4 c =
+    let e3 = c.before.before.before in
+    let e2 = e3.before.before.before.before in
+    let a = (at-start e2).args in
+    let soon = lt-ltb a.clock.0 (a.self.last.0 + period) (omega (arith, ltb-true)) in simp (good e2, e3.if3.false, soon)
 
 returns-5 : tie.Need-returns-5
 unfolding tick_refusal
-returns-5 c = simp (good c.before.before.before.before, sym c.before.before.before.wrong-clock.ensures ∙ c.before.before.if3.false, sym c.before.too-soon.ensures ∙ c.if4.false)
+returns-5 c =
+    let e3 = c.before.before.before in simp (good e3.before.before.before.before, e3.if3.false, c.if4.false)
 
 pub check-tick-spec : {M : Type 1} → statement M
 check-tick-spec =
     tie.close
-    (tie.spec
-    counts-fit-requires
-    returns
-    formed-requires
-    returns-2
-    wrong-clock-requires
-    returns-3
-    too-soon-requires
-    returns-4
-    returns-5)
+    (tie.spec counts-fit-requires returns formed-requires returns-2 returns-3 add-too-soon returns-4 returns-5)

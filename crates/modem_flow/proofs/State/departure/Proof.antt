@@ -16,9 +16,6 @@ check-departure-requires c κs = search rules
 enum-known-checked : tie.Need-enum-known-checked
 enum-known-checked c = search rules
 
-answered-requires : tie.Need-answered-requires
-answered-requires c κs = search rules
-
 enum_told : tie.Need-enum-told
 enum_told c = search rules
 
@@ -55,10 +52,14 @@ departed-requires : tie.Need-departed-requires
 departed-requires c κs = let k = known c.before.before in (k.good, (k.some, k.head-fits))
 
 returns : tie.Need-returns
-returns c = rw c.answered.ensures (departure-refused _ _ _ _ _ _ _ c.before.before.checked.given.1 c.before.before.before.before.check-departure.ensures)
+returns c =
+    let k = c.before.before.before in
+    departure-refused _ _ _ _ _ _ _ c.before.checked.given.1 k.check-departure.ensures
 
 returns-2 : tie.Need-returns-2
-returns-2 c = departure-taken _ _ _ _ _ _ _ c.before.before.before.enum_told.given.1 c.before.before.before.before.before.check-departure.ensures c.departed.ensures
+returns-2 c =
+    let t = c.before.before.before in
+    departure-taken _ _ _ _ _ _ _ t.enum_told.given.1 t.before.before.check-departure.ensures c.departed.ensures
 
 pub departure-spec : {M : Type 1} → statement M
 departure-spec =
@@ -66,7 +67,6 @@ departure-spec =
     (tie.spec
     check-departure-requires
     enum-known-checked
-    answered-requires
     enum_told
     mul-handle
     shared-slice-read-handle

@@ -11,24 +11,20 @@ in-range-requires c κs = search rules
 empty-requires : tie.Need-empty-requires
 empty-requires c κs = search rules
 
-answered-requires : tie.Need-answered-requires
-answered-requires c κs = search rules
-
 returns : tie.Need-returns
 unfolding fresh
-returns c = rw (c.answered.ensures, ← c.before.before.before.before.in-range.ensures, c.before.before.if1.true, c.before.empty.ensures) (refl, (refl, refl))
+returns c =
+    let e = c.before in
+    rw (← e.before.before.in-range.ensures, e.if1.true, c.empty.ensures) (refl, (refl, refl))
 
 zero-requires : tie.Need-zero-requires
 zero-requires c κs = search rules
 
-answered-requires-2 : tie.Need-answered-requires-2
-answered-requires-2 c κs = search rules
-
 returns-2 : tie.Need-returns-2
 unfolding fresh
-returns-2 c = rw (c.answered2.ensures, ← c.before.before.before.before.in-range.ensures, c.before.before.if1.false, c.before.zero.ensures) (refl, (refl, refl))
+returns-2 c =
+    let e = c.before in
+    rw (← e.before.before.in-range.ensures, e.if1.false, c.zero.ensures) (refl, (refl, refl))
 
 pub fresh-spec : {M : Type 1} → statement M
-fresh-spec =
-    tie.close
-    (tie.spec in-range-requires empty-requires answered-requires returns zero-requires answered-requires-2 returns-2)
+fresh-spec = tie.close (tie.spec in-range-requires empty-requires returns zero-requires returns-2)

@@ -16,31 +16,17 @@ enum-known-checked c = search rules
 enum_told : tie.Need-enum-told
 enum_told c = search rules
 
-answered-requires : tie.Need-answered-requires
-answered-requires c κs = search rules
-
 ticked-requires : tie.Need-ticked-requires
-ticked-requires c κs = (tick-accepted _ _ _ (sym c.before.before.check-tick.ensures ∙ ap refusal_in c.enum_told.given.1)).good
-
-answered-requires-2 : tie.Need-answered-requires-2
-answered-requires-2 c κs = search rules
+ticked-requires c κs =
+    let k = c.before.before in (tick-accepted _ _ _ (sym k.check-tick.ensures ∙ ap refusal_in c.enum_told.given.1)).good
 
 returns : tie.Need-returns
-returns c = rw c.answered.ensures (tick-refused _ _ _ _ _ _ c.before.before.checked.given.1 c.before.before.before.before.check-tick.ensures)
+returns c =
+    let k = c.before.before.before in tick-refused _ _ _ _ _ _ c.before.checked.given.1 k.check-tick.ensures
 
 returns-2 : tie.Need-returns-2
 returns-2 c =
-    rw c.answered2.ensures (tick-taken _ _ _ _ _ _ c.before.before.enum_told.given.1 c.before.before.before.before.check-tick.ensures c.before.ticked.ensures)
+    let t = c.before in tick-taken _ _ _ _ _ _ t.enum_told.given.1 t.before.before.check-tick.ensures c.ticked.ensures
 
 pub tick-spec : {M : Type 1} → statement M
-tick-spec =
-    tie.close
-    (tie.spec
-    check-tick-requires
-    enum-known-checked
-    answered-requires
-    enum_told
-    ticked-requires
-    answered-requires-2
-    returns
-    returns-2)
+tick-spec = tie.close (tie.spec check-tick-requires enum-known-checked enum_told ticked-requires returns returns-2)

@@ -18,7 +18,7 @@ abbrev u_at : tie.Start → ℕ
 u_at a = get_or a.args.calls.now (a.args.at + 4) 0
 
 abbrev part_of : tie.Start → ℕ
-part_of a = scaled_of (get_or a.args.w.now 7 0) a.args.size.0
+part_of a = scaled_of (get_or a.args.w.now 7 0) a.args.size
 
 -- rule 7
 part-is : (c : tie.After-scaled) → c.scaled.result.0 ≡ part_of c.before.before.before
@@ -52,10 +52,13 @@ element-copy-out-t15-2 c = search rules
 sum-requires : tie.Need-sum-requires
 sum-requires c κs =
     let a = c.before.before.before.before in
-    (a.requires.1.1, rw (part-is c.before) (scaled-le (get_or a.args.w.now 7 0) a.args.size.0))
+    (a.requires.1.1, rw (part-is c.before) (scaled-le (get_or a.args.w.now 7 0) a.args.size))
 
 element-copy-out-t15-3 : tie.Need-element-copy-out-t15-3
 element-copy-out-t15-3 c = search rules
+
+element-copy-out-t25 : tie.Need-element-copy-out-t25
+element-copy-out-t25 c = search rules
 
 lightly-loaded-requires : tie.Need-lightly-loaded-requires
 lightly-loaded-requires c κs = search rules
@@ -69,7 +72,7 @@ element-write-w c = search rules
 returns : tie.Need-returns
 returns c =
     let a = c.before.before.before.before.before.before.before.before.before.before in
-    rw (ap (λ (p : Prob). p.0) c.limit-sum.ensures, sum_is c.before.before.before.before.before) (light-draws a.args.w.now a.requires.0.0 a.args.bytes.0 a.args.size.0 (u_at a) (light c.before.before true c.before.if1.true))
+    rw (ap (λ (p : Prob). p.0) c.limit-sum.ensures, sum_is c.before.before.before.before.before) (light-draws a.args.w.now a.requires.0.0 a.args.bytes a.args.size (u_at a) (light c.before.before true c.before.if1.true))
 
 is-low-requires : tie.Need-is-low-requires
 is-low-requires c κs = search rules
@@ -80,7 +83,7 @@ element-write-w-2 c = search rules
 returns-2 : tie.Need-returns-2
 returns-2 c =
     let a = c.before.before.before.before.before.before.before.before.before.before.before in
-    rw (sum_is c.before.before.before.before.before.before) (low-draws a.args.w.now a.requires.0.0 a.args.bytes.0 a.args.size.0 (u_at a) (low_sum c.before true c.if2.true))
+    rw (sum_is c.before.before.before.before.before.before) (low-draws a.args.w.now a.requires.0.0 a.args.bytes a.args.size (u_at a) (low_sum c.before true c.if2.true))
 
 small-requires : tie.Need-small-requires
 small-requires c κs = search rules
@@ -97,7 +100,7 @@ returns-3 c =
     let loaded = light c.before.before.before.before.before.before false c.before.before.before.before.before.if1.false in
     let more = low_sum c.before.before.before.before false c.before.before.before.if2.false in
     let little = sym c.before.before.small.ensures ∙ c.before.if3.true in
-    rw (ap (λ (p : Prob). p.0) c.limit-sum2.ensures, sum_is c.before.before.before.before.before.before.before.before.before) (small-draws a.args.w.now a.requires.0.0 a.args.bytes.0 a.args.size.0 (u_at a) loaded more little)
+    rw (ap (λ (p : Prob). p.0) c.limit-sum2.ensures, sum_is c.before.before.before.before.before.before.before.before.before) (small-draws a.args.w.now a.requires.0.0 a.args.bytes a.args.size (u_at a) loaded more little)
 
 add-early : tie.Need-overflow-add-early
 add-early c = search rules
@@ -121,7 +124,7 @@ returns-4 c =
     let more = low_sum c.before.before.before.before.before.before.before.before.before false c.before.before.before.before.before.before.before.before.if2.false in
     let large = sym c.before.before.before.before.before.before.before.small.ensures ∙ c.before.before.before.before.before.before.if3.false in
     let drops = rw (c.before.before.before.early.ensures, sum_is c.before.before.before.before.before.before.before.before.before.before.before.before.before.before, part-is c.before.before.before.before.before.before.before.before.before.before.before.before.before.before.before.before) at c.before.before.if4.true in
-    early-draws a.args.w.now a.requires.0.0 a.args.bytes.0 a.args.size.0 (u_at a) loaded more large drops _ c.drop-early.ensures
+    early-draws a.args.w.now a.requires.0.0 a.args.bytes a.args.size (u_at a) loaded more large drops _ c.drop-early.ensures
 
 element-write-w-4 : tie.Need-element-write-w-4
 element-write-w-4 c = search rules
@@ -133,10 +136,7 @@ returns-5 c =
     let more = low_sum c.before.before.before.before.before.before.before false c.before.before.before.before.before.before.if2.false in
     let large = sym c.before.before.before.before.before.small.ensures ∙ c.before.before.before.before.if3.false in
     let passes = rw (c.before.early.ensures, sum_is c.before.before.before.before.before.before.before.before.before.before.before.before, part-is c.before.before.before.before.before.before.before.before.before.before.before.before.before.before) at c.if4.false in
-    rw (sum_is c.before.before.before.before.before.before.before.before.before.before.before.before) (passed-draws a.args.w.now a.requires.0.0 a.args.bytes.0 a.args.size.0 (u_at a) loaded more large passes)
-
-element-copy-out-t24 : tie.Need-element-copy-out-t24
-element-copy-out-t24 c = search rules
+    rw (sum_is c.before.before.before.before.before.before.before.before.before.before.before.before) (passed-draws a.args.w.now a.requires.0.0 a.args.bytes a.args.size (u_at a) loaded more large passes)
 
 pub draw-spec : {M : Type 1} → statement M
 draw-spec =
@@ -147,7 +147,7 @@ draw-spec =
     element-copy-out-t15-2
     sum-requires
     element-copy-out-t15-3
-    element-copy-out-t24
+    element-copy-out-t25
     lightly-loaded-requires
     limit-sum-requires
     element-write-w

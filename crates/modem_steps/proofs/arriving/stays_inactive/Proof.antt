@@ -8,6 +8,9 @@ use Rattle.modem_steps.proofs.Words.{pie-same, no-longer-inactive-words}
 element-copy-out-inactive : tie.Need-element-copy-out-inactive
 element-copy-out-inactive c = search rules
 
+element-copy-out-t13 : tie.Need-element-copy-out-t13
+element-copy-out-t13 c = search rules
+
 below-third-requires : tie.Need-below-third-requires
 below-third-requires c κs = search rules
 
@@ -27,15 +30,12 @@ returns-2 c =
 returns-3 : tie.Need-returns-3
 returns-3 c = let a = c.before.before.before in rw c.if1.false (refl, pie-same a.args.w.now a.requires.0)
 
-element-copy-out-t12 : tie.Need-element-copy-out-t12
-element-copy-out-t12 c = search rules
-
 pub stays-inactive-spec : {M : Type 1} → statement M
 stays-inactive-spec =
     tie.close
     (tie.spec
     element-copy-out-inactive
-    element-copy-out-t12
+    element-copy-out-t13
     below-third-requires
     returns
     element-write-w

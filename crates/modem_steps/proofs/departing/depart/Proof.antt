@@ -21,28 +21,28 @@ use Rattle.modem_steps.proofs.Words.{departed-words}
 known : (a : tie.Start) → Facts (state_of a.args.w.now)
 known a = facts _ a.requires.1
 
-some : (c : tie.Else2) → get_or c.before.before.before.before.before.before.before.before.args.w.now 14 0 ≢ 0
+some : (c : tie.Else2) → get_or c.before.before.before.before.before.before.before.args.w.now 14 0 ≢ 0
 some c = eqb-false _ _ c.if2.false
 
 -- the head's size, once it is known to fit
 abbrev size_at : tie.Start → ℕ
 size_at a = head_of (state_of a.args.w.now) a.args.sizes.now
 
-not-wrong : (c : tie.Else3) → head_refused (state_of c.before.before.before.before.before.before.before.before.before.before.before.before.before.args.w.now).backlog (size_at c.before.before.before.before.before.before.before.before.before.before.before.before.before) ≡ false
+not-wrong : (c : tie.Else3) → head_refused (state_of c.before.before.before.before.before.before.before.before.before.before.before.before.args.w.now).backlog (size_at c.before.before.before.before.before.before.before.before.before.before.before.before) ≡ false
 unfolding state_of
 not-wrong c = sym (rw c.before.before.wide.ensures at c.before.wrong-head.ensures) ∙ c.if3.false
 
-fit : (c : tie.Else3) → HeadFits (state_of c.before.before.before.before.before.before.before.before.before.before.before.before.before.args.w.now).backlog (size_at c.before.before.before.before.before.before.before.before.before.before.before.before.before)
+fit : (c : tie.Else3) → HeadFits (state_of c.before.before.before.before.before.before.before.before.before.before.before.before.args.w.now).backlog (size_at c.before.before.before.before.before.before.before.before.before.before.before.before)
 fit c = head-fits _ _ (not-wrong c)
 
-wrong-clock-requires : tie.Need-wrong-clock-requires
-wrong-clock-requires c κs = search rules
+element-copy-out-wrong-clock : tie.Need-element-copy-out-wrong-clock
+element-copy-out-wrong-clock c = search rules
 
 returns : tie.Need-returns
 unfolding state_of
 returns c =
-    let q = c.before.before.before.before.before.requires in
-    λ row fits. rw (departure-late _ row _ q.1 fits _ _ q.2 q.3 (sym c.before.wrong-clock.ensures ∙ c.if1.true)) (refl, kept _ _ (refl, q.0))
+    let q = c.before.before.before.before.requires in
+    λ row fits. rw (departure-late _ row _ q.1 fits _ _ q.2 q.3 c.if1.true) (refl, kept _ _ (refl, q.0))
 
 element-copy-out-count : tie.Need-element-copy-out-count
 element-copy-out-count c = search rules
@@ -53,19 +53,19 @@ element-copy-out-bytes c = search rules
 returns-2 : tie.Need-returns-2
 unfolding state_of
 returns-2 c =
-    let q = c.before.before.before.before.before.before.before.before.requires in
-    λ row fits. rw (departure-empty _ row _ q.1 fits _ _ q.2 q.3 (sym c.before.before.before.before.wrong-clock.ensures ∙ c.before.before.before.if1.false) c.if2.true) (refl, kept _ _ (refl, q.0))
+    let q = c.before.before.before.before.before.before.before.requires in
+    λ row fits. rw (departure-empty _ row _ q.1 fits _ _ q.2 q.3 c.before.before.before.if1.false c.if2.true) (refl, kept _ _ (refl, q.0))
 
 element-copy-out-first : tie.Need-element-copy-out-first
 element-copy-out-first c = search rules
 
 mul-head : tie.Need-overflow-mul-head
 unfolding state_of
-mul-head c = let f = known c.before.before.before.before.before.before.before.before.before in omega (arith, f.first-high, f.slots-high)
+mul-head c = let f = known c.before.before.before.before.before.before.before.before in omega (arith, f.first-high, f.slots-high)
 
 shared-slice-read-head : tie.Need-shared-slice-read-head
 unfolding state_of
-shared-slice-read-head c = let f = known c.before.before.before.before.before.before.before.before.before.before in omega (arith, f.first-high, c.before.before.before.before.before.before.before.before.before.before.requires.3)
+shared-slice-read-head c = let f = known c.before.before.before.before.before.before.before.before.before in omega (arith, f.first-high, c.before.before.before.before.before.before.before.before.before.requires.3)
 
 wide-requires : tie.Need-wide-requires
 wide-requires c κs = search rules
@@ -74,36 +74,30 @@ wrong-head-requires : tie.Need-wrong-head-requires
 unfolding state_of
 wrong-head-requires c κs =
     let n = some c.before.before.before in
-    let f = known c.before.before.before.before.before.before.before.before.before.before.before in omega (arith, f.count-high, f.slots-high)
+    let f = known c.before.before.before.before.before.before.before.before.before.before in omega (arith, f.count-high, f.slots-high)
 
 returns-3 : tie.Need-returns-3
 unfolding state_of
 returns-3 c =
-    let q = c.before.before.before.before.before.before.before.before.before.before.before.before.before.requires in
+    let q = c.before.before.before.before.before.before.before.before.before.before.before.before.requires in
     let wrong = sym (rw c.before.before.wide.ensures at c.before.wrong-head.ensures) ∙ c.if3.true in
     λ row fits.
-    rw (departure-wrong _ row _ q.1 fits _ _ q.2 q.3 (sym c.before.before.before.before.before.before.before.before.before.wrong-clock.ensures ∙ c.before.before.before.before.before.before.before.before.if1.false) c.before.before.before.before.before.if2.false wrong) (refl, kept _ _ (refl, q.0))
+    rw (departure-wrong _ row _ q.1 fits _ _ q.2 q.3 c.before.before.before.before.before.before.before.before.if1.false c.before.before.before.before.before.if2.false wrong) (refl, kept _ _ (refl, q.0))
 
 mul-handle : tie.Need-overflow-mul-handle
 unfolding state_of
-mul-handle c = let f = known c.before.before.before.before.before.before.before.before.before.before.before.before.before in omega (arith, f.first-high, f.slots-high)
+mul-handle c = let f = known c.before.before.before.before.before.before.before.before.before.before.before.before in omega (arith, f.first-high, f.slots-high)
 
 shared-slice-read-handle : tie.Need-shared-slice-read-handle
 unfolding state_of
-shared-slice-read-handle c = let f = known c.before.before.before.before.before.before.before.before.before.before.before.before.before.before in omega (arith, f.first-high, c.before.before.before.before.before.before.before.before.before.before.before.before.before.before.requires.2)
-
-leave-requires : tie.Need-leave-requires
-unfolding state_of
-leave-requires c κs =
-    let n = some c.before.before.before.before.before.before in
-    let f = (fit c.before).fits in (omega arith, rw c.before.before.before.wide.ensures f)
+shared-slice-read-handle c = let f = known c.before.before.before.before.before.before.before.before.before.before.before.before.before in omega (arith, f.first-high, c.before.before.before.before.before.before.before.before.before.before.before.before.before.requires.2)
 
 element-copy-out-following : tie.Need-element-copy-out-following
 element-copy-out-following c = search rules
 
 following-requires : tie.Need-following-requires
 unfolding state_of
-following-requires c κs = let f = known c.before.before.before.before.before.before.before.before.before.before.before.before.before.before.before.before in (f.first-high, f.slots-high)
+following-requires c κs = let f = known c.before.before.before.before.before.before.before.before.before.before.before.before.before.before in (f.first-high, f.slots-high)
 
 element-write-w : tie.Need-element-write-w
 element-write-w c = search rules
@@ -111,38 +105,41 @@ element-write-w c = search rules
 element-write-w-2 : tie.Need-element-write-w-2
 element-write-w-2 c = search rules
 
+sub-w : tie.Need-overflow-sub-w
+sub-w c = let n = some c.before.before.before.before.before.before.before.before in omega arith
+
 element-write-w-3 : tie.Need-element-write-w-3
 element-write-w-3 c = search rules
+
+sub-w-2 : tie.Need-overflow-sub-w-2
+unfolding state_of
+sub-w-2 c = rw c.before.before.before.before.before.wide.ensures (fit c.before.before.before).fits
 
 element-write-w-4 : tie.Need-element-write-w-4
 element-write-w-4 c = search rules
 
 word-requires : tie.Need-word-requires
 unfolding state_of
-word-requires c κs = (omega arith, (fit c.before.before.before.before).high)
+word-requires c κs = (omega arith, (fit c.before.before.before).high)
 
 returns-4 : tie.Need-returns-4
 unfolding state_of
 returns-4 c =
-    let a = c.before.before.before.before.before.before.before.before.before.before.before.before.before.before.before.before.before.before in
+    let a = c.before.before.before.before.before.before.before.before.before.before.before.before.before.before.before.before in
     let q = a.requires in
     let w = a.args.w.now in
-    let words = departed-words a.args.clock.0 (size_at a) w q.0 in
+    let words = departed-words a.args.clock (size_at a) w q.0 in
     λ row fits.
-    rw (departure-made _ row _ q.1 fits _ _ q.2 q.3 (sym c.before.before.before.before.before.before.before.before.before.before.before.before.before.before.wrong-clock.ensures ∙ c.before.before.before.before.before.before.before.before.before.before.before.before.before.if1.false) c.before.before.before.before.before.before.before.before.before.before.if2.false (not-wrong c.before.before.before.before.before))
-    (c.word.ensures, rw (c.before.before.before.leave.ensures, c.before.following.ensures, c.before.before.before.before.before.before.before.wide.ensures) words)
-
-element-copy-out-count-2 : tie.Need-element-copy-out-count-2
-element-copy-out-count-2 c = search rules
+    rw (departure-made _ row _ q.1 fits _ _ q.2 q.3 c.before.before.before.before.before.before.before.before.before.before.before.before.if1.false c.before.before.before.before.before.before.before.before.before.if2.false (not-wrong c.before.before.before.before))
+    (c.word.ensures, rw (c.before.following.ensures, c.before.before.before.before.before.before.wide.ensures) words)
 
 pub depart-spec : {M : Type 1} → statement M
 depart-spec =
     tie.close
     (tie.spec
-    element-copy-out-count
-    wrong-clock-requires
+    element-copy-out-wrong-clock
     returns
-    element-copy-out-count-2
+    element-copy-out-count
     element-copy-out-bytes
     returns-2
     element-copy-out-first
@@ -153,12 +150,13 @@ depart-spec =
     returns-3
     mul-handle
     shared-slice-read-handle
-    leave-requires
     element-copy-out-following
     following-requires
     element-write-w
     element-write-w-2
+    sub-w
     element-write-w-3
+    sub-w-2
     element-write-w-4
     word-requires
     returns-4)

@@ -4,7 +4,7 @@ use borrow.Author.Tests.{ltb-false}
 use Rattle.modem.specs.Calls.{arrival}
 use Rattle.modem.proofs.Replies.{stored-10, stored-known}
 use Rattle.modem_words.proofs.Changed.{kept}
-use Rattle.modem_steps.proofs.Entries.{gives-10, lent-as}
+use Rattle.modem_steps.proofs.Entries.{gives-10}
 use Rattle.modem_steps.proofs.Calls.{arrival-refused, arrival-taken, room}
 use Rattle.modem_steps.proofs.single.lent_arrival.Statement.{statement}
 use Rattle.modem_steps.proofs.single.lent_arrival.Tie as tie
@@ -19,7 +19,7 @@ returns c =
     let a = c.before.before.before.before.before.args in
     let e = c.if1.true in
     let g = gives-10 _ _ _ _ _ e (kept _ _ d) in
-    rw (← d.0) (g.0, lent-as g.1 g.2 (stored-10 _ _ _ _ a.handles.now a.handle e) (stored-10 _ _ _ _ a.sizes.now a.size e))
+    rw (← d.0) (g.0, g.1, g.2, stored-10 _ _ _ _ a.handles.now a.handle e, stored-10 _ _ _ _ a.sizes.now a.size e)
 
 mul-row : tie.Need-overflow-mul-row
 mul-row c = search rules
@@ -53,7 +53,7 @@ returns-2 c =
     let k = t.arrival.ensures in
     let g = arrival-refused _ _ _ _ _ _ _ _ _ t.arrival.result _ _ k.0.0 c.before.refusal.ensures.0 e c.if2.true (kept _ _ d) in
     rw (← d.0)
-    (g.0, lent-as g.1 g.2 (stored-known _ _ _ _ a.handles.now _ a.handle e k.1.0) (stored-known _ _ _ _ a.sizes.now _ a.size e k.1.1))
+    (g.0, g.1, g.2, stored-known _ _ _ _ a.handles.now _ a.handle e k.1.0, stored-known _ _ _ _ a.sizes.now _ a.size e k.1.1)
 
 write-arrival-requires : tie.Need-write-arrival-requires
 write-arrival-requires c κs = search rules
@@ -97,7 +97,7 @@ returns-3 c =
     p.IsPlace-in.ensures.0
     c.raise.ensures in
     rw (← d.0)
-    (g.0, lent-as g.1 g.2 (stored-known _ _ _ _ a.handles.now _ a.handle e k.1.0) (stored-known _ _ _ _ a.sizes.now _ a.size e k.1.1))
+    (g.0, g.1, g.2, stored-known _ _ _ _ a.handles.now _ a.handle e k.1.0, stored-known _ _ _ _ a.sizes.now _ a.size e k.1.1)
 
 pub lent-arrival-spec : {M : Type 1} → statement M
 lent-arrival-spec =

@@ -1,9 +1,8 @@
 -- `lent_departure`: refusal 10, or the number, the words and the packet of what the flow replied; the counts as they were.
 use borrow.Author.Rules.{rules}
-use mathlib.Core.Path.{refl}
 use Rattle.modem.specs.Calls.{departure}
 use Rattle.modem_words.proofs.Changed.{kept}
-use Rattle.modem_steps.proofs.Entries.{gives-10, lent-as, packet-10, packet-known}
+use Rattle.modem_steps.proofs.Entries.{gives-10, packet-10, packet-known}
 use Rattle.modem_steps.proofs.Calls.{departure-refused, departure-taken}
 use Rattle.modem_steps.proofs.single.lent_departure.Statement.{statement}
 use Rattle.modem_steps.proofs.single.lent_departure.Tie as tie
@@ -16,7 +15,7 @@ unfolding departure
 returns c =
     let i = c.before in
     let d = i.before.decode.ensures in
-    let g = gives-10 _ _ _ _ _ i.if1.true (kept _ _ d) in rw (← d.0) (g.0, lent-as g.1 g.2 refl refl, packet-10 _ _ _ _ i.if1.true)
+    let g = gives-10 _ _ _ _ _ i.if1.true (kept _ _ d) in rw (← d.0) (g.0, g.1, g.2, packet-10 _ _ _ _ i.if1.true)
 
 mul-row : tie.Need-overflow-mul-row
 mul-row c = search rules
@@ -42,7 +41,7 @@ returns-2 c =
     let r = t.departure.result in
     let k = t.departure.ensures in
     let g = departure-refused _ _ _ _ _ _ _ r _ _ k.0 c.before.refusal.ensures.0 i.if1.false c.if2.true (kept _ _ d) in
-    rw (← d.0) (g.0, lent-as g.1 g.2 refl refl, packet-known _ _ _ _ r i.if1.false k.1)
+    rw (← d.0) (g.0, g.1, g.2, packet-known _ _ _ _ r i.if1.false k.1)
 
 write-departure-requires : tie.Need-write-departure-requires
 write-departure-requires c κs = search rules
@@ -57,7 +56,7 @@ returns-3 c =
     let r = t.departure.result in
     let k = t.departure.ensures in
     let g = departure-taken _ _ _ _ _ _ _ r _ _ _ k.0 f.before.refusal.ensures.0 i.if1.false f.if2.false d c.write-departure.ensures in
-    rw (← d.0) (g.0, lent-as g.1 g.2 refl refl, packet-known _ _ _ _ r i.if1.false k.1)
+    rw (← d.0) (g.0, g.1, g.2, packet-known _ _ _ _ r i.if1.false k.1)
 
 pub lent-departure-spec : {M : Type 1} → statement M
 lent-departure-spec =

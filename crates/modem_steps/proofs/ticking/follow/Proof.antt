@@ -29,6 +29,12 @@ returns-2 c = let a = c.before.before.before.before in rw (c.before.if1.true, c.
 element-copy-out-was-quiescent : tie.Need-element-copy-out-was-quiescent
 element-copy-out-was-quiescent c = search rules
 
+element-copy-out-reset : tie.Need-element-copy-out-reset
+element-copy-out-reset c = search rules
+
+add-reset : tie.Need-overflow-add-reset
+add-reset c = search rules
+
 wait-requires : tie.Need-wait-requires
 wait-requires c κs = let a = c.before.before.before.before.before.before.before.before.before in (a.requires.0, eqb-true (get_or a.args.w.now 12 0) quiescent c.before.before.before.if3.true)
 
@@ -50,12 +56,6 @@ returns-5 : tie.Need-returns-5
 unfolding phase_after
 returns-5 c = let a = c.before.before.before.before.before.before in rw (c.before.before.before.if1.false, c.if3.false) (phase-same a.args.w.now a.requires.0)
 
-element-copy-out-t22 : tie.Need-element-copy-out-t22
-element-copy-out-t22 c = search rules
-
-add-t23 : tie.Need-overflow-add-t23
-add-t23 c = search rules
-
 pub follow-spec : {M : Type 1} → statement M
 follow-spec =
     tie.close
@@ -66,8 +66,8 @@ follow-spec =
     returns
     returns-2
     element-copy-out-was-quiescent
-    element-copy-out-t22
-    add-t23
+    element-copy-out-reset
+    add-reset
     wait-requires
     returns-3
     element-write-w-3

@@ -24,15 +24,7 @@ element-write-w-3 c = search rules
 returns-2 : tie.Need-returns-2
 returns-2 c =
     let a = c.before.before in
-    rw (sym c.before.timed-out.ensures ∙ c.if1.false) (activity-same quiescent a.args.reset.0 a.args.w.now a.requires.0 a.requires.1)
+    rw (sym c.before.timed-out.ensures ∙ c.if1.false) (activity-same quiescent a.args.reset a.args.w.now a.requires.0 a.requires.1)
 
 pub wait_spec : {M : Type 1} → statement M
-wait_spec =
-    tie.close
-    (tie.spec
-    timed-out-requires
-    element-write-w
-    element-write-w-2
-    returns
-    element-write-w-3
-    returns-2)
+wait_spec = tie.close (tie.spec timed-out-requires element-write-w element-write-w-2 returns element-write-w-3 returns-2)

@@ -18,7 +18,7 @@ abbrev pair : tie.Start → Pair
 pair a = pair_of a.args.second a.args.shared.now a.args.own.now a.args.other.now
 
 abbrev said : tie.Start → Answer
-said a = (departure (pair a) (which_of a.args.second) a.args.handles.now a.args.sizes.now a.args.clock.0).answer
+said a = (departure (pair a) (which_of a.args.second) a.args.handles.now a.args.sizes.now a.args.clock).answer
 
 depart-requires : tie.Need-depart-requires
 depart-requires c κs = let b = c.before.before.before.before.before.before.requires in (b.0, (b.1.0, (b.1.1, refl)))
@@ -36,7 +36,7 @@ returns c =
     let some = ap (λ (n : ℕ). eqb n 0) (sym e.0) ∙ not-true _ c.before.if1.true in (
       c.wide.ensures
           ∙ e.0
-          ∙ departure-refused (pair a) (which_of a.args.second) a.args.handles.now a.args.sizes.now a.args.clock.0 some,
+          ∙ departure-refused (pair a) (which_of a.args.second) a.args.handles.now a.args.sizes.now a.args.clock some,
       e.1,
       e.2,
       e.3,
@@ -51,7 +51,7 @@ array-read-word-2 c = search rules
 word-requires : tie.Need-word-requires
 word-requires c κs =
     let a = c.before.before.before.before.before.before.before.before.before.before in
-    let small = departure-small (pair a) (which_of a.args.second) a.args.handles.now a.args.sizes.now a.args.clock.0 in
+    let small = departure-small (pair a) (which_of a.args.second) a.args.handles.now a.args.sizes.now a.args.clock in
     (omega arith, rw c.before.before.before.depart.ensures.4 small.1)
 
 same-length-2 : tie.Need-same-length-2

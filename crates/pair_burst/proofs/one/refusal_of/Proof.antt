@@ -1,10 +1,12 @@
 -- `refusal_of`: the tests in the order of the refusals.
 use borrow.Author.Rules.{rules}
-use borrow.Author.Tests.{eqb-true, not-false, not-true}
-use mathlib.Core.Path.{◌≡◌, ap, sym, ◌∙◌}
+use borrow.Author.Tests.{eqb-false, eqb-true, not-false, not-true}
+use mathlib.Core.Path.{◌≡◌, sym, ◌∙◌}
 use mathlib.Core.Bool.{true, false, false≢true, ◌&&◌}
 use mathlib.Core.List.{List}
+use mathlib.Core.Logic.{◌≢◌}
 use Prim.Native.Nat.{ℕ, ◌+◌, ◌≤◌}
+use native.Mathlib.Omega.{arith}
 use lib.Dec.{eqb}
 use lib.ListN.{get_or, length}
 use Rattle.laws.proofs.Tests.{and_left, and_right}
@@ -14,10 +16,8 @@ use Rattle.pair_rules.specs.WellFormed.{well_formed}
 use Rattle.pair_rules.proofs.Symmetry.{well-formed-seen}
 use Rattle.pair_rules.proofs.WhenAccepted.{known}
 use Rattle.pair_words.specs.Words.{pair_of, shared_of, state_of, which_of}
-use Rattle.bursts.specs.Numbers.{clock_at}
-use Rattle.pair_steps.specs.Full.{full_code}
-use Rattle.pair_steps.proofs.Full.{room-for-one}
-use Rattle.pair_burst.proofs.Refused.{full-left, malformed-left, never, tables-left, tick-kind}
+use Rattle.pair_steps.proofs.Replies.{arrival-counts, arrival-late, arrival-size}
+use Rattle.pair_burst.proofs.Refused.{arrival-left, malformed-left, never, tables-left, tick-kind}
 use Rattle.pair_burst.proofs.one.refusal_of.Statement.{statement}
 use Rattle.pair_burst.proofs.one.refusal_of.Tie as tie
 
@@ -113,6 +113,37 @@ returns-4 c =
       λ e. absurd (false≢true (sym e)),
     )
 
+element-copy-out-t23 : tie.Need-element-copy-out-t23
+element-copy-out-t23 c = search rules
+
+element-copy-out-t26 : tie.Need-element-copy-out-t26
+element-copy-out-t26 c = search rules
+
+element-copy-out-t34 : tie.Need-element-copy-out-t34
+element-copy-out-t34 c = search rules
+
+element-copy-out-t37 : tie.Need-element-copy-out-t37
+element-copy-out-t37 c = search rules
+
+element-copy-out-wrong-clock : tie.Need-element-copy-out-wrong-clock
+element-copy-out-wrong-clock c = search rules
+
+counts-full-requires : tie.Need-counts-full-requires
+unfolding state_of
+counts-full-requires c κs = counted c.before.before.before.before.before.before.before.before.before
+
+returns-5 : tie.Need-returns-5
+unfolding state_of
+returns-5 c =
+    let e3 = c.before.before.before.before.before.before.before.before in
+    let e1 = e3.before.before.before in
+    let n = total (state_of (own (start_of e1))).verdicts in
+    let low : n ≤ most_verdicts = counted e1 in
+    let room : n ≢ most_verdicts = eqb-false n most_verdicts (sym c.before.counts-full.ensures ∙ not-true _ c.if5.true) in (
+      λ e. ((long e1).0, (long e1).1, formed e1, λ l. tables e3, λ l. omega (arith, low, room)),
+      λ e. absurd (false≢true (sym e)),
+    )
+
 mul-clock-of : tie.Need-overflow-mul-clock-of
 mul-clock-of c = search rules
 
@@ -131,6 +162,28 @@ shared-slice-read-clock-of-2 c = search rules
 clock-of-requires : tie.Need-clock-of-requires
 clock-of-requires c κs = search rules
 
+element-copy-out-wrong-clock-2 : tie.Need-element-copy-out-wrong-clock-2
+element-copy-out-wrong-clock-2 c = search rules
+
+returns-6 : tie.Need-returns-6
+unfolding shared_of state_of
+returns-6 c =
+    let at-clock-of = c.before.before in
+    let at-if4 = at-clock-of.before.before.before.before.before.before.before.before.before.before in
+    let e3 = at-if4.before in
+    let e1 = e3.before.before.before in
+    let a = start_of e1 in
+    let clock = at-clock-of.clock-of in
+    let k = calls a in
+    let at = a.args.at in (
+      λ e. absurd (false≢true e),
+      λ e. arrival-left a.args.second (shared a) (own a) (other a) (handles a) (sizes a) k at a.args.kind 4 clock.result
+          clock.ensures (not-false _ at-if4.if4.false)
+          (arrival-late (shared_of (shared a)) (state_of (own a)) (state_of (other a)) (handles a) (sizes a)
+          clock.result (get_or k (at + 3) 0)
+          (eqb a.args.kind 1) (get_or k (at + 4) 0) e3.if3.false (which_of a.args.second) (formed e1) c.if6.true),
+    )
+
 add_wide : tie.Need-overflow-add-wide
 add_wide c = search rules
 
@@ -143,34 +196,48 @@ shared-slice-read-wide c = search rules
 wide-requires : tie.Need-wide-requires
 wide-requires c κs = search rules
 
-full-refusal-requires : tie.Need-full-refusal-requires
-full-refusal-requires c κs = counted c.before.before.before.before.before.before.before.before.before
-
-returns-5 : tie.Need-returns-5
-unfolding shared_of
-returns-5 c =
-    let at_wide = c.before in
-    let at-clock-of = at_wide.before.before in
-    let e4 = at-clock-of.before.before.before in
-    let e3 = e4.before in
+returns-7 : tie.Need-returns-7
+unfolding shared_of state_of
+returns-7 c =
+    let at-if6 = c.before.before.before in
+    let at-clock-of = at-if6.before.before in
+    let at-if4 = at-clock-of.before.before.before.before.before.before.before.before.before.before in
+    let e3 = at-if4.before in
     let e1 = e3.before.before.before in
     let a = start_of e1 in
-    let o = state_of (own a) in
-    let clock = clock_at (calls a) a.args.at in
-    let size = get_or (calls a) (a.args.at + 3) 0 in
-    let r = c.full-refusal in
-    let said = r.ensures
-    ∙ ap (λ (n : ℕ). full_code o n at_wide.wide.result) at-clock-of.clock-of.ensures
-    ∙ ap (λ (n : ℕ). full_code o clock n) at_wide.wide.ensures in (
-      λ z. (
-        (long e1).0,
-        (long e1).1,
-        formed e1,
-        λ l. tables e3,
-        λ l. room-for-one o clock size r.result said (counted e1) z,
-      ),
-      λ z. full-left a.args.second (shared a) (own a) (other a) (handles a) (sizes a) (calls a) a.args.at a.args.kind
-          (not-false _ e4.if4.false) (formed e1) e3.if3.false r.result said z,
+    let clock = at-clock-of.clock-of in
+    let k = calls a in
+    let at = a.args.at in (
+      λ e. absurd (false≢true e),
+      λ e. arrival-left a.args.second (shared a) (own a) (other a) (handles a) (sizes a) k at a.args.kind 7 clock.result
+          clock.ensures (not-false _ at-if4.if4.false)
+          (arrival-size (shared_of (shared a)) (state_of (own a)) (state_of (other a)) (handles a) (sizes a)
+          clock.result (get_or k (at + 3) 0)
+          (eqb a.args.kind 1) (get_or k (at + 4) 0) e3.if3.false (which_of a.args.second) (formed e1)
+          at-if6.if6.false (rw c.before.wide.ensures at c.if7.true)),
+    )
+
+returns-8 : tie.Need-returns-8
+unfolding shared_of state_of
+returns-8 c =
+    let at-if6 = c.before.before.before in
+    let at-clock-of = at-if6.before.before in
+    let at-if5 = at-clock-of.before.before.before in
+    let at-counts-full = at-if5.before in
+    let at-if4 = at-counts-full.before.before.before.before.before.before in
+    let e3 = at-if4.before in
+    let e1 = e3.before.before.before in
+    let a = start_of e1 in
+    let clock = at-clock-of.clock-of in
+    let k = calls a in
+    let at = a.args.at in (
+      λ e. absurd (false≢true e),
+      λ e. arrival-left a.args.second (shared a) (own a) (other a) (handles a) (sizes a) k at a.args.kind 8 clock.result
+          clock.ensures (not-false _ at-if4.if4.false)
+          (arrival-counts (shared_of (shared a)) (state_of (own a)) (state_of (other a)) (handles a) (sizes a)
+          clock.result (get_or k (at + 3) 0)
+          (eqb a.args.kind 1) (get_or k (at + 4) 0) e3.if3.false (which_of a.args.second) (formed e1) at-if6.if6.false
+          (rw c.before.wide.ensures at c.if7.false) (sym at-counts-full.counts-full.ensures ∙ not-false _ at-if5.if5.false)),
     )
 
 pub refusal-of-spec : {M : Type 1} → statement M
@@ -183,15 +250,24 @@ refusal-of-spec =
     element-copy-out-slots
     returns-3
     returns-4
+    element-copy-out-t23
+    element-copy-out-t26
+    element-copy-out-t34
+    element-copy-out-t37
+    element-copy-out-wrong-clock
+    counts-full-requires
+    returns-5
     mul-clock-of
     shared-slice-read-clock-of
     add-clock-of
     mul-clock-of-2
     shared-slice-read-clock-of-2
     clock-of-requires
+    element-copy-out-wrong-clock-2
+    returns-6
     add_wide
     mul_wide
     shared-slice-read-wide
     wide-requires
-    full-refusal-requires
-    returns-5)
+    returns-7
+    returns-8)

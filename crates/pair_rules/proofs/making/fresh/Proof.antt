@@ -6,7 +6,7 @@ use mathlib.Core.List.{◌++◌}
 use Prim.Native.Nat.{ℕ}
 use Rattle.laws.specs.Tests.{all}
 use Rattle.pair_rules.specs.Fresh.{fresh, fresh_shared, setup_conditions, setup_refused}
-use Rattle.pair_rules.specs.WellFormed.{reserves_conditions}
+use Rattle.pair_rules.specs.WellFormed.{slots_conditions}
 use Rattle.pair_rules.specs.declared.Setup.{Setup}
 use Rattle.pair_rules.specs.declared.Shared.{Shared}
 use Rattle.pair_rules.proofs.AllOf.{all_append}
@@ -19,11 +19,11 @@ regrouped false b c = refl
 
 -- what the three functions answer
 refused-is : (slots : ℕ) (intercom passengers : Setup) (s : Shared) (a b c : Bool) →
-    s ≡ fresh_shared slots intercom.reserve passengers.reserve → a ≡ all (reserves_conditions s) →
+    s ≡ fresh_shared slots intercom.reserve passengers.reserve → a ≡ all (slots_conditions s) →
     b ≡ all (setup_conditions intercom) → c ≡ all (setup_conditions passengers) →
     setup_refused slots intercom passengers ≡ not ((a && b) && c)
 refused-is slots intercom passengers s a b c es ea eb ec =
-    let x = reserves_conditions (fresh_shared slots intercom.reserve passengers.reserve) in
+    let x = slots_conditions (fresh_shared slots intercom.reserve passengers.reserve) in
     let y = setup_conditions intercom in
     let z = setup_conditions passengers in
     let all_three : all (x ++ y ++ z) ≡ (all x && all y) && all z =

@@ -35,7 +35,7 @@ element-copy-out-bytes-full c = search rules
 add-bytes-full : tie.Need-overflow-add-bytes-full
 unfolding state_of
 add-bytes-full c =
-    let a = c.before.before.before in
+    let a = c.before.before in
     let f = (known a).own in omega (arith, f.bytes_fit, f.buffer-high, a.requires.1.1)
 
 undrawn-requires : tie.Need-undrawn-requires
@@ -43,8 +43,8 @@ undrawn-requires c κs = search rules
 
 returns : tie.Need-returns
 returns c =
-    let a = c.before.before.before.before.before in
-    bytes-rule (second a) (shared a) (own a) (other a) a.args.size.0 a.args.ecn a.args.u _ _ c.undrawn.ensures.0
+    let a = c.before.before.before.before in
+    bytes-rule (second a) (shared a) (own a) (other a) a.args.size a.args.ecn a.args.u _ _ c.undrawn.ensures.0
     c.undrawn.ensures.1 c.before.if1.true
 
 element-copy-out-slots-full : tie.Need-element-copy-out-slots-full
@@ -55,7 +55,7 @@ element-copy-out-slots-full-2 c = search rules
 
 slots-full-requires : tie.Need-slots-full-requires
 slots-full-requires c κs =
-    let a = c.before.before.before.before.before.before in
+    let a = c.before.before.before.before.before in
     let k = known a in ((a.requires.0.0, k.own-count, k.other-count), (k.reserves-high, k.slots-high))
 
 undrawn-requires-2 : tie.Need-undrawn-requires-2
@@ -65,8 +65,8 @@ returns-2 : tie.Need-returns-2
 returns-2 c =
     let at-slots-full = c.before.before in
     let at-if1 = at-slots-full.before.before.before in
-    let a = at-if1.before.before.before.before in
-    slots-rule (second a) (shared a) (own a) (other a) a.args.size.0 a.args.ecn a.args.u at-if1.if1.false _ _
+    let a = at-if1.before.before.before in
+    slots-rule (second a) (shared a) (own a) (other a) a.args.size a.args.ecn a.args.u at-if1.if1.false _ _
     c.undrawn2.ensures.0 c.undrawn2.ensures.1 (sym at-slots-full.slots-full.ensures ∙ c.before.if2.true)
 
 element-copy-out-t17 : tie.Need-element-copy-out-t17
@@ -75,7 +75,7 @@ element-copy-out-t17 c = search rules
 spares-requires : tie.Need-spares-requires
 unfolding state_of
 spares-requires c κs =
-    let a = c.before.before.before.before.before.before.before.before.before.before in
+    let a = c.before.before.before.before.before.before.before.before.before in
     let f = (known a).own in (omega (arith, a.requires.0.1), (f.prob-high, f.old-high))
 
 undrawn-requires-3 : tie.Need-undrawn-requires-3
@@ -87,18 +87,17 @@ returns-3 c =
     let at-if2 = at-if3.before.before.before.before in
     let at-slots-full = at-if2.before in
     let at-if1 = at-slots-full.before.before.before in
-    let a = at-if1.before.before.before.before in
-    spared-rule (second a) (shared a) (own a) (other a) a.args.size.0 a.args.ecn a.args.u at-if1.if1.false
+    let a = at-if1.before.before.before in
+    spared-rule (second a) (shared a) (own a) (other a) a.args.size a.args.ecn a.args.u at-if1.if1.false
     (sym at-slots-full.slots-full.ensures ∙ at-if2.if2.false) _ _ c.undrawn3.ensures.0 c.undrawn3.ensures.1
     (sym at-if3.before.spares.ensures ∙ at-if3.if3.true)
 
 pie-at-requires : tie.Need-pie-at-requires
-pie-at-requires c κs = omega (arith, c.before.before.before.before.before.before.before.before.before.before.before.before.before.requires.0.1)
+pie-at-requires c κs = omega (arith, c.before.before.before.before.before.before.before.before.before.before.before.before.requires.0.1)
 
 draw-requires : tie.Need-draw-requires
 unfolding state_of
-draw-requires c κs =
-    let f = (known c.before.before.before.before.before.before.before.before.before.before.before.before.before.before).own in rw c.pie-at.ensures (f.prob-high, f.accumulated-high)
+draw-requires c κs = let f = (known c.before.before.before.before.before.before.before.before.before.before.before.before.before).own in rw c.pie-at.ensures (f.prob-high, f.accumulated-high)
 
 returns-4 : tie.Need-returns-4
 returns-4 c =
@@ -106,9 +105,9 @@ returns-4 c =
     let at-if2 = at-if3.before.before.before.before in
     let at-slots-full = at-if2.before in
     let at-if1 = at-slots-full.before.before.before in
-    let a = at-if1.before.before.before.before in
+    let a = at-if1.before.before.before in
     let read = c.before.pie-at.ensures in
-    drawn-rule (second a) (shared a) (own a) (other a) a.args.size.0 a.args.ecn a.args.u at-if1.if1.false
+    drawn-rule (second a) (shared a) (own a) (other a) a.args.size a.args.ecn a.args.u at-if1.if1.false
     (sym at-slots-full.slots-full.ensures ∙ at-if2.if2.false) _ _ (rw read at c.draw.ensures.0) (rw read at c.draw.ensures.1)
     (sym at-if3.before.spares.ensures ∙ at-if3.if3.false)
 

@@ -1,7 +1,7 @@
 -- `depart`: the tests in their order, then the words in which the new records differ.
 use borrow.Author.Rules.{rules}
 use borrow.Author.Tests.{eqb-false, ltb-false}
-use mathlib.Core.Path.{◌≡◌, ap, sym, ◌∙◌}
+use mathlib.Core.Path.{◌≡◌, ap, refl, sym, ◌∙◌}
 use mathlib.Core.Bool.{true, false}
 use mathlib.Core.List.{[], ◌∷◌}
 use mathlib.Core.Logic.{◌≢◌}
@@ -9,21 +9,20 @@ use Prim.Native.Nat.{ℕ, ◌≤◌, ◌<◌}
 use native.Mathlib.Omega.{arith}
 use lib.Dec.{ltb}
 use lib.ListN.{get_or, length}
+use lib.Seq.{get_or-set_other}
 use Rattle.laws.proofs.Tests.{or-neither}
-use Rattle.refusals.specs.Tests.{clock_refused, head_refused}
+use Rattle.pie.specs.declared.Rate.{Rate}
+use Rattle.refusals.specs.Tests.{head_refused}
 use Rattle.refusals.proofs.Fitting.{head-fits}
-use Rattle.store.specs.Following.{followed}
 use Rattle.pair_rules.specs.declared.Shared.{Shared}
 use Rattle.pair_rules.specs.declared.State.{State}
 use Rattle.pair_rules.proofs.Symmetry.{well-formed-seen}
 use Rattle.pair_rules.specs.Departure.{head_handle, head_size, head_word_refused}
 use Rattle.pair_rules.proofs.WhenAccepted.{Known, known}
-use Rattle.pie_words.specs.Words.{backlog_at}
 use Rattle.pair_words.specs.Words.{shared_of, state_of, which_of}
-use Rattle.pair_steps.specs.Written.{departed_words}
 use Rattle.pair_steps.proofs.Replies.{Fit, departed-gives, tables-fit}
-use Rattle.pair_steps.proofs.Replies.{departure-empty, departure-late, departure-made, departure-refused-gives, departure-wrong}
-use Rattle.pair_steps.proofs.Words.{departed-words}
+use Rattle.pair_steps.proofs.Replies.{departure-empty, departure-late, departure-made, departure-wrong}
+use Rattle.pair_steps.proofs.Words.{departed-words, left-long, left-rate, taken-words}
 use Rattle.pair_steps.proofs.departing.depart.Statement.{statement}
 use Rattle.pair_steps.proofs.departing.depart.Tie as tie
 
@@ -52,101 +51,88 @@ head_in a = let k = known_of a in omega (arith, k.own.head-high, k.slots-high, a
 -- ── where a test has passed ──
 
 abbrev at-start : tie.Else1 → tie.Start
-at-start c = c.before.before.before.before.before
-
-abbrev at_one : tie.Else2 → tie.Else1
-at_one c = c.before.before
+at-start c = c.before.before.before.before
 
 abbrev at-two : tie.Else3 → tie.Else2
 at-two c = c.before.before.before.before.before.before
 
-abbrev at-three : tie.Else4 → tie.Else3
-at-three c = c.before.before.before.before
+abbrev else-3 : tie.Else4 → tie.Else3
+else-3 c = c.before.before.before.before
 
 abbrev start-3 : tie.Else3 → tie.Start
-start-3 c = at-start (at_one (at-two c))
+start-3 c = at-start (at-two c).before.before
 
 abbrev start-4 : tie.Else4 → tie.Start
-start-4 c = start-3 (at-three c)
+start-4 c = start-3 (else-3 c)
 
-timely : (c : tie.Else1) → clock_refused (own (at-start c)).clock.0 (at-start c).args.clock.0 ≡ false
-unfolding state_of
-timely c = sym c.before.wrong-clock.ensures ∙ c.if1.false
+abbrev at-four : tie.After-shared → tie.Else4
+at-four c = c.before.before.before.before.before.before.before.before.before.before
 
-some : (c : tie.Else2) → (own (at-start (at_one c))).backlog.count ≢ 0
+some : (c : tie.Else2) → (own (at-start c.before.before)).backlog.count ≢ 0
 unfolding state_of
 some c = eqb-false _ _ c.if2.false
 
 not-wrong : (c : tie.Else3) → head_refused (own (start-3 c)).backlog (head_size (own (start-3 c)) (start-3 c).args.sizes.now) ≡ false
 unfolding state_of
-not-wrong c = sym (rw c.before.before.before.size-at.ensures at c.before.wrong-head.ensures) ∙ c.if3.false
+not-wrong c = sym (rw c.before.before.size-at.ensures at c.before.wrong-head.ensures) ∙ c.if3.false
 
 -- ── the needs ──
+
+element-copy-out-wrong-clock : tie.Need-element-copy-out-wrong-clock
+element-copy-out-wrong-clock c = search rules
+
+returns : tie.Need-returns
+unfolding shared_of state_of
+returns c =
+    let a = c.before.before.before.before in
+    rw (departure-late (shared a) (own a) (other a) a.args.handles.now a.args.sizes.now a.args.clock (fit a)
+    (which_of a.args.second) a.requires.1.0 c.if1.true) (refl, refl, refl, refl, a.requires.1.1.1)
 
 element-copy-out-count : tie.Need-element-copy-out-count
 element-copy-out-count c = search rules
 
-wrong-clock-requires : tie.Need-wrong-clock-requires
-wrong-clock-requires c κs = search rules
-
-returns : tie.Need-returns
-unfolding state_of
-returns c =
-    let a = c.before.before.before.before.before in
-    let late = sym c.before.wrong-clock.ensures ∙ c.if1.true in
-    departure-refused-gives (which_of a.args.second) (shared a) (own a) (other a) a.args.handles.now a.args.sizes.now a.args.clock.0 4
-    a.args.shared.now a.args.own.now _
-    (departure-late (shared a) (own a) (other a) a.args.handles.now a.args.sizes.now a.args.clock.0 (fit a)
-    (which_of a.args.second) a.requires.1.0 late) a.requires.1.1.1
-
-element-copy-out-count-2 : tie.Need-element-copy-out-count-2
-element-copy-out-count-2 c = search rules
-
 returns-2 : tie.Need-returns-2
-unfolding state_of
+unfolding shared_of state_of
 returns-2 c =
     let e1 = c.before.before in
     let a = at-start e1 in
-    departure-refused-gives (which_of a.args.second) (shared a) (own a) (other a) a.args.handles.now a.args.sizes.now a.args.clock.0 6
-    a.args.shared.now a.args.own.now _
-    (departure-empty (shared a) (own a) (other a) a.args.handles.now a.args.sizes.now a.args.clock.0 (fit a)
-    (which_of a.args.second) a.pre.1.0 (timely e1) c.if2.true) a.pre.1.1.1
+    rw (departure-empty (shared a) (own a) (other a) a.args.handles.now a.args.sizes.now a.args.clock (fit a)
+    (which_of a.args.second) a.pre.1.0 e1.if1.false c.if2.true) (refl, refl, refl, refl, a.pre.1.1.1)
+
+element-copy-out-bytes : tie.Need-element-copy-out-bytes
+element-copy-out-bytes c = search rules
 
 element-copy-out-head : tie.Need-element-copy-out-head
 element-copy-out-head c = search rules
 
 size-at-requires : tie.Need-size-at-requires
-unfolding state_of
-size-at-requires c κs = head_in (at-start (at_one c.before.before))
-
-element-copy-out-wrong-head : tie.Need-element-copy-out-wrong-head
-element-copy-out-wrong-head c = search rules
+unfolding shared_of state_of
+size-at-requires c κs = head_in (at-start c.before.before.before.before.before)
 
 cast-wrong-head : tie.Need-overflow-cast-wrong-head
 cast-wrong-head c = search rules
 
 wrong-head-requires : tie.Need-wrong-head-requires
-unfolding state_of
+unfolding shared_of state_of
 wrong-head-requires c κs =
     let e2 = c.before.before.before.before in
-    let k = known_of (at-start (at_one e2)) in
+    let k = known_of (at-start e2.before.before) in
     let n = some e2 in omega (arith, k.own.count-high, k.slots-high)
 
 same_length : tie.Need-same-length
 same_length c = search rules
 
 returns-3 : tie.Need-returns-3
-unfolding state_of
+unfolding shared_of state_of
 returns-3 c =
     let e2 = c.before.before.before.before.before.before in
-    let a = at-start (at_one e2) in
+    let e1 = e2.before.before in
+    let a = at-start e1 in
     let wrong : head_refused (own a).backlog (head_size (own a) a.args.sizes.now) ≡ true =
-    sym (rw c.before.before.before.size-at.ensures at c.before.wrong-head.ensures) ∙ c.if3.true in
+    sym (rw c.before.before.size-at.ensures at c.before.wrong-head.ensures) ∙ c.if3.true in
     let x : head_word_refused (shared a).slots (own a) a.args.sizes.now ≡ true = rw wrong in
-    departure-refused-gives (which_of a.args.second) (shared a) (own a) (other a) a.args.handles.now a.args.sizes.now a.args.clock.0 9
-    a.args.shared.now a.args.own.now _
-    (departure-wrong (shared a) (own a) (other a) a.args.handles.now a.args.sizes.now a.args.clock.0 (fit a)
-    (which_of a.args.second) a.pre.1.0 (timely (at_one e2)) e2.if2.false x) a.pre.1.1.1
+    rw (departure-wrong (shared a) (own a) (other a) a.args.handles.now a.args.sizes.now a.args.clock (fit a)
+    (which_of a.args.second) a.pre.1.0 e1.if1.false e2.if2.false x) (refl, refl, refl, refl, a.pre.1.1.1)
 
 element-copy-out-leads-nowhere : tie.Need-element-copy-out-leads-nowhere
 element-copy-out-leads-nowhere c = search rules
@@ -163,52 +149,99 @@ unfolding shared_of state_of
 returns-4 c =
     let e3 = c.before.before.before.before in
     let e2 = at-two e3 in
-    let a = at-start (at_one e2) in
+    let e1 = e2.before.before in
+    let a = at-start e1 in
     let lost = sym c.before.leads-nowhere.ensures ∙ c.if4.true in
     let x : head_word_refused (shared a).slots (own a) a.args.sizes.now ≡ true = rw (not-wrong e3, lost) in
-    departure-refused-gives (which_of a.args.second) (shared a) (own a) (other a) a.args.handles.now a.args.sizes.now a.args.clock.0 9
-    a.args.shared.now a.args.own.now _
-    (departure-wrong (shared a) (own a) (other a) a.args.handles.now a.args.sizes.now a.args.clock.0 (fit a)
-    (which_of a.args.second) a.pre.1.0 (timely (at_one e2)) e2.if2.left x) a.pre.1.1.1
+    rw (departure-wrong (shared a) (own a) (other a) a.args.handles.now a.args.sizes.now a.args.clock (fit a)
+    (which_of a.args.second) a.pre.1.0 e1.if1.left e2.if2.left x) (refl, refl, refl, refl, a.pre.1.1.1)
 
 follow-requires : tie.Need-follow-requires
 unfolding shared_of state_of
 follow-requires c κs = head_in (start-4 c.before)
 
-mul-t39 : tie.Need-overflow-mul-t39
+mul-t43 : tie.Need-overflow-mul-t43
 unfolding shared_of state_of
-mul-t39 c = let k = known_of (start-4 c.before.before) in omega (arith, k.own.head-high, k.slots-high)
+mul-t43 c = let k = known_of (start-4 c.before.before) in omega (arith, k.own.head-high, k.slots-high)
 
-shared-slice-read-t41 : tie.Need-shared-slice-read-t41
+shared-slice-read-t45 : tie.Need-shared-slice-read-t45
 unfolding shared_of state_of
-shared-slice-read-t41 c =
+shared-slice-read-t45 c =
     let a = start-4 c.before.before.before in
     let k = known_of a in omega (arith, k.own.head-high, a.pre.1.1.0.0)
 
-free-slot-requires : tie.Need-free-slot-requires
+element-copy-out-write-freed : tie.Need-element-copy-out-write-freed
+element-copy-out-write-freed c = search rules
+
+write-freed-requires : tie.Need-write-freed-requires
 unfolding shared_of state_of
-free-slot-requires c κs =
+write-freed-requires c κs =
     let a = start-4 c.before.before.before.before.before.before in
-    let k = known_of a in
-    ((a.pre.0.0, omega (arith, k.freed-high, k.slots-high), omega (arith, k.spare-high, k.slots-high)), head_in a)
+    let k = known_of a in omega (arith, k.own.head-high, k.freed-high, k.slots-high, a.pre.1.1.0.1)
 
-cast-t20 : tie.Need-overflow-cast-t20
-cast-t20 c = search rules
+element-write-shared : tie.Need-element-write-shared
+element-write-shared c = search rules
 
-leave-requires : tie.Need-leave-requires
+element-copy-out-shared : tie.Need-element-copy-out-shared
+element-copy-out-shared c = search rules
+
+add-shared : tie.Need-overflow-add-shared
 unfolding shared_of state_of
-leave-requires c κs =
-    let e3 = at-three c.before.before.before.before.before.before.before.before.before.before in
-    let a = start-3 e3 in
+add-shared c =
+    let a = start-4 (at-four c) in
+    let k = known_of a in
+    let sh = a.args.shared.now in
+    omega (arith, k.spare-high, k.slots-high, get_or-set_other sh 4 5 (own a).ends.head 0 (λ x. omega arith))
+
+element-write-shared-2 : tie.Need-element-write-shared-2
+element-write-shared-2 c = search rules
+
+sub-others : tie.Need-overflow-sub-others
+unfolding state_of
+sub-others c = let n = some (at-two (else-3 (at-four c))) in omega arith
+
+cast-left : tie.Need-overflow-cast-left
+cast-left c = search rules
+
+sub-left : tie.Need-overflow-sub-left
+unfolding shared_of state_of
+sub-left c = let e3 = else-3 (at-four c) in rw e3.before.before.size-at.ensures (head-fits _ _ (not-wrong e3)).fits
+
+element-write-own : tie.Need-element-write-own
+element-write-own c = search rules
+
+element-write-own-2 : tie.Need-element-write-own-2
+element-write-own-2 c = search rules
+
+element-write-own-3 : tie.Need-element-write-own-3
+element-write-own-3 c = search rules
+
+element-write-own-4 : tie.Need-element-write-own-4
+element-write-own-4 c = search rules
+
+cast-t24 : tie.Need-overflow-cast-t24
+cast-t24 c = search rules
+
+measure-requires : tie.Need-measure-requires
+unfolding shared_of state_of
+measure-requires c κs =
+    let e4 = at-four c.before in
+    let e3 = else-3 e4 in
+    let a = start-4 e4 in
     let k = known_of a in
     let w = a.args.own.now in
-    let n = some (at-two e3) in
-    let size = e3.before.before.before.size-at.ensures in
-    let fits = head-fits _ _ (not-wrong e3) in
-    let low = (or-neither (ltb a.args.clock.0 (get_or w 2 0)) _ (timely (at_one (at-two e3)))).0 in
-    let later : get_or w 2 0 ≤ a.args.clock.0 = ltb-false _ _ low in (
-      (a.pre.0.1, omega (arith, n), rw size fits.fits, rw size fits.high),
-      (omega (arith, k.own.start-high, later), k.own.average-high, k.own.counted-high),
+    let d = e3.before.before.size-at in
+    let next = c.before.before.before.before.before.before.before.before.before.follow.result in
+    let same = left-rate a.args.clock d.result next w a.pre.0.1 in
+    let low = (or-neither (ltb a.args.clock (get_or w 2 0)) _ (at-two e3).before.before.if1.left).0 in
+    let later : get_or w 2 0 ≤ a.args.clock = ltb-false _ _ low in (
+      omega (arith, left-long a.args.clock d.result next w a.pre.0.1),
+      (
+        rw (ap (λ (r : Rate). r.start.0) same) (omega (arith, k.own.start-high, later)),
+        rw (ap (λ (r : Rate). r.average.0) same) k.own.average-high,
+        rw (ap (λ (r : Rate). r.counted.0) same) k.own.counted-high,
+        rw d.ensures (head-fits _ _ (not-wrong e3)).high,
+      ),
     )
 
 same-length-3 : tie.Need-same-length-3
@@ -217,41 +250,41 @@ same-length-3 c = search rules
 returns-5 : tie.Need-returns-5
 unfolding shared_of state_of
 returns-5 c =
-    let e4 = c.before.before.before.before.before.before.before.before.before.before.before in
-    let e3 = at-three e4 in
+    let g = c.before.before in
+    let e4 = at-four g in
+    let e3 = else-3 e4 in
     let e2 = at-two e3 in
-    let a = at-start (at_one e2) in
+    let e1 = e2.before.before in
+    let a = at-start e1 in
     let w = which_of a.args.second in
+    let sh = a.args.shared.now in
     let ow = a.args.own.now in
     let sz = a.args.sizes.now in
-    let clock = a.args.clock.0 in
-    let size = e3.before.before.before.size-at in
-    let freed = c.before.before.before.before.free-slot.ensures in
-    let link = sym e4.before.leads-nowhere.ensures ∙ e4.if4.false in
+    let size = head_size (own a) sz in
+    let d = e3.before.before.size-at in
+    let next = g.before.before.before.before.before.before.before.before.follow in
+    let freed = g.before.before.before.write-freed in
+    let link = sym e4.before.leads-nowhere.ensures ∙ e4.if4.left in
     let right : head_word_refused (shared a).slots (own a) sz ≡ false = rw (not-wrong e3, link) in
-    let made = departure-made (shared a) (own a) (other a) a.args.handles.now sz clock (fit a) w a.pre.1.0
-    (timely (at_one e2)) e2.if2.left right in
-    departed-gives w (shared a) (own a) (other a) a.args.handles.now sz clock a.args.shared.now _ ow _ _ _ made
-    freed.0
-    (c.leave.ensures
-    ∙ ap (λ (n : ℕ). departed_words ow clock (backlog_at ow 4) size.result n) c.before.before.before.before.before.before.before.before.before.follow.ensures
-    ∙ ap (λ (n : ℕ). departed_words ow clock (backlog_at ow 4) n (followed sz (get_or ow 14 0) (get_or ow 12 0))) size.ensures
-    ∙ departed-words sz clock (head_size (own a) sz) ow a.pre.0.1)
-    freed.1
-    (ap (λ (n : ℕ). head_handle (own a) a.args.handles.now ∷ n ∷ []) size.ensures)
+    let made = departure-made (shared a) (own a) (other a) a.args.handles.now sz a.args.clock (fit a) w a.pre.1.0
+    e1.if1.left e2.if2.left right in
+    departed-gives w (shared a) (own a) (other a) a.args.handles.now sz a.args.clock sh _ ow _ _ _ made
+    (taken-words (own a).ends.head sh a.pre.0.0)
+    (rw (next.ensures, d.ensures) at c.measure.ensures ∙ departed-words sz a.args.clock size ow a.pre.0.1)
+    freed.ensures
+    (ap (λ (n : ℕ). head_handle (own a) a.args.handles.now ∷ n ∷ []) d.ensures)
 
 pub depart-spec : {M : Type 1} → statement M
 depart-spec =
     tie.close
     (tie.spec
-    element-copy-out-count
-    wrong-clock-requires
+    element-copy-out-wrong-clock
     returns
-    element-copy-out-count-2
+    element-copy-out-count
     returns-2
+    element-copy-out-bytes
     element-copy-out-head
     size-at-requires
-    element-copy-out-wrong-head
     cast-wrong-head
     wrong-head-requires
     same_length
@@ -261,10 +294,22 @@ depart-spec =
     same-length-2
     returns-4
     follow-requires
-    mul-t39
-    shared-slice-read-t41
-    free-slot-requires
-    cast-t20
-    leave-requires
+    mul-t43
+    shared-slice-read-t45
+    element-copy-out-write-freed
+    write-freed-requires
+    element-write-shared
+    element-copy-out-shared
+    add-shared
+    element-write-shared-2
+    sub-others
+    cast-left
+    sub-left
+    element-write-own
+    element-write-own-2
+    element-write-own-3
+    element-write-own-4
+    cast-t24
+    measure-requires
     same-length-3
     returns-5)

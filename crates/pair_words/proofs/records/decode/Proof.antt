@@ -29,18 +29,30 @@ array-read-t10-3 c = search rules
 array-read-t14-3 : tie.Need-array-read-t14-3
 array-read-t14-3 c = search rules
 
-counts-of-requires : tie.Need-counts-of-requires
-counts-of-requires c κs = search rules
-
 array-read-t10-4 : tie.Need-array-read-t10-4
 array-read-t10-4 c = search rules
 
 array-read-t14-4 : tie.Need-array-read-t14-4
 array-read-t14-4 c = search rules
 
+array-read-t32 : tie.Need-array-read-t32
+array-read-t32 c = search rules
+
+array-read-t35 : tie.Need-array-read-t35
+array-read-t35 c = search rules
+
+array-read-t38 : tie.Need-array-read-t38
+array-read-t38 c = search rules
+
+array-read-t10-5 : tie.Need-array-read-t10-5
+array-read-t10-5 c = search rules
+
+array-read-t35-2 : tie.Need-array-read-t35-2
+array-read-t35-2 c = search rules
+
 returns : tie.Need-returns
 unfolding state_of
-returns c = (rw (c.Counts-of.ensures, c.before.before.pie-at.ensures) refl, search rules)
+returns c = (rw c.pie-at.ensures refl, search rules)
 
 pub decode-spec : {M : Type 1} → statement M
 decode-spec =
@@ -54,7 +66,11 @@ decode-spec =
     array-read-t14-2
     array-read-t10-3
     array-read-t14-3
-    counts-of-requires
     array-read-t10-4
     array-read-t14-4
+    array-read-t32
+    array-read-t35
+    array-read-t38
+    array-read-t10-5
+    array-read-t35-2
     returns)

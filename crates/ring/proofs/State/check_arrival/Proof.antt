@@ -1,11 +1,12 @@
 -- `State::check_arrival`: each test in turn is the definition's own.
+use borrow.Author.Rules.{rules}
 use Rattle.ring.specs.Arrival.{arrival_refusal}
 use Rattle.ring.proofs.Facts.{counted, uncounted}
 use Rattle.ring.proofs.State.check_arrival.Statement.{statement}
 use Rattle.ring.proofs.State.check_arrival.Tie as tie
 
 counts-fit-requires : tie.Need-counts-fit-requires
-counts-fit-requires c κs = tt
+counts-fit-requires c κs = search rules
 
 returns : tie.Need-returns
 unfolding arrival_refusal
@@ -24,53 +25,37 @@ unfolding arrival_refusal
 returns-3 c =
     let e2 = c.before in simp (← e2.before.formed.ensures, e2.if2.false, c.if3.true)
 
-wrong-clock-requires : tie.Need-wrong-clock-requires
-wrong-clock-requires c κs = tt
-
 returns-4 : tie.Need-returns-4
 unfolding arrival_refusal
 returns-4 c =
-    let e3 = c.before.before in
-    let e2 = e3.before in
-    simp (← e2.before.formed.ensures, e2.if2.false, e3.if3.false, ← c.before.wrong-clock.ensures, c.if4.true)
-
-wrong-size-requires : tie.Need-wrong-size-requires
-wrong-size-requires c κs = tt
+    let e3 = c.before.before.before.before in
+    let e2 = e3.before in simp (← e2.before.formed.ensures, e2.if2.false, e3.if3.false, c.if4.true)
 
 returns-5 : tie.Need-returns-5
 unfolding arrival_refusal
 returns-5 c =
-    let e4 = c.before.before in
-    let e3 = e4.before.before in
-    let e2 = e3.before in
-    simp (
-      ← e2.before.formed.ensures,
-      e2.if2.false,
-      e3.if3.false,
-      ← e4.before.wrong-clock.ensures,
-      e4.if4.false,
-      ← c.before.wrong_size.ensures,
-      c.if5.true,
-    )
+    let e4 = c.before.before.before in
+    let e3 = e4.before.before.before.before in
+    let e2 = e3.before in simp (← e2.before.formed.ensures, e2.if2.false, e3.if3.false, e4.if4.false, c.if5.true)
 
 counts-full-requires : tie.Need-counts-full-requires
 counts-full-requires c κs =
-    let e1 = c.before.before.before.before.before.before.before in counted _ _ e1.before.counts-fit.ensures e1.if1.false
+    let e4 = c.before.before.before in
+    let e3 = e4.before.before.before.before in
+    let e1 = e3.before.before.before in counted _ _ e1.before.counts-fit.ensures e1.if1.false
 
 returns-6 : tie.Need-returns-6
 unfolding arrival_refusal
 returns-6 c =
     let e5 = c.before.before in
-    let e4 = e5.before.before in
-    let e3 = e4.before.before in
+    let e4 = e5.before.before.before in
+    let e3 = e4.before.before.before.before in
     let e2 = e3.before in
     simp (
       ← e2.before.formed.ensures,
       e2.if2.false,
       e3.if3.false,
-      ← e4.before.wrong-clock.ensures,
       e4.if4.false,
-      ← e5.before.wrong_size.ensures,
       e5.if5.false,
       ← c.before.counts-full.ensures,
       c.if6.true,
@@ -80,16 +65,14 @@ returns-7 : tie.Need-returns-7
 unfolding arrival_refusal
 returns-7 c =
     let e5 = c.before.before in
-    let e4 = e5.before.before in
-    let e3 = e4.before.before in
+    let e4 = e5.before.before.before in
+    let e3 = e4.before.before.before.before in
     let e2 = e3.before in
     simp (
       ← e2.before.formed.ensures,
       e2.if2.false,
       e3.if3.false,
-      ← e4.before.wrong-clock.ensures,
       e4.if4.false,
-      ← e5.before.wrong_size.ensures,
       e5.if5.false,
       ← c.before.counts-full.ensures,
       c.if6.false,
@@ -104,9 +87,7 @@ check-arrival-spec =
     formed-requires
     returns-2
     returns-3
-    wrong-clock-requires
     returns-4
-    wrong-size-requires
     returns-5
     counts-full-requires
     returns-6

@@ -1,4 +1,5 @@
 -- `State::check_departure`: each test in turn is the definition's own; the head is read once the tables are known to fit.
+use borrow.Author.Rules.{rules}
 use borrow.Author.Tests.{eqb-false, eqb-true, not-false}
 use mathlib.Core.Path.{◌≡◌, sym, ◌∙◌}
 use mathlib.Core.Logic.{◌≢◌}
@@ -12,7 +13,7 @@ use Rattle.ring.proofs.State.check_departure.Statement.{statement}
 use Rattle.ring.proofs.State.check_departure.Tie as tie
 
 counts-fit-requires : tie.Need-counts-fit-requires
-counts-fit-requires c κs = tt
+counts-fit-requires c κs = search rules
 
 returns : tie.Need-returns
 unfolding departure_refusal
@@ -32,46 +33,35 @@ unfolding departure_refusal
 returns-3 c =
     let e2 = c.before in simp (← e2.before.formed.ensures, e2.if2.false, c.if3.true)
 
-wrong-clock-requires : tie.Need-wrong-clock-requires
-wrong-clock-requires c κs = tt
-
 returns-4 : tie.Need-returns-4
 unfolding departure_refusal
 returns-4 c =
-    let e3 = c.before.before in
-    let e2 = e3.before in
-    simp (← e2.before.formed.ensures, e2.if2.false, e3.if3.false, ← c.before.wrong-clock.ensures, c.if4.true)
+    let e3 = c.before.before.before.before in
+    let e2 = e3.before in simp (← e2.before.formed.ensures, e2.if2.false, e3.if3.false, c.if4.true)
 
 returns-5 : tie.Need-returns-5
 unfolding departure_refusal
 returns-5 c =
     let e4 = c.before.before.before in
-    let e3 = e4.before.before in
-    let e2 = e3.before in
-    simp (
-      ← e2.before.formed.ensures,
-      e2.if2.false,
-      e3.if3.false,
-      ← e4.before.wrong-clock.ensures,
-      e4.if4.false,
-      c.if5.true,
-    )
+    let e3 = e4.before.before.before.before in
+    let e2 = e3.before in simp (← e2.before.formed.ensures, e2.if2.false, e3.if3.false, e4.if4.false, c.if5.true)
 
 -- what is known where the head is read: the state's facts, that the table fits, and that a packet is queued
-abbrev else3 : tie.Else5 → tie.Else3
-else3 c = c.before.before.before.before.before
+abbrev else2 : tie.Else5 → tie.Else2
+else2 c = c.before.before.before.before.before.before.before.before
 
 abbrev at-start : tie.Else5 → tie.Start
-at-start c = (else3 c).before.before.before.before.before.before.before
+at-start c = (else2 c).before.before.before.before.before.before
 
 known : (c : tie.Else5) → Facts (at-start c).args.self
 known c =
-    let e2 = (else3 c).before in facts (at-start c).args.self (sym e2.before.formed.ensures ∙ not-false _ e2.if2.left)
+    let e2 = else2 c in facts (at-start c).args.self (sym e2.before.formed.ensures ∙ not-false _ e2.if2.left)
 
 fits : (c : tie.Else5) → length (at-start c).args.sizes.now ≡ (at-start c).args.self.settings.slots
 fits c =
+    let e3 = c.before.before.before.before.before.before.before in
     let a = (at-start c).args in
-    eqb-true _ _ (and_right (eqb a.handles a.self.settings.slots) _ (not-false _ (else3 c).if3.false))
+    eqb-true _ _ (and_right (eqb a.handles a.self.settings.slots) _ (not-false _ e3.if3.false))
 
 some : (c : tie.Else5) → (at-start c).args.self.backlog.count ≢ 0
 some c = eqb-false _ _ c.if5.false
@@ -94,13 +84,12 @@ unfolding departure_refusal
 returns-6 c =
     let e5 = c.before.before.before in
     let e4 = e5.before.before.before in
-    let e3 = e4.before.before in
+    let e3 = e4.before.before.before.before in
     let e2 = e3.before in
     simp (
       ← e2.before.formed.ensures,
       e2.if2.false,
       e3.if3.false,
-      ← e4.before.wrong-clock.ensures,
       e4.if4.false,
       e5.if5.false,
       ← c.before.wrong-head.ensures,
@@ -112,13 +101,12 @@ unfolding departure_refusal
 returns-7 c =
     let e5 = c.before.before.before in
     let e4 = e5.before.before.before in
-    let e3 = e4.before.before in
+    let e3 = e4.before.before.before.before in
     let e2 = e3.before in
     simp (
       ← e2.before.formed.ensures,
       e2.if2.false,
       e3.if3.false,
-      ← e4.before.wrong-clock.ensures,
       e4.if4.false,
       e5.if5.false,
       ← c.before.wrong-head.ensures,
@@ -134,7 +122,6 @@ check-departure-spec =
     formed-requires
     returns-2
     returns-3
-    wrong-clock-requires
     returns-4
     returns-5
     mul-size

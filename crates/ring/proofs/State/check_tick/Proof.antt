@@ -1,5 +1,8 @@
 -- `State::check_tick`: each test in turn is the definition's own.
-use borrow.Author.Tests.{not-false}
+use borrow.Author.Rules.{rules}
+use Prim.Native.Nat.{◌+◌}
+use borrow.Author.Tests.{lt-ltb, ltb-true, not-false}
+use Rattle.pie.specs.Constants.{period}
 use mathlib.Core.Path.{sym, ◌∙◌}
 use native.Mathlib.Omega.{arith}
 use Rattle.ring.specs.Tick.{tick_refusal}
@@ -8,7 +11,7 @@ use Rattle.ring.proofs.State.check_tick.Statement.{statement}
 use Rattle.ring.proofs.State.check_tick.Tie as tie
 
 counts-fit-requires : tie.Need-counts-fit-requires
-counts-fit-requires c κs = tt
+counts-fit-requires c κs = search rules
 
 returns : tie.Need-returns
 unfolding tick_refusal
@@ -22,49 +25,33 @@ returns-2 : tie.Need-returns-2
 unfolding tick_refusal
 returns-2 c = simp (← c.before.formed.ensures, c.if2.true)
 
-wrong-clock-requires : tie.Need-wrong-clock-requires
-wrong-clock-requires c κs = tt
-
 returns-3 : tie.Need-returns-3
 unfolding tick_refusal
 returns-3 c =
-    let e2 = c.before.before in simp (← e2.before.formed.ensures, e2.if2.false, ← c.before.wrong-clock.ensures, c.if3.true)
+    let e2 = c.before.before.before.before in simp (← e2.before.formed.ensures, e2.if2.false, c.if3.true)
 
-too-soon-requires : tie.Need-too-soon-requires
-too-soon-requires c κs =
-    let e2 = c.before.before in
+add-too-soon : tie.Need-overflow-add-too-soon
+add-too-soon c =
+    let e2 = c.before.before.before.before.before in
     let w = e2.before in
-    let f = facts w.before.before.before.before.args.self (sym w.formed.ensures ∙ not-false _ e2.if2.false) in omega (arith, f.last-high, f.clock-high)
+    let f = facts w.before.before.before.before.args.self (sym w.formed.ensures ∙ not-false _ e2.if2.false) in omega arith
 
 returns-4 : tie.Need-returns-4
 unfolding tick_refusal
 returns-4 c =
-    let e3 = c.before.before in
-    let e2 = e3.before.before in
-    simp (
-      ← e2.before.formed.ensures,
-      e2.if2.false,
-      ← e3.before.wrong-clock.ensures,
-      e3.if3.false,
-      ← c.before.too-soon.ensures,
-      c.if4.true,
-    )
+    let e3 = c.before.before.before in
+    let e2 = e3.before.before.before.before in
+    let a = e2.before.before.before.before.before.args in
+    let soon = lt-ltb a.clock.0 (a.self.last.0 + period) (omega (arith, ltb-true)) in
+    simp (← e2.before.formed.ensures, e2.if2.false, e3.if3.false, soon)
 
 returns-5 : tie.Need-returns-5
 unfolding tick_refusal
 returns-5 c =
-    let e3 = c.before.before in
-    let e2 = e3.before.before in
-    simp (
-      ← e2.before.formed.ensures,
-      e2.if2.false,
-      ← e3.before.wrong-clock.ensures,
-      e3.if3.false,
-      ← c.before.too-soon.ensures,
-      c.if4.false,
-    )
+    let e3 = c.before.before.before in
+    let e2 = e3.before.before.before.before in simp (← e2.before.formed.ensures, e2.if2.false, e3.if3.false, c.if4.false)
 
 pub check-tick-spec : {M : Type 1} → statement M
 check-tick-spec =
     tie.close
-    (tie.spec counts-fit-requires returns formed-requires returns-2 wrong-clock-requires returns-3 too-soon-requires returns-4 returns-5)
+    (tie.spec counts-fit-requires returns formed-requires returns-2 returns-3 add-too-soon returns-4 returns-5)

@@ -4,8 +4,9 @@ use Rattle.ring_steps.proofs.arriving.take.Statement.{statement}
 use Rattle.ring_steps.proofs.arriving.take.Tie as tie
 use mathlib.Core.Path.{◌≡◌}
 use mathlib.Core.Bool.{true, false}
+use mathlib.Core.Logic.{◌≢◌}
 use mathlib.Core.List.{List}
-use Prim.Native.Nat.{ℕ, ◌+◌, ◌≤◌, ◌<◌}
+use Prim.Native.Nat.{ℕ, ◌+◌, ◌<◌}
 use native.Mathlib.Nat.{mod-lt}
 use native.Mathlib.Omega.{arith}
 use lib.ListN.{get_or, set}
@@ -16,7 +17,7 @@ use Rattle.ring.specs.Arrival.{tail_place, verdict_of}
 use Rattle.ring.proofs.Facts.{Facts, facts}
 use Rattle.ring_words.specs.Words.{state_of}
 use Rattle.ring_steps.specs.Words.{decided_words}
-use Rattle.ring_steps.proofs.Arrivals.{admits-as, count_low, counted-ok, entered-ok, past_bytes, past-count, past_first, past-slots}
+use Rattle.ring_steps.proofs.Arrivals.{admits-as, count_low, counted-ok, entered-ok, past, past_bytes}
 
 abbrev words_at : tie.Start → List ℕ
 words_at a = a.args.w.now
@@ -26,13 +27,6 @@ ruled a = verdict_of (state_of (words_at a)) a.args.size a.args.ecn a.args.u
 
 known : (a : tie.Start) → Facts (state_of (words_at a))
 known a = facts _ a.requires.0.0.1
-
--- a number's bound is that of its equal
-at_most : (n m k : ℕ) → n ≡ m → m ≤ k → n ≤ k
-at_most n m k e h = rw e h
-
-below : (n m k : ℕ) → n ≡ m → m < k → n < k
-below n m k e h = rw e h
 
 -- where the call began
 abbrev begun : tie.After-decide → tie.Start
@@ -49,41 +43,29 @@ ruled-words : (c : tie.After-decide) → c.decide.new.0 ≡ decided_words (words
 ruled-words c = rw c.before.before.wide.ensures at c.decide.ensures.1
 
 -- the words that are read after clock and count are written
-abbrev counted_at : tie.After-decide → (count : ℕ) → List ℕ
-counted_at c count = set (set c.decide.new.0 3 (begun c).args.clock.0) (16 + c.decide.result) count
-
-module _ (c : tie.After-decide) (count : ℕ) where
-  slots_kept : get_or (counted_at c count) 2 0 ≡ get_or (words_at (begun c)) 2 0
-  slots_kept = past-slots (words_at (begun c)) c.decide.new.0 _ (ruled-words c) (begun c).args.clock.0 c.decide.result count
-
-  count_kept : get_or (counted_at c count) 13 0 ≡ get_or (words_at (begun c)) 13 0
-  count_kept = past-count (words_at (begun c)) c.decide.new.0 _ (ruled-words c) (begun c).args.clock.0 c.decide.result count
-
-  bytes-kept : get_or (counted_at c count) 14 0 ≡ get_or (words_at (begun c)) 14 0
-  bytes-kept = past_bytes (words_at (begun c)) c.decide.new.0 _ (ruled-words c) (begun c).args.clock.0 c.decide.result count
-
-  first-kept : get_or (counted_at c count) 15 0 ≡ get_or (words_at (begun c)) 15 0
-  first-kept = past_first (words_at (begun c)) c.decide.new.0 _ (ruled-words c) (begun c).args.clock.0 c.decide.result count
-
--- the rules have decided before the tail's place is computed
-abbrev decided : tie.After-tail-place → tie.After-decide
-decided c = c.before.before.before.before.before.before.before
+kept : (c : tie.After-decide) (count i : ℕ) → i < 16 → i ≢ 3 → i ≢ 8 →
+    get_or (set (set c.decide.new.0 3 (begun c).args.clock) (16 + c.decide.result) count) i 0 ≡ get_or (words_at (begun c)) i 0
+kept c count i = past (words_at (begun c)) c.decide.new.0 _ (ruled-words c) (begun c).args.clock c.decide.result count i
 
 -- the tail's place is one of the tables'
-tail-place : (c : tie.After-tail-place) → c.tail-place.result ≡ tail_place (state_of (words_at (begun (decided c))))
+tail-place : (c : tie.After-tail-place) → c.tail-place.result ≡ tail_place (state_of (words_at (begun c.before.before.before.before.before.before)))
 unfolding state_of
 tail-place c =
-    let v = decided c in rw (first-kept v _, count_kept v _, slots_kept v _) at c.tail-place.ensures
+    let v = c.before.before.before.before.before.before in
+    rw (
+      kept v _ 15 (omega arith) (omega arith) (omega arith),
+      kept v _ 13 (omega arith) (omega arith) (omega arith),
+      kept v _ 2 (omega arith) (omega arith) (omega arith),
+    ) at c.tail-place.ensures
 
-tail-low : (c : tie.After-tail-place) → c.tail-place.result < (state_of (words_at (begun (decided c)))).settings.slots
-tail-low c = below _ _ _ (tail-place c) (mod-lt _ (known (begun (decided c))).slots-low)
+tail-low : (c : tie.After-tail-place) → c.tail-place.result < (state_of (words_at (begun c.before.before.before.before.before.before))).settings.slots
+tail-low c = rw (tail-place c) (mod-lt _ (known (begun c.before.before.before.before.before.before)).slots-low)
 
 wide-requires : tie.Need-wide-requires
-wide-requires c κs = tt
+wide-requires c κs = search rules
 
 decide-requires : tie.Need-decide-requires
-decide-requires c κs =
-    let a = c.before.before.before.before in ((a.requires.0.0.0, a.requires.0.0.1), at_most _ _ _ c.before.wide.ensures a.requires.1)
+decide-requires c κs = search rules
 
 add_row : tie.Need-overflow-add-row
 add_row c = omega (arith, place-low c)
@@ -101,16 +83,13 @@ add-w : tie.Need-overflow-add-w
 add-w c =
     let v = c.before in
     let a = begun v in
-    omega (arith, count_low (ruled a) v.decide.result (ruled-place v) (words_at a) v.decide.new.0 (ruled-words v) a.args.clock.0 0 a.pre.0.1)
+    omega (arith, count_low (ruled a) v.decide.result (ruled-place v) (words_at a) v.decide.new.0 (ruled-words v) a.args.clock 0 a.pre.0.1)
 
 mul-w-2 : tie.Need-overflow-mul-w-2
 mul-w-2 c = omega (arith, place-low c.before)
 
 element-write-w-2 : tie.Need-element-write-w-2
 element-write-w-2 c = omega (arith, place-low c.before)
-
-element-copy-out-tail : tie.Need-element-copy-out-tail
-element-copy-out-tail c = search rules
 
 element-copy-out-tail-place : tie.Need-element-copy-out-tail-place
 element-copy-out-tail-place c = search rules
@@ -124,36 +103,52 @@ element-copy-out-tail-place-3 c = search rules
 tail-place-requires : tie.Need-tail-place-requires
 unfolding state_of
 tail-place-requires c κs =
-    let v = c.before.before.before.before.before.before in
-    let f = known (begun v) in rw (first-kept v _, count_kept v _, slots_kept v _) (f.first-high, f.count-high, f.slots-high)
+    let v = c.before.before.before.before.before in
+    let f = known (begun v) in
+    rw (
+      kept v _ 15 (omega arith) (omega arith) (omega arith),
+      kept v _ 13 (omega arith) (omega arith) (omega arith),
+      kept v _ 2 (omega arith) (omega arith) (omega arith),
+    ) (f.first-high, f.count-high, f.slots-high)
 
-enter-requires : tie.Need-enter-requires
+element-copy-out-w-2 : tie.Need-element-copy-out-w-2
+element-copy-out-w-2 c = search rules
+
+add-w-2 : tie.Need-overflow-add-w-2
 unfolding state_of
-enter-requires c κs =
+add-w-2 c =
     let v = c.before.before.before.before.before.before.before in
-    let f = known (begun v) in (
-      at_most _ _ _ (count_kept v _) (omega (arith, f.count-high, f.slots-high)),
-      at_most _ _ _ (bytes-kept v _) (omega (arith, f.bytes_fit, f.buffer-high)),
-      at_most _ _ _ v.before.before.wide.ensures (begun v).requires.1,
-    )
+    let f = known (begun v) in rw (kept v _ 13 (omega arith) (omega arith) (omega arith)) (omega arith)
 
 element-write-w-3 : tie.Need-element-write-w-3
 element-write-w-3 c = search rules
+
+element-copy-out-w-3 : tie.Need-element-copy-out-w-3
+element-copy-out-w-3 c = search rules
+
+add-w-3 : tie.Need-overflow-add-w-3
+unfolding state_of
+add-w-3 c =
+    let v = c.before.before.before.before.before.before.before.before in
+    let a = begun v in
+    let f = known a in
+    rw (past_bytes (words_at a) v.decide.new.0 _ (ruled-words v) a.args.clock v.decide.result _ _)
+    (omega (arith, f.bytes_fit, f.buffer-high, a.pre.1, v.before.before.wide.ensures))
 
 element-write-w-4 : tie.Need-element-write-w-4
 element-write-w-4 c = search rules
 
 mul-handles : tie.Need-overflow-mul-handles
-mul-handles c = omega (arith, tail-low c.before, (known (begun c.before.before.before.before.before.before.before.before)).slots-high)
+mul-handles c = omega (arith, tail-low c.before.before, (known (begun c.before.before.before.before.before.before.before.before)).slots-high)
 
 slice-write-handles : tie.Need-slice-write-handles
-slice-write-handles c = omega (arith, tail-low c.before, (begun c.before.before.before.before.before.before.before.before).requires.0.0.2)
+slice-write-handles c = omega (arith, tail-low c.before.before, (begun c.before.before.before.before.before.before.before.before).requires.0.0.2)
 
 mul-sizes : tie.Need-overflow-mul-sizes
-mul-sizes c = omega (arith, tail-low c.before, (known (begun c.before.before.before.before.before.before.before.before)).slots-high)
+mul-sizes c = omega (arith, tail-low c.before.before, (known (begun c.before.before.before.before.before.before.before.before)).slots-high)
 
 slice-write-sizes : tie.Need-slice-write-sizes
-slice-write-sizes c = omega (arith, tail-low c.before, (begun c.before.before.before.before.before.before.before.before).requires.0.0.3)
+slice-write-sizes c = omega (arith, tail-low c.before.before, (begun c.before.before.before.before.before.before.before.before).requires.0.0.3)
 
 same_length : tie.Need-same-length
 same_length c = search rules
@@ -169,10 +164,9 @@ returns c =
     let t = c.before.before.before.before.before.before.if1.true in
     let e = ruled-place v in
     let admits = admits-as (ruled a) v.decide.result e true t in
-    let words =
-    entered-ok (ruled a) v.decide.result e (words_at a) v.decide.new.0 (ruled-words v) a.args.clock.0 a.args.size a.pre.0.0.0 t in
-    let place = tail-place c.before in
-    (e, rw (c.enter.ensures, v.before.before.wide.ensures) words, rw (admits, place), rw (admits, place))
+    let words = entered-ok (ruled a) v.decide.result e (words_at a) v.decide.new.0 (ruled-words v) a.args.clock a.args.size a.pre.0.0.0 t in
+    let place = tail-place c.before.before in
+    (e, rw v.before.before.wide.ensures words, rw (admits, place), rw (admits, place))
 
 returns-2 : tie.Need-returns-2
 unfolding state_of
@@ -182,8 +176,7 @@ returns-2 c =
     let t = c.if1.false in
     let e = ruled-place v in
     let admits = admits-as (ruled a) v.decide.result e false t in
-    let words =
-    counted-ok (ruled a) v.decide.result e (words_at a) v.decide.new.0 (ruled-words v) a.args.clock.0 a.args.size a.pre.0.0.0 t in
+    let words = counted-ok (ruled a) v.decide.result e (words_at a) v.decide.new.0 (ruled-words v) a.args.clock a.args.size a.pre.0.0.0 t in
     (e, words, rw admits, rw admits)
 
 pub take_spec : {M : Type 1} → statement M
@@ -199,13 +192,15 @@ take_spec =
     add-w
     mul-w-2
     element-write-w-2
-    element-copy-out-tail
     element-copy-out-tail-place
     element-copy-out-tail-place-2
     element-copy-out-tail-place-3
     tail-place-requires
-    enter-requires
+    element-copy-out-w-2
+    add-w-2
     element-write-w-3
+    element-copy-out-w-3
+    add-w-3
     element-write-w-4
     mul-handles
     slice-write-handles

@@ -20,16 +20,16 @@ element-write-w-2 : tie.Need-element-write-w-2
 element-write-w-2 c = search rules
 
 returns : tie.Need-returns
-returns c = let a = c.before.before in idle-words a.args.clock.0 a.args.w.now a.requires.0 (ap not c.if1.true)
+returns c = let a = c.before.before in idle-words a.args.clock a.args.w.now a.requires.0 (ap not c.if1.true)
 
-element-copy-out-loaded : tie.Need-element-copy-out-loaded
-element-copy-out-loaded c = search rules
+element-copy-out-queued : tie.Need-element-copy-out-queued
+element-copy-out-queued c = search rules
 
-element-copy-out-loaded-2 : tie.Need-element-copy-out-loaded-2
-element-copy-out-loaded-2 c = search rules
+element-copy-out-queued-2 : tie.Need-element-copy-out-queued-2
+element-copy-out-queued-2 c = search rules
 
-element-copy-out-loaded-3 : tie.Need-element-copy-out-loaded-3
-element-copy-out-loaded-3 c = search rules
+element-copy-out-queued-3 : tie.Need-element-copy-out-queued-3
+element-copy-out-queued-3 c = search rules
 
 update-requires : tie.Need-update-requires
 unfolding state_of
@@ -44,12 +44,12 @@ refills-requires : tie.Need-refills-requires
 unfolding state_of
 refills-requires c κs = let f = facts _ c.before.before.before.before.before.before.before.requires.1 in (rw c.update.ensures.0 (updated-old-le _ true _ _), f.old-high)
 
-element-copy-out-loaded-4 : tie.Need-element-copy-out-loaded-4
-element-copy-out-loaded-4 c = search rules
+element-copy-out-loaded : tie.Need-element-copy-out-loaded
+element-copy-out-loaded c = search rules
 
 mul-loaded : tie.Need-overflow-mul-loaded
 unfolding state_of
-mul-loaded c = let f = facts _ c.before.before.before.before.before.before.before.before.before.before.requires.1 in omega (arith, f.bytes_fit, f.buffer-high)
+mul-loaded c = let f = facts _ c.before.before.before.before.before.before.before.before.before.requires.1 in omega (arith, f.bytes_fit, f.buffer-high)
 
 element-write-w-3 : tie.Need-element-write-w-3
 element-write-w-3 c = search rules
@@ -63,20 +63,20 @@ element-write-w-5 c = search rules
 returns-2 : tie.Need-returns-2
 unfolding state_of
 returns-2 c =
-    let a = c.before.before.before.before.before.before.before.before.before.before.before.before in
-    let r = c.before.before.before.before in
+    let a = c.before.before.before.before.before.before.before.before.before.before in
+    let r = c.before.before in
     let u = r.before.update in
-    turns-inactive a.args.clock.0 a.args.w.now a.requires.0 (ap not c.before.before.before.before.before.before.before.before.before.before.if1.false) a.requires.2 _ u.ensures.0
+    turns-inactive a.args.clock a.args.w.now a.requires.0 (ap not c.before.before.before.before.before.before.before.before.if1.false) a.requires.2 _ u.ensures.0
     r.refills.result r.refills.ensures _ u.ensures.1
     c.if2.true
 
 returns-3 : tie.Need-returns-3
 unfolding state_of
 returns-3 c =
-    let a = c.before.before.before.before.before.before.before.before.before.before.before.before in
-    let r = c.before.before.before.before in
+    let a = c.before.before.before.before.before.before.before.before.before.before in
+    let r = c.before.before in
     let u = r.before.update in
-    stays-active a.args.clock.0 a.args.w.now a.requires.0 (ap not c.before.before.before.before.before.before.before.before.before.before.if1.false) a.requires.2 _ u.ensures.0
+    stays-active a.args.clock a.args.w.now a.requires.0 (ap not c.before.before.before.before.before.before.before.before.if1.false) a.requires.2 _ u.ensures.0
     r.refills.result r.refills.ensures _ u.ensures.1
     c.if2.false
 
@@ -88,12 +88,12 @@ tick-calm-spec =
     element-write-w
     element-write-w-2
     returns
-    element-copy-out-loaded
-    element-copy-out-loaded-2
-    element-copy-out-loaded-3
+    element-copy-out-queued
+    element-copy-out-queued-2
+    element-copy-out-queued-3
     update-requires
     refills-requires
-    element-copy-out-loaded-4
+    element-copy-out-loaded
     mul-loaded
     element-write-w-3
     element-write-w-4

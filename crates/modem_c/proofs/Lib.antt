@@ -1,0 +1,2 @@
+-- That the entries' promises are the one definition of what a C call leaves.
+pub mod Leaves

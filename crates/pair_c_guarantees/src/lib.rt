@@ -1,2 +1,0 @@
-// The theorems for C calls on two queues: stated in specs/, proved in proofs/. No code.
-#![tactic(auto)]
