@@ -7,7 +7,7 @@ use native.Mathlib.Omega.{arith}
 use lib.ListN.{drop, length, length-drop, length-take, take}
 use Rattle.log_codec.specs.Headers.{decoded_header}
 use Rattle.log_codec.specs.declared.Header.{Header}
-use Rattle.log.specs.Layout.{records_from}
+use Rattle.call_log.specs.Layout.{records_from}
 use Rattle.compare.specs.Compare.{Comparison, compare_contents, compare_records, notes_differ, same, same_settings, settings_differ}
 use Rattle.compare.specs.Values.{contents_at}
 use Rattle.compare.proofs.Same.{not_same}

@@ -7,7 +7,7 @@ use native.Mathlib.Omega.{arith}
 use lib.ListN.{length}
 use Rattle.log_codec.specs.Records.{decoded}
 use Rattle.log_codec.specs.declared.Record.{Record}
-use Rattle.log.specs.Layout.{records_from}
+use Rattle.call_log.specs.Layout.{records_from}
 use Rattle.compare.specs.Compare.{Comparison, compare_records, equal, first_ends, record_differs, same_record, second_ends}
 
 -- where one more is left, it stands first

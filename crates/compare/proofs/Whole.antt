@@ -6,13 +6,13 @@ use Prim.Native.Nat.{ℕ, ◌+◌, ◌*◌, ◌-◌, ◌≤◌}
 use native.Mathlib.Omega.{arith}
 use lib.ListN.{drop, length, take}
 use Rattle.log_codec.specs.Headers.{decoded_header}
-use Rattle.log.specs.Answers.{Answer, given, refused}
-use Rattle.log.specs.Faults.{header_refused}
-use Rattle.log.specs.Layout.{count_in, header_in, note_in, offset_in, records_from, records_in}
-use Rattle.log.specs.Reader.{trailer_refused}
-use Rattle.log.specs.Whole.{Contents, any_faulty, read_whole, shape_in}
-use Rattle.log.proofs.Facts.{sound}
-use Rattle.log.proofs.Records.{length-note, length-records}
+use Rattle.call_log.specs.Answers.{Answer, given, refused}
+use Rattle.call_log.specs.Faults.{header_refused}
+use Rattle.call_log.specs.Layout.{count_in, header_in, note_in, offset_in, records_from, records_in}
+use Rattle.call_log.specs.Reader.{trailer_refused}
+use Rattle.call_log.specs.Whole.{Contents, any_faulty, read_whole, shape_in}
+use Rattle.call_log.proofs.Facts.{sound}
+use Rattle.call_log.proofs.Records.{length-note, length-records}
 use Rattle.compare.specs.Values.{contents_at}
 
 pub record ReadWhole (log : List ℕ) (offset count : ℕ) : Type 0 where

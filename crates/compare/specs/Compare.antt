@@ -4,8 +4,8 @@ use Rattle.log_codec.specs.Headers.{header_fields}
 use Rattle.log_codec.specs.Records.{fields_of}
 use Rattle.log_codec.specs.declared.Header.{Header}
 use Rattle.log_codec.specs.declared.Record.{Record}
-use Rattle.log.specs.Answers.{Answer, given, refused}
-use Rattle.log.specs.Whole.{Contents, read_whole}
+use Rattle.call_log.specs.Answers.{Answer, given, refused}
+use Rattle.call_log.specs.Whole.{Contents, read_whole}
 
 pub data Comparison : Type 0 where
   -- a bad log, by its number, the first log's before the second's

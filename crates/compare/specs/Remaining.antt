@@ -1,7 +1,7 @@
 -- The longer log's remaining records, as that part of the caller's bytes (Q-11).
 use Rattle.std.specs.Prelude.{List, [], ℕ, ◌*◌, ◌-◌, drop, length, take}
 use Rattle.std.specs.Borrow.{Bor}
-use Rattle.log.specs.Reader.{Part, within}
+use Rattle.call_log.specs.Reader.{Part, within}
 use Rattle.compare.specs.Compare.{Comparison, compare, equal, first_ends, notes_differ, record_differs, refused_first, refused_second}
 use Rattle.compare.specs.Compare.{second_ends, settings_differ}
 

@@ -1,9 +1,9 @@
 -- What the library's own value says, and what it has found of a log that it read whole.
 use Rattle.std.specs.Prelude.{List, ℕ, ◌-◌, drop, take}
 use Rattle.log_codec.specs.Headers.{decoded_header}
-use Rattle.log.specs.Answers.{refusal_number}
-use Rattle.log.specs.Layout.{records_from}
-use Rattle.log.specs.Whole.{Contents}
+use Rattle.call_log.specs.Answers.{refusal_number}
+use Rattle.call_log.specs.Layout.{records_from}
+use Rattle.call_log.specs.Whole.{Contents}
 use Rattle.compare.specs.Compare.{Comparison, equal, first_ends, notes_differ, record_differs, refused_first, refused_second}
 use Rattle.compare.specs.Compare.{second_ends, settings_differ}
 use Rattle.compare.specs.declared.Compared.{Compared}

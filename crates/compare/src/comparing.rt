@@ -1,13 +1,13 @@
 // The comparison.
 ghost use Rattle.std.specs.Prelude.{◌≡◌, ◌+◌, ◌*◌, ◌≤◌, length};
-ghost use Rattle.log.specs.Layout.{records_from};
-ghost use Rattle.log.specs.Whole.{read_whole};
+ghost use Rattle.call_log.specs.Layout.{records_from};
+ghost use Rattle.call_log.specs.Whole.{read_whole};
 ghost use Rattle.compare.specs.Compare.{compare as compare_by, compare_contents, compare_records, with_second};
 ghost use Rattle.compare.specs.Values.{comparison_of, contents_at};
 
 use crate::Compared;
 use crate::sameness::{same_notes, same_record, same_settings};
-use log::Checked;
+use call_log::Checked;
 
 // Records from `offset` on, `count` of the first log and `others` of the second.
 fn compare_records(first: &[u8], second: &[u8], offset: usize, count: u64, others: u64) -> Compared
@@ -70,7 +70,7 @@ fn compare_with(first: &[u8], second: &[u8], offset: u32, count: u32) -> Compare
     requires { (32 ≤ offset) × (length first.now ≡ offset + 40 * count + 16) }
     ensures { comparison_of result ≡ with_second (contents_at first.now offset count) (read_whole second.now) }
 {
-    let read = log::check(second);
+    let read = call_log::check(second);
     match read {
         Checked::Refused(refusal) => Compared::RefusedSecond(refusal),
         Checked::Whole(start, others) => compare_whole(first, second, offset, count, start, others),
@@ -80,7 +80,7 @@ fn compare_with(first: &[u8], second: &[u8], offset: u32, count: u32) -> Compare
 pub fn compare(first: &[u8], second: &[u8]) -> Compared
     ensures { comparison_of result ≡ compare_by first.now second.now }
 {
-    let read = log::check(first);
+    let read = call_log::check(first);
     match read {
         Checked::Refused(refusal) => Compared::RefusedFirst(refusal),
         Checked::Whole(offset, count) => compare_with(first, second, offset, count),

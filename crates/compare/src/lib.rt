@@ -4,7 +4,7 @@ ghost use Rattle.std.specs.Prelude.{◌≡◌, ◌+◌, ◌*◌, ◌-◌, ◌≤
 ghost use Rattle.compare.specs.Compare.{compare};
 ghost use Rattle.compare.specs.Codes.{code_of, words_of};
 
-use log::Refusal;
+use call_log::Refusal;
 
 mod comparing;
 mod longer;

@@ -1,6 +1,6 @@
 // What the longer of two logs has left.
 ghost use Rattle.std.specs.Prelude.{◌≡◌, ◌+◌, ◌*◌, ◌≤◌, length};
-ghost use Rattle.log.specs.Reader.{part_of};
+ghost use Rattle.call_log.specs.Reader.{part_of};
 ghost use Rattle.compare.specs.Remaining.{last_of, remaining_of};
 
 use crate::Compared;

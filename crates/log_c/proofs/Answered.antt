@@ -12,21 +12,21 @@ use Rattle.log_codec.specs.Records.{encoded}
 use Rattle.log_codec.specs.declared.Header.{Header}
 use Rattle.log_codec.specs.declared.Record.{Record}
 use Rattle.log_codec.proofs.RoundTrip.{length-encoded, length-header}
-use Rattle.log.specs.Answers.{Answer, Turn, end, given, handed, header_of, refusal_in, refusal_number, refused, turn_of}
-use Rattle.log.specs.Faults.{header_refused}
-use Rattle.log.specs.Layout.{header_in, note_in}
-use Rattle.log.specs.Reader.{Part, note_of, note_part, part_of, place_after, settings_of, trailer_refused}
-use Rattle.log.specs.Writer.{Reply, add, add_refusal, added, reply_of, unless_refused}
-use Rattle.log.specs.declared.Accepted.{Accepted}
-use Rattle.log.specs.declared.Accepted.TheVariants.{No, Yes}
-use Rattle.log.specs.declared.Opened.{Opened}
-use Rattle.log.specs.declared.Opened.TheVariants.{Read, Refused as OpenRefused}
-use Rattle.log.specs.declared.Refusal.{Refusal}
-use Rattle.log.specs.declared.Refusal.TheVariants.{Trailer, Settings, Fault, Room}
-use Rattle.log.specs.declared.Step.{Step}
-use Rattle.log.specs.declared.Step.TheVariants.{Handed, End, Refused as StepRefused}
-use Rattle.log.specs.declared.Writer.{Writer}
-use Rattle.log.specs.declared.Written.{Written}
+use Rattle.call_log.specs.Answers.{Answer, Turn, end, given, handed, header_of, refusal_in, refusal_number, refused, turn_of}
+use Rattle.call_log.specs.Faults.{header_refused}
+use Rattle.call_log.specs.Layout.{header_in, note_in}
+use Rattle.call_log.specs.Reader.{Part, note_of, note_part, part_of, place_after, settings_of, trailer_refused}
+use Rattle.call_log.specs.Writer.{Reply, add, add_refusal, added, reply_of, unless_refused}
+use Rattle.call_log.specs.declared.Accepted.{Accepted}
+use Rattle.call_log.specs.declared.Accepted.TheVariants.{No, Yes}
+use Rattle.call_log.specs.declared.Opened.{Opened}
+use Rattle.call_log.specs.declared.Opened.TheVariants.{Read, Refused as OpenRefused}
+use Rattle.call_log.specs.declared.Refusal.{Refusal}
+use Rattle.call_log.specs.declared.Refusal.TheVariants.{Trailer, Settings, Fault, Room}
+use Rattle.call_log.specs.declared.Step.{Step}
+use Rattle.call_log.specs.declared.Step.TheVariants.{Handed, End, Refused as StepRefused}
+use Rattle.call_log.specs.declared.Writer.{Writer}
+use Rattle.call_log.specs.declared.Written.{Written}
 use Rattle.log_c.specs.Codes.{answer_code, code_of, note_words, part_words, settings_bytes, turn_bytes, turn_code, writer_of, writer_words}
 
 -- 100 and the number

@@ -3,8 +3,8 @@ use Rattle.std.specs.Prelude.{List, [], ◌∷◌, ℕ, zero, suc, ◌+◌, get_
 use Rattle.log_codec.specs.Headers.{encoded_header}
 use Rattle.log_codec.specs.Records.{encoded}
 use Rattle.log_codec.specs.declared.Header.{Header}
-use Rattle.log.specs.Answers.{Answer, Turn, end, given, handed, refused}
-use Rattle.log.specs.declared.Writer.{Writer}
+use Rattle.call_log.specs.Answers.{Answer, Turn, end, given, handed, refused}
+use Rattle.call_log.specs.declared.Writer.{Writer}
 
 -- 0 for an accepted call, 100 and the number for a refusal
 abbrev pub code_of : (refusal : ℕ) → ℕ

@@ -3,13 +3,13 @@
 ghost use Rattle.std.specs.Prelude.{◌≡◌, length};
 ghost use Rattle.log_codec.specs.Headers.{decoded_header};
 ghost use Rattle.log_codec.specs.Records.{decoded};
-ghost use Rattle.log.specs.Answers.{refusal_in};
-ghost use Rattle.log.specs.Reader.{note_of, place_after, read_at, settings_of};
-ghost use Rattle.log.specs.Writer.{add, begin};
+ghost use Rattle.call_log.specs.Answers.{refusal_in};
+ghost use Rattle.call_log.specs.Reader.{note_of, place_after, read_at, settings_of};
+ghost use Rattle.call_log.specs.Writer.{add, begin};
 ghost use Rattle.log_c.specs.Codes.{answer_code, code_of, note_words, part_words, settings_bytes, turn_bytes, turn_code};
 ghost use Rattle.log_c.specs.Codes.{writer_of, writer_words};
 
-use log::{Accepted, Opened, Step, Writer};
+use call_log::{Accepted, Opened, Step, Writer};
 
 // What 32 bytes are known to be.
 fn thirty_two(b: [u8; 32])
@@ -42,7 +42,7 @@ pub extern "C" fn obikuteru_log_begin(
 {
     thirty_two(*settings);
     let h = log_codec::get_header(settings, 0);
-    let w = log::begin(h, note, bytes);
+    let w = call_log::begin(h, note, bytes);
     let writer = w.writer;
     *words = [writer.offset, writer.count];
     let accepted = w.accepted;
@@ -59,7 +59,7 @@ pub extern "C" fn obikuteru_log_add(words: &mut [u32; 2], call: &[u8; 40], bytes
         offset: words[0],
         count: words[1],
     };
-    let r = log::add_call(w, call, bytes);
+    let r = call_log::add_call(w, call, bytes);
     let writer = r.writer;
     let accepted = r.accepted;
     match accepted {
@@ -77,7 +77,7 @@ pub extern "C" fn obikuteru_log_read(log: &[u8], place: &mut u64, call: &mut [u8
         (result ≡ turn_code a) × (place.new ≡ place_after a place.old) × (call.new ≡ turn_bytes a) }
 {
     *call = [0; 40];
-    let step = log::read_at(log, *place);
+    let step = call_log::read_at(log, *place);
     match step {
         Step::Handed(record, next) => {
             log_codec::put(record, call, 0);
@@ -95,7 +95,7 @@ pub extern "C" fn obikuteru_log_settings(log: &[u8], settings: &mut [u8; 32]) ->
         (result ≡ answer_code a) × (settings.new ≡ settings_bytes a) }
 {
     *settings = [0; 32];
-    let opened = log::settings(log);
+    let opened = call_log::settings(log);
     match opened {
         Opened::Read(h) => {
             log_codec::put_header(h, settings, 0);
@@ -120,10 +120,10 @@ pub extern "C" fn obikuteru_log_note<'a>(log: &'a [u8], part: &mut [u64; 2]) -> 
     ensures { let a = note_of log.now in
         (result ≡ answer_code a) × (part.new ≡ note_words a) }
 {
-    let opened = log::settings(log);
+    let opened = call_log::settings(log);
     match opened {
         Opened::Read(_) => {
-            let note = log::note(log);
+            let note = call_log::note(log);
             *part = words_of_part(32, note.len() as u64);
             0
         }

@@ -10,11 +10,11 @@ use lib.Seq.{drop_at, sets, sets-eq, take_at}
 use Rattle.log_codec.specs.Records.{InRange}
 use Rattle.log_codec.specs.declared.Header.{Header}
 use Rattle.log_codec.specs.declared.Record.{Record}
-use Rattle.log.specs.Layout.{length_of}
-use Rattle.log.specs.Whole.{read_whole}
-use Rattle.log.specs.Writer.{add}
-use Rattle.log.specs.declared.Writer.{Writer}
-use Rattle.log.proofs.Contents.{reads_whole}
+use Rattle.call_log.specs.Layout.{length_of}
+use Rattle.call_log.specs.Whole.{read_whole}
+use Rattle.call_log.specs.Writer.{add}
+use Rattle.call_log.specs.declared.Writer.{Writer}
+use Rattle.call_log.proofs.Contents.{reads_whole}
 use Rattle.log_guarantees.specs.AlwaysWhole.{AlwaysWhole, Whole, bytes_of}
 use Rattle.log_guarantees.specs.Run.{AllInRange, Run, after, log_of, run, started}
 use Rattle.log_guarantees.proofs.Bytes.{is_whole, length-bytes}

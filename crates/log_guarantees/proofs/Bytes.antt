@@ -22,11 +22,11 @@ use Rattle.log_codec.specs.declared.Header.{Header}
 use Rattle.log_codec.specs.declared.Record.{Record}
 use Rattle.log_codec.proofs.BytesOf.{number-bytes}
 use Rattle.log_codec.proofs.RoundTrip.{decoded-encoded, decoded-header, length-encoded, length-header}
-use Rattle.log.specs.Faults.{header_refused}
-use Rattle.log.specs.Layout.{count_in, header_in, letters, letters_in, note_in, offset_in, records_from, records_in, size_in, trailer_of}
-use Rattle.log.specs.Reader.{trailer_refused}
-use Rattle.log.specs.Whole.{any_faulty}
-use Rattle.log.proofs.Contents.{IsWhole}
+use Rattle.call_log.specs.Faults.{header_refused}
+use Rattle.call_log.specs.Layout.{count_in, header_in, letters, letters_in, note_in, offset_in, records_from, records_in, size_in, trailer_of}
+use Rattle.call_log.specs.Reader.{trailer_refused}
+use Rattle.call_log.specs.Whole.{any_faulty}
+use Rattle.call_log.proofs.Contents.{IsWhole}
 use Rattle.log_guarantees.specs.AlwaysWhole.{bytes_of, encoded_all}
 use Rattle.log_guarantees.specs.Run.{AllInRange}
 

@@ -8,12 +8,12 @@ use lib.ListN.{length}
 use borrow.Author.Tests.{le-leb, lt-leb}
 use Rattle.laws.proofs.Tests.{or-neither}
 use Rattle.log_codec.specs.Records.{decoded}
-use Rattle.log.specs.Answers.{Answer, Turn, end, given, handed}
-use Rattle.log.specs.Faults.{faulty, header_refused}
-use Rattle.log.specs.Layout.{count_in, header_in, note_in, offset_in, record_in, records_from, records_in}
-use Rattle.log.specs.Reader.{note_of, read_at, settings_of, trailer_refused}
-use Rattle.log.specs.Whole.{any_faulty}
-use Rattle.log.proofs.Contents.{is_whole}
+use Rattle.call_log.specs.Answers.{Answer, Turn, end, given, handed}
+use Rattle.call_log.specs.Faults.{faulty, header_refused}
+use Rattle.call_log.specs.Layout.{count_in, header_in, note_in, offset_in, record_in, records_from, records_in}
+use Rattle.call_log.specs.Reader.{note_of, read_at, settings_of, trailer_refused}
+use Rattle.call_log.specs.Whole.{any_faulty}
+use Rattle.call_log.proofs.Contents.{is_whole}
 use Rattle.log_guarantees.specs.InTurn.{InTurn, Reads, answers, each_handed, ends}
 
 module _ (l : List ℕ) (trailer : trailer_refused l ≡ false) (settings : header_refused (header_in l) ≡ false) where

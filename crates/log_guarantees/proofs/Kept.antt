@@ -16,12 +16,12 @@ use Rattle.log_codec.specs.declared.Header.{Header}
 use Rattle.log_codec.specs.declared.Record.{Record}
 use Rattle.log_codec.proofs.RoundTrip.{length-encoded}
 use Rattle.log_codec.proofs.Stores.{sets-sets}
-use Rattle.log.specs.Faults.{faulty, header_refused}
-use Rattle.log.specs.Layout.{trailer_of}
-use Rattle.log.specs.Whole.{any_faulty}
-use Rattle.log.specs.Writer.{Reply, add, add_refusal, add_refusals, added, begin, begin_refusal, begin_refusals, begun, unless_refused, zero_writer}
-use Rattle.log.specs.declared.Writer.{Writer}
-use Rattle.log.proofs.Facts.{roomy}
+use Rattle.call_log.specs.Faults.{faulty, header_refused}
+use Rattle.call_log.specs.Layout.{trailer_of}
+use Rattle.call_log.specs.Whole.{any_faulty}
+use Rattle.call_log.specs.Writer.{Reply, add, add_refusal, add_refusals, added, begin, begin_refusal, begin_refusals, begun, unless_refused, zero_writer}
+use Rattle.call_log.specs.declared.Writer.{Writer}
+use Rattle.call_log.proofs.Facts.{roomy}
 use Rattle.log_guarantees.specs.AlwaysWhole.{bytes_of}
 use Rattle.log_guarantees.specs.Run.{Run, after, run, started}
 use Rattle.log_guarantees.proofs.Bytes.{front, length_front, length-trailer, snoc-front}

@@ -13,12 +13,12 @@ use Rattle.log_codec.specs.Headers.{encoded_header}
 use Rattle.log_codec.specs.Records.{encoded}
 use Rattle.log_codec.specs.declared.Header.{Header}
 use Rattle.log_codec.specs.declared.Record.{Record}
-use Rattle.log.specs.Faults.{faulty, header_refused}
-use Rattle.log.specs.Layout.{length_of, trailer_of}
-use Rattle.log.specs.Writer.{Reply, add, added, begin, begun, writer_conditions}
-use Rattle.log.specs.declared.Writer.{Writer}
-use Rattle.log.proofs.Facts.{Held, held}
-use Rattle.log.proofs.Replies.{add_done, begin-done}
+use Rattle.call_log.specs.Faults.{faulty, header_refused}
+use Rattle.call_log.specs.Layout.{length_of, trailer_of}
+use Rattle.call_log.specs.Writer.{Reply, add, added, begin, begun, writer_conditions}
+use Rattle.call_log.specs.declared.Writer.{Writer}
+use Rattle.call_log.proofs.Facts.{Held, held}
+use Rattle.call_log.proofs.Replies.{add_done, begin-done}
 use Rattle.log_guarantees.specs.Reached.{Reached, Way}
 use Rattle.log_guarantees.specs.Run.{Run, after, run, started}
 use Rattle.log_guarantees.proofs.Kept.{Kept, kept}

@@ -4,10 +4,10 @@ use mathlib.Core.Logic.{◌≢◌}
 use mathlib.Core.List.{List}
 use Prim.Native.Nat.{ℕ, zero, suc, ◌+◌}
 use lib.ListN.{length}
-use Rattle.log.specs.Answers.{Answer, Turn}
-use Rattle.log.specs.Reader.{place_after}
-use Rattle.log.specs.Writer.{Reply, add, add_refusal, begin, begin_refusal, begun, added, unless_refused, zero_writer}
-use Rattle.log.specs.declared.Writer.{Writer}
+use Rattle.call_log.specs.Answers.{Answer, Turn}
+use Rattle.call_log.specs.Reader.{place_after}
+use Rattle.call_log.specs.Writer.{Reply, add, add_refusal, begin, begin_refusal, begun, added, unless_refused, zero_writer}
+use Rattle.call_log.specs.declared.Writer.{Writer}
 use Rattle.log_guarantees.specs.Refused.{Refused}
 
 module _ (w : Writer) (bytes : List ℕ) (a : Reply) (accepted : a.refusal ≡ 0) where

@@ -5,10 +5,10 @@ use Rattle.log_codec.specs.Headers.{encoded_header}
 use Rattle.log_codec.specs.Records.{encoded}
 use Rattle.log_codec.specs.declared.Header.{Header}
 use Rattle.log_codec.specs.declared.Record.{Record}
-use Rattle.log.specs.Answers.{given}
-use Rattle.log.specs.Layout.{length_of, trailer_of}
-use Rattle.log.specs.Whole.{read_whole}
-use Rattle.log.specs.Writer.{begin}
+use Rattle.call_log.specs.Answers.{given}
+use Rattle.call_log.specs.Layout.{length_of, trailer_of}
+use Rattle.call_log.specs.Whole.{read_whole}
+use Rattle.call_log.specs.Writer.{begin}
 use Rattle.log_guarantees.specs.Run.{AllInRange, Run, log_of, run}
 
 -- records, one after the other

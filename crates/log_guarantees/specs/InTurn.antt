@@ -1,9 +1,9 @@
 -- A log that reads whole reads in turn: the reader's calls give the same settings, note and records, in order, then the end.
 use Rattle.std.specs.Prelude.{◌≡◌, List, [], ◌∷◌, ◌++◌, ℕ, zero, suc, ◌+◌, length}
 use Rattle.log_codec.specs.declared.Record.{Record}
-use Rattle.log.specs.Answers.{Answer, Turn, end, given, handed}
-use Rattle.log.specs.Reader.{note_of, place_after, read_at, settings_of}
-use Rattle.log.specs.Whole.{Contents, read_whole}
+use Rattle.call_log.specs.Answers.{Answer, Turn, end, given, handed}
+use Rattle.call_log.specs.Reader.{note_of, place_after, read_at, settings_of}
+use Rattle.call_log.specs.Whole.{Contents, read_whole}
 
 -- n calls of the reader, each at the place that the last one left
 abbrev pub answers : (n : ℕ) (log : List ℕ) (place : ℕ) → List (Answer Turn)

@@ -3,8 +3,8 @@ use Rattle.std.specs.Prelude.{◌≡◌, true, List, ℕ, length}
 use Rattle.laws.specs.Tests.{all}
 use Rattle.log_codec.specs.declared.Header.{Header}
 use Rattle.log_codec.specs.declared.Record.{Record}
-use Rattle.log.specs.Writer.{begin, writer_conditions}
-use Rattle.log.specs.declared.Writer.{Writer}
+use Rattle.call_log.specs.Writer.{begin, writer_conditions}
+use Rattle.call_log.specs.declared.Writer.{Writer}
 use Rattle.log_guarantees.specs.Run.{run}
 
 -- a run that reaches this state in these bytes

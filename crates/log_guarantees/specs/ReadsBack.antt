@@ -2,7 +2,7 @@
 use Rattle.std.specs.Prelude.{◌≡◌, List, ℕ}
 use Rattle.log_codec.specs.declared.Header.{Header}
 use Rattle.log_codec.specs.declared.Record.{Record}
-use Rattle.log.specs.Writer.{begin}
+use Rattle.call_log.specs.Writer.{begin}
 use Rattle.log_guarantees.specs.InTurn.{Reads}
 use Rattle.log_guarantees.specs.Run.{AllInRange, log_of, run}
 

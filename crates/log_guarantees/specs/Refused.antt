@@ -2,10 +2,10 @@
 use Rattle.std.specs.Prelude.{◌≡◌, ◌≢◌, List, ℕ}
 use Rattle.log_codec.specs.declared.Header.{Header}
 use Rattle.log_codec.specs.declared.Record.{Record}
-use Rattle.log.specs.Answers.{end, given, refused}
-use Rattle.log.specs.Reader.{place_after, read_at}
-use Rattle.log.specs.Writer.{add, begin, zero_writer}
-use Rattle.log.specs.declared.Writer.{Writer}
+use Rattle.call_log.specs.Answers.{end, given, refused}
+use Rattle.call_log.specs.Reader.{place_after, read_at}
+use Rattle.call_log.specs.Writer.{add, begin, zero_writer}
+use Rattle.call_log.specs.declared.Writer.{Writer}
 
 pub record Refused : Type 0 where
   -- a refused begin leaves the bytes and returns the all-zero state, from which every add is refused by 11

@@ -4,9 +4,9 @@ use mathlib.Core.List.{List, [], ◌∷◌, ◌++◌, foldl}
 use Rattle.log_codec.specs.Records.{InRange}
 use Rattle.log_codec.specs.declared.Header.{Header}
 use Rattle.log_codec.specs.declared.Record.{Record}
-use Rattle.log.specs.Layout.{length_of}
-use Rattle.log.specs.Writer.{add, begin}
-use Rattle.log.specs.declared.Writer.{Writer}
+use Rattle.call_log.specs.Layout.{length_of}
+use Rattle.call_log.specs.Writer.{add, begin}
+use Rattle.call_log.specs.declared.Writer.{Writer}
 
 pub record Run : Type 0 where
   pub writer : Writer

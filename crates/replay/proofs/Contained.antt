@@ -20,14 +20,14 @@ use Rattle.ring_words.proofs.Words.{back, words_long}
 use Rattle.log_codec.specs.declared.Header.{Header}
 use Rattle.ring_words.specs.Lent.{lent}
 use Rattle.ring_steps.specs.Fitting.{Ready}
-use Rattle.log.specs.Answers.{Answer, given, refused}
-use Rattle.log.specs.Faults.{header_refused}
-use Rattle.log.specs.Layout.{count_in, header_in, note_in, offset_in, records_from, records_in}
-use Rattle.log.specs.Reader.{trailer_refused}
-use Rattle.log.specs.Whole.{Contents, any_faulty, read_whole, shape_in}
+use Rattle.call_log.specs.Answers.{Answer, given, refused}
+use Rattle.call_log.specs.Faults.{header_refused}
+use Rattle.call_log.specs.Layout.{count_in, header_in, note_in, offset_in, records_from, records_in}
+use Rattle.call_log.specs.Reader.{trailer_refused}
+use Rattle.call_log.specs.Whole.{Contents, any_faulty, read_whole, shape_in}
 use Rattle.replay.specs.Replay.{fresh_queue, queue_of, refused as misread, replay, replay_from, replay_read}
-use Rattle.log.proofs.Facts.{sound}
-use Rattle.log.proofs.Records.{length-note, length-records}
+use Rattle.call_log.proofs.Facts.{sound}
+use Rattle.call_log.proofs.Records.{length-note, length-records}
 
 abbrev contents : (log : List ℕ) → Contents
 contents l = record { header = header_in l; note = note_in l; records = records_in l }

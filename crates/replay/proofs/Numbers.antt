@@ -9,11 +9,11 @@ use Rattle.refusals.specs.Answer.{Answer}
 use Rattle.ring.specs.Refusals.{tables_refused}
 use Rattle.log_codec.specs.declared.Record.{Record}
 use Rattle.ring.specs.Calls.{Queue, after, answer_of}
-use Rattle.log.specs.Answers.{given, refused as log_refused}
-use Rattle.log.specs.Faults.{header_refused}
-use Rattle.log.specs.Layout.{header_in, note_in, records_in}
-use Rattle.log.specs.Reader.{trailer_refused}
-use Rattle.log.specs.Whole.{Contents, any_faulty, read_whole}
+use Rattle.call_log.specs.Answers.{given, refused as log_refused}
+use Rattle.call_log.specs.Faults.{header_refused}
+use Rattle.call_log.specs.Layout.{header_in, note_in, records_in}
+use Rattle.call_log.specs.Reader.{trailer_refused}
+use Rattle.call_log.specs.Whole.{Contents, any_faulty, read_whole}
 use Rattle.replay.specs.Agreement.{disagreement, request_of}
 use Rattle.replay.specs.Replay.{Replay, accepted, disagrees, fresh_queue, refused, replay, replay_contents, replay_from, replay_read, unless_disagrees}
 use Rattle.replay.specs.Replied.{replayed_of}

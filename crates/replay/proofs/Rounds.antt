@@ -9,7 +9,7 @@ use Rattle.log_codec.specs.declared.Record.{Record}
 use Rattle.refusals.specs.Rows.{first_refusal}
 use Rattle.ring.specs.Calls.{Queue, after, answer_of}
 use Rattle.calls.specs.Requests.{Request, ask_arrival, ask_departure, ask_tick}
-use Rattle.log.specs.Layout.{records_from}
+use Rattle.call_log.specs.Layout.{records_from}
 use Rattle.ring_words.specs.Lent.{Lent, leaves}
 use Rattle.ring_words.specs.Lent.{queue_of as lent_queue}
 use Rattle.ring_steps.specs.Fitting.{Ready}

@@ -6,7 +6,7 @@ use Rattle.refusals.specs.Rows.{first_refusal}
 use Rattle.ring.specs.declared.State.{State}
 use Rattle.log_codec.specs.declared.Record.{Record}
 use Rattle.calls.specs.Requests.{Request, ask_arrival, ask_departure, ask_tick}
-use Rattle.log.specs.Faults.{arrival, departure}
+use Rattle.call_log.specs.Faults.{arrival, departure}
 
 -- the call that a record holds, by its kind: arrival, departure, else tick
 abbrev pub request_of : Record → Request

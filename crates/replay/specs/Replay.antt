@@ -7,8 +7,8 @@ use Rattle.ring.specs.declared.State.{State}
 use Rattle.log_codec.specs.declared.Header.{Header}
 use Rattle.log_codec.specs.declared.Record.{Record}
 use Rattle.ring.specs.Calls.{Queue, after, answer_of}
-use Rattle.log.specs.Answers.{Answer as LogAnswer, given, refused as log_refused}
-use Rattle.log.specs.Whole.{Contents, read_whole}
+use Rattle.call_log.specs.Answers.{Answer as LogAnswer, given, refused as log_refused}
+use Rattle.call_log.specs.Whole.{Contents, read_whole}
 use Rattle.replay.specs.Agreement.{disagreement, request_of}
 
 pub data Replay : Type 0 where

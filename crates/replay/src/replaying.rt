@@ -1,13 +1,13 @@
 // A log over lent bytes and lent tables: read whole, then run from a fresh queue.
 ghost use Rattle.std.specs.Prelude.{◌≡◌, ◌≤◌};
-ghost use Rattle.log.specs.Answers.{given, refusal_number};
-ghost use Rattle.log.specs.Whole.{read_whole, shape_in};
+ghost use Rattle.call_log.specs.Answers.{given, refusal_number};
+ghost use Rattle.call_log.specs.Whole.{read_whole, shape_in};
 ghost use Rattle.replay.specs.Replay.{refused as refused_by, replay as replay_by};
 ghost use Rattle.replay.specs.Replied.{handles_after, replayed_of, sizes_after};
 
 use crate::Replayed;
 use crate::running::run;
-use log::{Checked, Refusal};
+use call_log::{Checked, Refusal};
 use ring::State;
 use ring_words::encode;
 use units::{Bytes, Micros};
@@ -75,7 +75,7 @@ pub fn replay(log: &[u8], handles: &mut [u32], sizes: &mut [u32]) -> Replayed
     ensures fact { let a = replay_by log.now handles.old sizes.old in
         (handles.new ≡ handles_after a handles.old) × (sizes.new ≡ sizes_after a sizes.old) }
 {
-    let checked = log::check(log);
+    let checked = call_log::check(log);
     match checked {
         Checked::Refused(refusal) => refused(number(refusal)),
         Checked::Whole(offset, count) => {

@@ -1,7 +1,7 @@
 // The rules over the records of a log that was read whole, on a queue that is ready for so many arrivals.
 ghost use Rattle.std.specs.Prelude.{◌≡◌, ◌+◌, ◌*◌, ◌≤◌, length};
 ghost use Rattle.ring_words.specs.Words.{state_of};
-ghost use Rattle.log.specs.Layout.{records_from};
+ghost use Rattle.call_log.specs.Layout.{records_from};
 ghost use Rattle.ring_words.specs.Lent.{lent};
 ghost use Rattle.ring_steps.specs.Fitting.{Ready};
 ghost use Rattle.replay.specs.Replay.{queue_of, replay_from};

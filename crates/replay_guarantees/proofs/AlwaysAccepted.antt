@@ -13,9 +13,9 @@ use Rattle.ring.specs.Calls.{Queue, after}
 use Rattle.ring_guarantees.specs.Handed.{Run, begin, queued, step}
 use Rattle.calls.specs.Requests.{Request}
 use Rattle.ring.proofs.Kept.{fresh-well-formed}
-use Rattle.log.specs.Answers.{given}
-use Rattle.log.specs.Faults.{header_refused}
-use Rattle.log.specs.Whole.{Contents, read_whole}
+use Rattle.call_log.specs.Answers.{given}
+use Rattle.call_log.specs.Faults.{header_refused}
+use Rattle.call_log.specs.Whole.{Contents, read_whole}
 use Rattle.log_guarantees.specs.Run.{log_of, run as write}
 use Rattle.log_guarantees.proofs.AlwaysWhole.{always-whole}
 use Rattle.log_guarantees.proofs.Kept.{at-start}

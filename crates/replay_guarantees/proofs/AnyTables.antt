@@ -22,8 +22,8 @@ use Rattle.ring_guarantees.specs.Handed.{queued}
 use Rattle.calls.specs.Requests.{Request, ask_arrival, ask_departure, ask_tick}
 use Rattle.ring_guarantees.proofs.Refusals.{refusals}
 use Rattle.ring_guarantees.proofs.Replies.{number-refuses, number_given}
-use Rattle.log.specs.Answers.{Answer as LogAnswer, given, refused as log_refused}
-use Rattle.log.specs.Whole.{Contents, read_whole}
+use Rattle.call_log.specs.Answers.{Answer as LogAnswer, given, refused as log_refused}
+use Rattle.call_log.specs.Whole.{Contents, read_whole}
 use Rattle.replay.specs.Agreement.{disagreement, request_of}
 use Rattle.replay.specs.Replay.{Replay, fresh_queue, queue_of, refused as misread, replay, replay_contents, replay_from, replay_read, unless_disagrees}
 use Rattle.replay.specs.Replied.{replayed_of}

@@ -29,8 +29,8 @@ use Rattle.ring_guarantees.specs.Handed.{queued}
 use Rattle.calls.specs.Requests.{Request, admitted_by, ask_arrival, ask_departure, ask_tick, brought, departed_by}
 use Rattle.ring_guarantees.proofs.Moves.{moved}
 use Rattle.ring_guarantees.proofs.Replies.{number_given, reply-well-formed}
-use Rattle.log.specs.Faults.{faulty, most_bytes}
-use Rattle.log.specs.Whole.{any_faulty}
+use Rattle.call_log.specs.Faults.{faulty, most_bytes}
+use Rattle.call_log.specs.Whole.{any_faulty}
 use Rattle.log_guarantees.specs.Run.{AllInRange}
 use Rattle.replay.specs.Agreement.{verdict_in}
 use Rattle.replay.specs.Replied.{bytes_in, prob_in}

@@ -37,13 +37,13 @@ use Rattle.calls.specs.Requests.{Request, ask_arrival, ask_departure, ask_tick}
 use Rattle.ring_guarantees.proofs.NeverRefused.{not-given}
 use Rattle.ring_guarantees.proofs.Replies.{acceptance, at-one-reply}
 use Rattle.ring_guarantees.proofs.RingKeeps.{Sound, fresh-empty, fresh-sound, ring-keeps, ring_readings}
-use Rattle.log.specs.Answers.{Answer as LogAnswer, given, refused as log_refused}
-use Rattle.log.specs.Faults.{arrival, departure, faulty, field_conditions, header_refused}
-use Rattle.log.specs.Layout.{count_in, header_in, note_in, offset_in, records_in}
-use Rattle.log.specs.Reader.{trailer_refused}
-use Rattle.log.specs.Whole.{Contents, any_faulty, read_whole}
-use Rattle.log.proofs.Facts.{sound}
-use Rattle.log.proofs.Records.{length-records}
+use Rattle.call_log.specs.Answers.{Answer as LogAnswer, given, refused as log_refused}
+use Rattle.call_log.specs.Faults.{arrival, departure, faulty, field_conditions, header_refused}
+use Rattle.call_log.specs.Layout.{count_in, header_in, note_in, offset_in, records_in}
+use Rattle.call_log.specs.Reader.{trailer_refused}
+use Rattle.call_log.specs.Whole.{Contents, any_faulty, read_whole}
+use Rattle.call_log.proofs.Facts.{sound}
+use Rattle.call_log.proofs.Records.{length-records}
 use Rattle.replay.specs.Agreement.{request_of}
 use Rattle.replay.specs.Replay.{disagrees, fresh_queue, replay, replay_from, replay_read}
 use Rattle.replay.specs.Replay.{refused as misread}

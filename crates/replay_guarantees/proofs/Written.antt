@@ -12,12 +12,12 @@ use Rattle.laws.proofs.Tests.{or-neither}
 use Rattle.laws.specs.Tests.{all}
 use Rattle.log_codec.specs.declared.Header.{Header}
 use Rattle.log_codec.specs.declared.Record.{Record}
-use Rattle.log.specs.Faults.{faulty}
-use Rattle.log.specs.Layout.{length_of}
-use Rattle.log.specs.Whole.{any_faulty}
-use Rattle.log.specs.Writer.{Reply, add, begin, writer_conditions}
-use Rattle.log.specs.declared.Writer.{Writer}
-use Rattle.log.proofs.Replies.{add_done}
+use Rattle.call_log.specs.Faults.{faulty}
+use Rattle.call_log.specs.Layout.{length_of}
+use Rattle.call_log.specs.Whole.{any_faulty}
+use Rattle.call_log.specs.Writer.{Reply, add, begin, writer_conditions}
+use Rattle.call_log.specs.declared.Writer.{Writer}
+use Rattle.call_log.proofs.Replies.{add_done}
 use Rattle.log_guarantees.specs.AlwaysWhole.{bytes_of}
 use Rattle.log_guarantees.specs.Run.{Run, after, run, started}
 use Rattle.log_guarantees.proofs.Kept.{Kept, at-start, one-call}

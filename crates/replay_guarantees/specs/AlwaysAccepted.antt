@@ -6,7 +6,7 @@ use Rattle.log_codec.specs.declared.Header.{Header}
 use Rattle.ring.specs.Calls.{Queue}
 use Rattle.ring_guarantees.specs.Handed.{begin, queued, run}
 use Rattle.calls.specs.Requests.{Request}
-use Rattle.log.specs.Writer.{begin as begin_log}
+use Rattle.call_log.specs.Writer.{begin as begin_log}
 use Rattle.log_guarantees.specs.Run.{log_of, run as write}
 use Rattle.replay.specs.Replay.{Replay, accepted, replay}
 use Rattle.replay_guarantees.specs.Recorded.{AllFit, recorded}

@@ -1,8 +1,8 @@
 -- `compare`: the first log is refused, or compared with the second.
 use mathlib.Core.Path.{◌≡◌, ap, sym, ◌∙◌}
 use borrow.Author.Rules.{rules}
-use Rattle.log.specs.Answers.{shape_of}
-use Rattle.log.specs.Whole.{read_whole}
+use Rattle.call_log.specs.Answers.{shape_of}
+use Rattle.call_log.specs.Whole.{read_whole}
 use Rattle.compare.specs.Compare.{compare, with_first}
 use Rattle.compare.proofs.Whole.{ReadWhole, read-refused, read_whole_lem}
 use Rattle.compare.proofs.comparing.compare.Statement.{statement}

@@ -5,7 +5,7 @@ use native.Mathlib.Omega.{arith}
 use native.Mathlib.Nat.{sub-zero}
 use borrow.Author.Rules.{rules}
 use borrow.Author.Tests.{not-true, not-false}
-use Rattle.log.specs.Layout.{records_from}
+use Rattle.call_log.specs.Layout.{records_from}
 use Rattle.compare.specs.Compare.{compare_records}
 use Rattle.compare.proofs.InTurn.{both_end, first_ends_lem, from, second-ends, turn-differs, turn-same}
 use Rattle.compare.proofs.comparing.compare_records.Statement.{statement}

@@ -1,7 +1,7 @@
 -- `compare_with`: the second log is refused, or compared.
 use mathlib.Core.Path.{◌≡◌, ap, sym, ◌∙◌}
 use borrow.Author.Rules.{rules}
-use Rattle.log.specs.Answers.{shape_of}
+use Rattle.call_log.specs.Answers.{shape_of}
 use Rattle.compare.specs.Compare.{with_second}
 use Rattle.compare.specs.Values.{contents_at}
 use Rattle.compare.proofs.Whole.{ReadWhole, read-refused, read_whole_lem}

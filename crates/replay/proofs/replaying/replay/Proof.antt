@@ -1,7 +1,7 @@
 -- `replay`: 11, 12 or 13 where the reading refuses the log.
 use mathlib.Core.Path.{refl, ap, sym, ◌∙◌}
 use native.Mathlib.Omega.{arith}
-use Rattle.log.specs.Answers.{shape_of}
+use Rattle.call_log.specs.Answers.{shape_of}
 use Rattle.replay.specs.Replay.{refused as misread}
 use Rattle.replay.specs.Replied.{replayed_of}
 use Rattle.replay.proofs.Contained.{bad-log}

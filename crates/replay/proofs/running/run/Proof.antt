@@ -5,7 +5,7 @@ use Prim.Native.Nat.{◌+◌, ◌*◌, ◌-◌, ◌≤◌}
 use native.Mathlib.Omega.{arith}
 use lib.ListN.{length}
 use Rattle.ring_words.specs.Words.{state_of}
-use Rattle.log.specs.Layout.{records_from}
+use Rattle.call_log.specs.Layout.{records_from}
 use Rattle.ring_words.specs.Lent.{Lent, lent}
 use Rattle.ring_steps.specs.Fitting.{Ready}
 use Rattle.ring_steps.proofs.Kept.{leaves-long, ready-one}
