@@ -1,8 +1,7 @@
 -- `State::formed`: where a part fails a condition fails, and where all parts pass every condition passes.
-use borrow.Author.Rules.{rules}
 use borrow.Author.Tests.{le-leb, le-ltb, leb-false, leb-true, lt-leb, lt-ltb, ltb-false, not-false, not-true}
 use mathlib.Core.Path.{◌≡◌, ap, sym, ◌∙◌}
-use mathlib.Core.Bool.{Bool, true, false, not, ◌&&◌, ◌||◌, and-true, false≢true}
+use mathlib.Core.Bool.{Bool, true, false, not, ◌&&◌, ◌||◌, false≢true}
 use mathlib.Core.List.{List, [], ◌∷◌, foldl}
 use Prim.Native.Nat.{◌*◌, ◌≤◌}
 use native.Mathlib.Omega.{arith}
@@ -16,8 +15,7 @@ use Rattle.ring.specs.Activity.{is_calm}
 use Rattle.ring.specs.State.{settings_conditions, well_formed}
 use Rattle.ring.specs.declared.State.{State}
 use Rattle.ring.proofs.Facts.{Facts, facts}
-use Rattle.ring.proofs.State.formed.Statement.{statement}
-use Rattle.ring.proofs.State.formed.Tie as tie
+use Rattle.ring.proofs.State.formed.Goals as goal
 
 -- the tests after the first, with what `in_range` answered: each is true of a state that is wrong
 abbrev wrongs : State → (in-range : Bool) → List Bool
@@ -123,88 +121,37 @@ acts active calm zero e = rw e
 rests : (active calm zero k : Bool) → active ≡ false → k ≡ calm → (k && zero) ≡ (active || (calm && zero))
 rests active calm zero k e f = rw (e, f)
 
-in-range-requires : tie.Need-in-range-requires
-in-range-requires c κs = search rules
+pub returns-then-wrong : goal.returns-then-wrong
+returns-then-wrong c = one-wrong c.args.self c.in_range.result c.in_range.ensures c.if-wrong.true
 
-abbrev at_fields : tie.After-in-range → tie.After-struct-known
-at_fields c = c.before.before.before.before.before.before.before.before.before.before.before.before.before.before.before
-
-abbrev at-start : tie.After-in-range → tie.Start
-at-start c = (at_fields c).before.before.before.before
-
-returns : tie.Need-returns
-returns c =
-    let r = c.before in
-    one-wrong (at-start r).args.self r.in-range.result r.in-range.ensures c.if1.true
-
-mul-if2 : tie.Need-overflow-mul-if2
-mul-if2 c =
-    let e1 = c.before in
-    let r = e1.before in
-    let s = (at-start r).args.self in
-    let q = r.in-range.result in
-    let b = none_from (ltb latest s.clock.0) (wrongs s q) e1.if1.false in
-    let settings = sym r.in-range.ensures ∙ not-false q (b 10) in
+pub overflow_mul-backlog : goal.overflow_mul-backlog
+overflow_mul-backlog c =
+    let s = c.args.self in
+    let q = c.in_range.result in
+    let b = none_from (ltb latest s.clock.0) (wrongs s q) c.if-wrong.false in
+    let settings = sym c.in_range.ensures ∙ not-false q (b 10) in
     omega (
       arith,
       ltb-false s.settings.slots s.backlog.count (b 5),
       leb-true s.settings.slots 65536 (all-at (settings_conditions s.settings) settings 5),
     )
 
-returns-2 : tie.Need-returns-2
-returns-2 c = false_of _ (λ w. let f = facts _ w in omega arith)
+pub returns-then-backlog : goal.returns-then-backlog
+returns-then-backlog c = false_of _ (λ w. let f = facts _ w in omega arith)
 
-measurement-fits-requires : tie.Need-measurement-fits-requires
-measurement-fits-requires c κs = search rules
+pub returns-then-not-fits : goal.returns-then-not-fits
+returns-then-not-fits c = part c.args.self c.measurement_fits-fits.result (measured c.args.self) (measured-fits c.args.self) c.measurement_fits-fits.ensures (ap not c.if-not-fits.true)
 
-returns-3 : tie.Need-returns-3
-returns-3 c = part _ _ _ (measured-fits _) c.before.measurement-fits.ensures c.if3.true
+pub returns-then-active : goal.returns-then-active
+returns-then-active c =
+    let s = c.args.self in
+    none-decides s c.in_range.result true c.in_range.ensures c.if-wrong.false c.if-backlog.false c.requires
+    (fitted c.measurement_fits-fits.result (measured s) c.measurement_fits-fits.ensures (ap not c.if-not-fits.false))
+    (acts s.active (is_calm s.settings) (eqb s.pie.prob.0 0) c.if-active.true)
 
--- once the measurement is known to fit, activity decides
-abbrev given : tie.Else3 → State
-given c = (at-start c.before.before.before.before.before.before).args.self
-
-decides : (c : tie.Else3) (acts : Bool) →
-    acts ≡ ((given c).active || (is_calm (given c).settings && eqb (given c).pie.prob.0 0)) → acts ≡ well_formed (given c)
-decides c acts k =
-    let e2 = c.before.before in
-    let e1 = e2.before.before.before in
-    let r = e1.before in
-    let a = at-start r in
-    none-decides
-    a.args.self
-    r.in-range.result
-    acts
-    r.in-range.ensures
-    e1.if1.false
-    e2.if2.false
-    a.pre
-    (fitted c.before.measurement-fits.result (measured a.args.self) c.before.measurement-fits.ensures c.if3.false)
-    k
-
-returns-4 : tie.Need-returns-4
-returns-4 c =
-    let s = given c.before in
-    decides c.before true (acts s.active (is_calm s.settings) (eqb s.pie.prob.0 0) c.if4.true)
-
-is-calm-requires : tie.Need-is-calm-requires
-is-calm-requires c κs = search rules
-
-returns-5 : tie.Need-returns-5
-returns-5 c =
-    let k = c.before in
-    decides k.before.before _ (rests _ _ _ _ k.before.if4.false k.is-calm.ensures)
-
-pub formed-spec : {M : Type 1} → statement M
-formed-spec =
-    tie.close
-    (tie.spec
-    in-range-requires
-    returns
-    mul-if2
-    returns-2
-    measurement-fits-requires
-    returns-3
-    returns-4
-    is-calm-requires
-    returns-5)
+pub returns : goal.returns
+returns c =
+    let s = c.args.self in
+    none-decides s c.in_range.result _ c.in_range.ensures c.if-wrong.false c.if-backlog.false c.requires
+    (fitted c.measurement_fits-fits.result (measured s) c.measurement_fits-fits.ensures (ap not c.if-not-fits.false))
+    (rests _ _ _ _ c.if-active.false c.is_calm.ensures)

@@ -1,5 +1,4 @@
 -- `State::arrived`: the new state, from what the calls return.
-use borrow.Author.Rules.{rules}
 use mathlib.Core.Path.{◌≡◌, sym, ◌∙◌}
 use mathlib.Core.Bool.{true, false, cond}
 use mathlib.Core.List.{List}
@@ -16,8 +15,7 @@ use Rattle.ring.specs.Activity.{begun, turns_active}
 use Rattle.ring.specs.Arrival.{arrived_pie, arrived_state}
 use Rattle.ring.specs.declared.State.{State}
 use Rattle.ring.proofs.Activation.{active-begun, arrived-anew, begun-same}
-use Rattle.ring.proofs.State.arrived.Statement.{statement}
-use Rattle.ring.proofs.State.arrived.Tie as tie
+use Rattle.ring.proofs.State.arrived.Goals as goal
 
 module _ (s : State) (clock size : ℕ) (v : Verdict) (b : Backlog) (counts : List ℕ)
     (eb : b ≡ cond (admitted v) (entered s.backlog size) s.backlog) (ec : counts ≡ raised s.verdicts v) where
@@ -58,33 +56,18 @@ module _ (s : State) (clock size : ℕ) (v : Verdict) (b : Backlog) (counts : Li
   unfolding arrived_state
   alike sum t e = rw (begun-same s t, eb, ec, e)
 
-raise-requires : tie.Need-raise-requires
-raise-requires c κs = search rules
-
-entered-requires : tie.Need-entered-requires
-entered-requires c κs = search rules
-
-turns-active-requires : tie.Need-turns-active-requires
-turns-active-requires c κs = search rules
-
-restarted-requires : tie.Need-restarted-requires
-restarted-requires c κs = search rules
-
-returns : tie.Need-returns
-returns c =
+pub returns-then-turns : goal.returns-then-turns
+returns-then-turns c =
     let r = c.before.before in
     let t = r.before.before in
     let n = t.before in
-    let turns = sym t.turns-active.ensures ∙ r.before.if1.true in
-    anew _ _ _ _ _ _ n.entered.ensures n.before.raise.ensures _ turns r.restarted.ensures
+    let turns = sym t.turns_active-turns.ensures ∙ r.before.if-turns.true in
+    anew _ _ _ _ _ _ n.entered-backlog.ensures n.before.raise-verdicts.ensures _ turns r.restarted.ensures
 
-returns-2 : tie.Need-returns-2
-returns-2 c =
+pub returns : goal.returns
+returns c =
     let e = c.before.before.before.before.before.before.before in
     let t = e.before in
     let n = t.before in
-    let stays = sym t.turns-active.ensures ∙ e.if1.false in
-    alike _ _ _ _ _ _ n.entered.ensures n.before.raise.ensures _ stays n.before.before.before.requires.1.1
-
-pub arrived-spec : {M : Type 1} → statement M
-arrived-spec = tie.close (tie.spec raise-requires entered-requires turns-active-requires restarted-requires returns returns-2)
+    let stays = sym t.turns_active-turns.ensures ∙ e.if-turns.false in
+    alike _ _ _ _ _ _ n.entered-backlog.ensures n.before.raise-verdicts.ensures _ stays n.before.before.before.requires.accumulated_value
