@@ -10,11 +10,9 @@ use lib.ListN.{get_or, length}
 use Rattle.pie.specs.Constants.{most_verdicts}
 use Rattle.pie.specs.Verdicts.{total}
 use Rattle.refusals.proofs.FiveCounts.{total-five}
-use Rattle.refusals.proofs.counting.counts_fit.Statement.{statement}
-use Rattle.refusals.proofs.counting.counts_fit.Tie as tie
+use Rattle.refusals.proofs.counting.counts_fit.Goals as goal
 
 -- ── the sum of five counts, whatever the trace ──
-
 -- a sum is at most m where its last part is at most what the rest leaves of m
 last-part : (m rest part : ℕ) → rest ≤ m → leb part (m - rest) ≡ leb (rest + part) m
 last-part m rest part h = go (leb (rest + part) m) refl
@@ -38,7 +36,6 @@ last-count counts n a b c d ea eb ec ed ha hb hc hd =
     rw (total-five counts n, ea, eb, ec, ed, left) (last-part most_verdicts (a + b + c + d) (get_or counts 4 0) (omega arith))
 
 -- ── a count that is more than the ones before it leave ──
-
 more1 : (a b c d : ℕ) → most_verdicts < a → most_verdicts < a + b + c + d
 more1 a b c d h = omega arith
 
@@ -51,77 +48,26 @@ more3 a b c d h = omega arith
 more4 : (a b c d : ℕ) → most_verdicts - a - b - c < d → most_verdicts < a + b + c + d
 more4 a b c d h = omega arith
 
--- ── the needs ──
+pub bounds-counts-0 : goal.bounds-counts-0
+bounds-counts-0 c = lit< tt
 
-array-read-a : tie.Need-array-read-a
-array-read-a c = lit< tt
+pub bounds-counts-1 : goal.bounds-counts-1
+bounds-counts-1 c = lit< tt
 
-array-read-b : tie.Need-array-read-b
-array-read-b c = lit< tt
+pub bounds-counts-2 : goal.bounds-counts-2
+bounds-counts-2 c = lit< tt
 
-array-read-c : tie.Need-array-read-c
-array-read-c c = lit< tt
+pub bounds-counts-3 : goal.bounds-counts-3
+bounds-counts-3 c = lit< tt
 
-array-read-d : tie.Need-array-read-d
-array-read-d c = lit< tt
+pub bounds-counts-4 : goal.bounds-counts-4
+bounds-counts-4 c = lit< tt
 
-array-read-e : tie.Need-array-read-e
-array-read-e c = lit< tt
+pub overflow_sub-a-3 : goal.overflow_sub-a-3
+overflow_sub-a-3 c = c.if-a-b.false
 
-returns : tie.Need-returns
-returns c = let s = c.before in too_many s.args.t1 (search) (more1 _ _ _ _ c.if1.true)
+pub overflow_sub-a-5 : goal.overflow_sub-a-5
+overflow_sub-a-5 c = c.before.if-a-b.false
 
-returns-2 : tie.Need-returns-2
-returns-2 c = let s = c.before.before in too_many s.args.t1 (search) (more2 _ _ _ _ c.if2.true)
-
-sub-if3 : tie.Need-overflow-sub-if3
-sub-if3 c = c.if2.false
-
-returns-3 : tie.Need-returns-3
-returns-3 c = let s = c.before.before.before in too_many s.args.t1 (search) (more3 _ _ _ _ c.if3.true)
-
-sub-if4 : tie.Need-overflow-sub-if4
-sub-if4 c = c.before.if2.false
-
-sub-if4-2 : tie.Need-overflow-sub-if4-2
-sub-if4-2 c = c.if3.false
-
-returns-4 : tie.Need-returns-4
-returns-4 c = let s = c.before.before.before.before in too_many s.args.t1 (search) (more4 _ _ _ _ c.if4.true)
-
-sub-result : tie.Need-overflow-sub-result
-sub-result c = c.before.before.if2.false
-
-sub-result-2 : tie.Need-overflow-sub-result-2
-sub-result-2 c = c.before.if3.false
-
-sub-result-3 : tie.Need-overflow-sub-result-3
-sub-result-3 c = c.if4.false
-
-returns-5 : tie.Need-returns-5
-returns-5 c =
-    let e3 = c.before in
-    let e2 = e3.before in
-    let e1 = e2.before in
-    last-count e1.before.args.t1 (search) _ _ _ _ refl refl refl refl e1.if1.false e2.if2.false e3.if3.false c.if4.false
-
-pub counts-fit-spec : {M : Type 1} → statement M
-counts-fit-spec =
-    tie.close
-    (tie.spec
-    array-read-a
-    array-read-b
-    array-read-c
-    array-read-d
-    array-read-e
-    returns
-    returns-2
-    sub-if3
-    returns-3
-    sub-if4
-    sub-if4-2
-    returns-4
-    sub-result
-    sub-result-2
-    sub-result-3
-    returns-5)
+pub overflow_sub-a-6 : goal.overflow_sub-a-6
+overflow_sub-a-6 c = c.if-a-b-2.false

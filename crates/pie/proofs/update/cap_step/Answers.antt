@@ -1,6 +1,6 @@
 -- `update::cap_step`: the test chooses the case.
 use mathlib.Core.Path.{◌≡◌, refl}
-use mathlib.Core.Bool.{Bool, true, false, cond, ◌&&◌, true≢false}
+use mathlib.Core.Bool.{Bool, true, false, cond, ◌&&◌}
 use Prim.Native.Nat.{ℕ}
 use lib.Dec.{leb}
 use lib.IntN.{ℤ, pos}
@@ -9,8 +9,7 @@ use mir.Facts.{to_z-of_z}
 use Rattle.units.specs.Kinds.{tenth}
 use Rattle.pie.specs.Constants.{most_calm_step}
 use Rattle.pie.specs.Update.{capped}
-use Rattle.pie.proofs.update.cap_step.Statement.{statement}
-use Rattle.pie.proofs.update.cap_step.Tie as tie
+use Rattle.pie.proofs.update.cap_step.Goals as goal
 
 -- the two profiles' rule as one choice
 capped_is : (calm : Bool) (p : ℕ) (step : ℤ) →
@@ -19,17 +18,14 @@ unfolding capped
 capped_is false p step = refl
 capped_is true p step = refl
 
-returns : tie.Need-returns
+pub returns-then-over : goal.returns-then-over
+returns-then-over c =
+    let a = c.before.before.before in
+    let e = to_z-of_z a.ranges.step in
+    rw (← (capped_is a.args.calm a.args.p.0 a.args.step), rw e at c.if-over.true)
+
+pub returns : goal.returns
 returns c =
     let a = c.before.before.before in
     let e = to_z-of_z a.ranges.step in
-    rw (← (capped_is a.args.calm a.args.p.0 a.args.step), rw e at c.if1.true)
-
-returns-2 : tie.Need-returns-2
-returns-2 c =
-    let a = c.before.before.before in
-    let e = to_z-of_z a.ranges.step in
-    rw (e, ← (capped_is a.args.calm a.args.p.0 a.args.step), rw e at c.if1.false)
-
-pub cap-step-spec : {M : Type 1} → statement M
-cap-step-spec = tie.close (tie.spec returns returns-2)
+    rw (e, ← (capped_is a.args.calm a.args.p.0 a.args.step), rw e at c.if-over.false)

@@ -1,5 +1,4 @@
 -- `measurement::measurement_fits`: a start and counted bytes of 0 are in range.
-use borrow.Author.Rules.{rules}
 use borrow.Author.Tests.{eqb-true, le-leb, lt-ltb}
 use mathlib.Core.Path.{◌≡◌, refl}
 use mathlib.Core.Bool.{Bool, true, false, ◌&&◌, and-false, and-true}
@@ -7,8 +6,7 @@ use Prim.Native.Nat.{ℕ}
 use lib.Dec.{eqb, leb, ltb}
 use Rattle.pie.specs.Constants.{threshold}
 use native.Mathlib.Omega.{arith}
-use Rattle.pie.proofs.measurement.measurement_fits.Statement.{statement}
-use Rattle.pie.proofs.measurement.measurement_fits.Tie as tie
+use Rattle.pie.proofs.measurement.measurement_fits.Goals as goal
 
 none_runs : (start counted clock : ℕ) →
     (eqb start 0 && eqb counted 0) ≡ (leb start clock && ltb counted threshold && eqb start 0 && eqb counted 0)
@@ -20,14 +18,11 @@ none_runs start counted clock = go (eqb start 0) (eqb counted 0) refl refl
     go true false e f = simp and-false
     go false b e f = simp and-false
 
-returns : tie.Need-returns
-returns c = simp (c.before.before.before.if1.true, and-true)
+pub returns-then-runs : goal.returns-then-runs
+returns-then-runs c = simp (c.before.before.before.if-runs.true, and-true)
 
-returns-2 : tie.Need-returns-2
-returns-2 c =
+pub returns : goal.returns
+returns c =
     let e1 = c.before.before in
     let a = e1.before.args in
-    simp (e1.if1.false, and-true) (none_runs a.rate.start.0 a.rate.counted.0 a.clock.0)
-
-pub measurement-fits-spec : {M : Type 1} → statement M
-measurement-fits-spec = tie.close (tie.spec returns returns-2)
+    simp (e1.if-runs.false, and-true) (none_runs a.rate.start.0 a.rate.counted.0 a.clock.0)
