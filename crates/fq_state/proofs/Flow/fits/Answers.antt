@@ -1,6 +1,5 @@
 -- `Flow::fits`: where a part fails a condition fails, and where all parts pass every condition passes.
-use borrow.Author.Rules.{rules}
-use borrow.Author.Tests.{le-leb, le-ltb, leb-false, leb-true, lt-leb, lt-ltb, ltb-false, not-true}
+use borrow.Author.Tests.{le-leb, le-ltb, leb-false, lt-leb, lt-ltb, ltb-false}
 use mathlib.Core.Path.{◌≡◌, ap, sym, ◌∙◌}
 use mathlib.Core.Bool.{Bool, true, false, not, ◌&&◌, ◌||◌, false≢true}
 use mathlib.Core.List.{List, [], ◌∷◌, foldl}
@@ -14,12 +13,11 @@ use Rattle.pie.specs.declared.Rate.{Rate}
 use Rattle.laws.specs.Tests.{all}
 use Rattle.laws.proofs.TestLists.{false_of, first-not, none_from}
 use Rattle.fq_state.specs.Flow.{pie_of, rate_of}
-use Rattle.fq_state.specs.WellFormed.{common_conditions, flow_conditions}
+use Rattle.fq_state.specs.WellFormed.{flow_conditions}
 use Rattle.fq_state.specs.declared.Common.{Common}
 use Rattle.fq_state.specs.declared.Flow.{Flow}
 use Rattle.fq_state.proofs.Facts.{FlowFits, common-fits, flow-fits}
-use Rattle.fq_state.proofs.Flow.fits.Statement.{statement}
-use Rattle.fq_state.proofs.Flow.fits.Tie as tie
+use Rattle.fq_state.proofs.Flow.fits.Goals as goal
 
 -- the first test, and those behind it: each is true of a flow that is wrong
 abbrev first : Flow → Bool
@@ -87,43 +85,20 @@ module _ (c : Common) (f : Flow) where
         le-leb f.bytes (largest * f.count) h,
       ) told
 
--- from the first test back to the start
-abbrev at-start : tie.Else1 → tie.Start
-at-start e = e.before.before.before.before.before.before.before.before.before.before.before.before.before
+pub returns-then-wrong : goal.returns-then-wrong
+returns-then-wrong c = one-wrong c.args.c c.args.self c.if-wrong.true
 
-returns : tie.Need-returns
+pub overflow_mul-self : goal.overflow_mul-self
+overflow_mul-self c =
+    omega (arith, (common-fits c.args.c c.requires).settings.slots-high, few c.args.c c.args.self c.if-wrong.false)
+
+pub returns-then-self : goal.returns-then-self
+returns-then-self c = false_of _ (λ w. let k = flow-fits c.args.c c.args.self w in omega arith)
+
+pub returns : goal.returns
 returns c =
-    let a = c.before.before.before.before.before.before.before.before.before.before.before.before.before.args in
-    one-wrong a.c a.self c.if1.true
-
-mul-if2 : tie.Need-overflow-mul-if2
-mul-if2 c =
-    let e1 = c.before in
-    let s = at-start e1 in
-    omega (arith, (common-fits s.args.c s.pre).settings.slots-high, few s.args.c s.args.self e1.if1.false)
-
-returns-2 : tie.Need-returns-2
-returns-2 c =
-    let a = (at-start c.before.before.before).args in
-    false_of _ (λ w. let k = flow-fits a.c a.self w in omega arith)
-
-pie-requires : tie.Need-pie-requires
-pie-requires c κs = search rules
-
-measurement-fits-requires : tie.Need-measurement-fits-requires
-measurement-fits-requires c κs = search rules
-
-returns-3 : tie.Need-returns-3
-returns-3 c =
-    let p = c.before in
-    let e2 = p.before in
-    let e1 = e2.before.before.before in
-    let a = (at-start e1).args in
-    none-decides a.c a.self c.measurement-fits.result p.pie.result
-    e1.if1.false
-    e2.if2.false
-    p.pie.ensures
-    c.measurement-fits.ensures
-
-pub fits-spec : {M : Type 1} → statement M
-fits-spec = tie.close (tie.spec returns mul-if2 returns-2 pie-requires measurement-fits-requires returns-3)
+    none-decides c.args.c c.args.self c.measurement_fits.result c.pie-pie.result
+    c.if-wrong.false
+    c.if-self.false
+    c.pie-pie.ensures
+    c.measurement_fits.ensures
