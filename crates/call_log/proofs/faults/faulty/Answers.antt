@@ -8,13 +8,12 @@ use Rattle.units.specs.Kinds.{whole}
 use Rattle.pie.specs.Constants.{latest}
 use Rattle.call_log.specs.Faults.{arrival, departure, faulty, most_bytes, tick}
 use Rattle.call_log.proofs.Choices.{joined}
-use Rattle.call_log.proofs.faults.faulty.Statement.{statement}
-use Rattle.call_log.proofs.faults.faulty.Tie as tie
+use Rattle.call_log.proofs.faults.faulty.Goals as goal
 
-returns : tie.Need-returns
+pub returns : goal.returns
 unfolding faulty
 returns c =
-    let r = c.before.before.before.before.before.before.before.before.before.before.before.before.before.before.before.before.before.args.r in
+    let r = c.args.r in
     ap not (joined
     (arrival r)
     (departure r)
@@ -34,6 +33,3 @@ returns c =
     (leb r.prob whole)
     (λ e. let k = eqb-true r.kind 97 e in ne_eqb r.kind 100 (λ d. omega arith))
     (λ e. let k = eqb-true r.kind 97 e in ne_eqb r.kind 116 (λ d. omega arith)))
-
-pub faulty-spec : {M : Type 1} → statement M
-faulty-spec = tie.close (tie.spec returns)
