@@ -5,21 +5,17 @@ use native.Mathlib.Omega.{arith}
 use lib.Dec.{lit<}
 use Rattle.units.specs.Kinds.{prob}
 use Rattle.docsis_pie.specs.DropDecision.{scaled_of}
-use Rattle.docsis_pie.proofs.decision.scaled.Statement.{statement}
-use Rattle.docsis_pie.proofs.decision.scaled.Tie as tie
+use Rattle.docsis_pie.proofs.decision.scaled.Goals as goal
 
-mul-n : tie.Need-overflow-mul-n
-mul-n c =
+pub overflow_mul-n : goal.overflow_mul-n
+overflow_mul-n c =
     let h = c.before.before.requires in
     record { fits = lt_of_le_of_lt (mul-le-mul h.0 h.1) (lit< tt) }
 
-returns : tie.Need-returns
+pub returns-then-n-lt-LOW : goal.returns-then-n-lt-LOW
+unfolding scaled_of
+returns-then-n-lt-LOW c = ap prob (omega arith)
+
+pub returns : goal.returns
 unfolding scaled_of
 returns c = ap prob (omega arith)
-
-returns-2 : tie.Need-returns-2
-unfolding scaled_of
-returns-2 c = ap prob (omega arith)
-
-pub scaled-spec : {M : Type 1} → statement M
-scaled-spec = tie.close (tie.spec mul-n returns returns-2)

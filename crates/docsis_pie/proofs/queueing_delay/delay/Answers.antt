@@ -8,8 +8,13 @@ use Rattle.units.specs.Kinds.{bytes, micros}
 use Rattle.units.specs.declared.Bytes.{Bytes}
 use Rattle.pie.specs.Constants.{longest}
 use Rattle.docsis_pie.specs.Delay.{delay_of, fast_of}
-use Rattle.docsis_pie.proofs.queueing_delay.delay.Statement.{statement}
-use Rattle.docsis_pie.proofs.queueing_delay.delay.Tie as tie
+use Rattle.docsis_pie.proofs.queueing_delay.delay.Goals as goal
+use Rattle.docsis_pie.proofs.queueing_delay.delay.Lts
+use Rattle.docsis_pie.proofs.queueing_delay.delay.Reads
+use Rattle.docsis_pie.proofs.queueing_delay.delay.Tie
+
+abbrev After-fast-first : Type 0
+After-fast-first = Lts.After-fast Tie.the-claims Reads.Pre Reads.Post
 
 -- the sum of the two quotients
 abbrev sum : (queued fast peak sustained : ℕ) → ℕ
@@ -30,47 +35,37 @@ long : (q c p s : ℕ) (f : Bytes) → f ≡ bytes (fast_of q c) → longest ≤
 unfolding delay_of
 long q c p s f e h = ap micros (over _ longest (rw e at h))
 
-fast-le : (c : tie.After-fast) → c.fast.result.0 ≤ c.before.args.queued.0
-fast-le c = rw c.fast.ensures (omega arith)
+fast-le : (c : After-fast-first) → c.fast-first.result.0 ≤ c.before.args.queued.0
+fast-le c = rw c.fast-first.ensures (omega arith)
 
-fast-requires : tie.Need-fast-requires
-fast-requires c κs = search rules
+pub overflow_sub-rest : goal.overflow_sub-rest
+overflow_sub-rest c = fast-le c.before.before
 
-sub-rest : tie.Need-overflow-sub-rest
-sub-rest c = fast-le c.before.before
+pub time-requires : goal.time-requires
+time-requires c = let h = fast-le c.before.before in search rules
 
-time-requires : tie.Need-time-requires
-time-requires c κs = let h = fast-le c.before.before in search rules
-
-time-requires-2 : tie.Need-time-requires-2
-time-requires-2 c κs = search rules
-
-add-d : tie.Need-overflow-add-d
-add-d c =
+pub overflow_add-d : goal.overflow_add-d
+overflow_add-d c =
     let a = c.before.before.before.before in
-    let f = a.fast.result.0 in
+    let f = a.fast-first.result.0 in
     let q = a.before.args.queued.0 in
     omega (
       arith,
       fast-le a,
       c.before.time.ensures,
-      c.time2.ensures,
+      c.time-2.ensures,
       div-le_self (f * 1000000) a.before.args.peak.0,
       div-le_self ((q - f) * 1000000) a.before.args.sustained.0,
     )
 
-returns : tie.Need-returns
-returns c =
+pub returns-then-d-lt-LONGEST : goal.returns-then-d-lt-LONGEST
+returns-then-d-lt-LONGEST c =
     let a = c.before.before.before.before.before in
     let e = c.before.before.time.ensures in
-    let f = c.before.time2.ensures in
-    rw (e, f) (short _ _ _ _ a.fast.result a.fast.ensures (rw (e, f) at c.if1.true))
+    let f = c.before.time-2.ensures in
+    rw (e, f) (short _ _ _ _ a.fast-first.result a.fast-first.ensures (rw (e, f) at c.if-d-lt-LONGEST.true))
 
-returns-2 : tie.Need-returns-2
-returns-2 c =
+pub returns : goal.returns
+returns c =
     let a = c.before.before.before.before.before in
-    long _ _ _ _ a.fast.result a.fast.ensures (rw (c.before.before.time.ensures, c.before.time2.ensures) at c.if1.false)
-
-pub delay-spec : {M : Type 1} → statement M
-delay-spec =
-    tie.close (tie.spec fast-requires sub-rest time-requires time-requires-2 add-d returns returns-2)
+    long _ _ _ _ a.fast-first.result a.fast-first.ensures (rw (c.before.before.time.ensures, c.before.time-2.ensures) at c.if-d-lt-LONGEST.false)
