@@ -3,7 +3,6 @@ use mathlib.Core.Path.{◌≡◌, refl, ap, sym, ◌∙◌}
 use mathlib.Core.Bool.{Bool, true, false, ◌&&◌}
 use mathlib.Core.List.{List}
 use Prim.Native.Nat.{ℕ}
-use borrow.Author.Rules.{rules}
 use lib.Dec.{leb}
 use lib.ListN.{replicate}
 use Rattle.laws.specs.Tests.{all}
@@ -16,8 +15,7 @@ use Rattle.fq_state.specs.WellFormed.{settings_conditions}
 use Rattle.fq_words.specs.Words.{flows_of, state_of}
 use Rattle.fq_state.specs.declared.Common.{Common}
 use Rattle.fq_state.specs.declared.Settings.{Settings}
-use Rattle.fq_words.proofs.making.fresh.Statement.{statement}
-use Rattle.fq_words.proofs.making.fresh.Tie as tie
+use Rattle.fq_words.proofs.making.fresh.Goals as goal
 
 module _ (settings : Settings) (clock : ℕ) (q : Bool) (q-is : q ≡ all (settings_conditions settings))
     (common : Common) (words : List ℕ) where
@@ -35,49 +33,18 @@ module _ (settings : Settings) (clock : ℕ) (q : Bool) (q-is : q ≡ all (setti
   unfolding fresh
   refused e ec ef = rw (tested false e, ec, ef) (refl, refl)
 
-in-range-requires : tie.Need-in-range-requires
-in-range-requires c κs = search rules
-
-clear-requires : tie.Need-clear-requires
-clear-requires c κs = search rules
-
-empty-requires : tie.Need-empty-requires
-empty-requires c κs = search rules
-
-returns : tie.Need-returns
-returns c =
-    let t = c.before.before.before.before in
-    let r = t.before.before.before in
-    let a = r.before.args in
-    made a.settings a.clock.0 r.in-range.result r.in-range.ensures c.empty.result c.before.clear.new.0
-    t.if1.true
+pub returns-then-fits : goal.returns-then-fits
+returns-then-fits c =
+    let a = c.args in
+    made a.settings a.clock.0 c.in_range.result c.in_range.ensures c.empty.result c.clear.new.flows
+    c.if-fits.true
     c.empty.ensures
-    c.before.clear.ensures
+    c.clear.ensures
 
-clear-requires-2 : tie.Need-clear-requires-2
-clear-requires-2 c κs = search rules
-
-empty-requires-2 : tie.Need-empty-requires-2
-empty-requires-2 c κs = search rules
-
-returns-2 : tie.Need-returns-2
-returns-2 c =
-    let t = c.before.before.before.before in
-    let r = t.before.before.before in
-    let a = r.before.args in
-    refused a.settings a.clock.0 r.in-range.result r.in-range.ensures c.empty2.result c.before.clear2.new.0
-    t.if1.false
-    c.empty2.ensures
-    c.before.clear2.ensures
-
-pub fresh-spec : {M : Type 1} → statement M
-fresh-spec =
-    tie.close
-    (tie.spec
-    in-range-requires
-    clear-requires
-    empty-requires
-    returns
-    clear-requires-2
-    empty-requires-2
-    returns-2)
+pub returns : goal.returns
+returns c =
+    let a = c.args in
+    refused a.settings a.clock.0 c.in_range.result c.in_range.ensures c.empty-2.result c.clear-2.new.flows
+    c.if-fits.false
+    c.empty-2.ensures
+    c.clear-2.ensures
