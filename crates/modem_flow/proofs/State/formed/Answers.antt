@@ -1,6 +1,5 @@
 -- `State::formed`: where a part fails a condition fails, and where all parts pass every condition passes.
-use borrow.Author.Rules.{rules}
-use borrow.Author.Tests.{le-leb, leb-true, lt-ltb, not-false, not-true}
+use borrow.Author.Tests.{le-leb, leb-true, lt-ltb, not-true}
 use mathlib.Core.Path.{◌≡◌, ap, sym, ◌∙◌}
 use mathlib.Core.Bool.{Bool, true, false, not, ◌&&◌, ◌||◌, false≢true}
 use mathlib.Core.List.{List, [], ◌∷◌}
@@ -15,8 +14,16 @@ use Rattle.docsis_pie.specs.Constants.{active, full_allowance, high, most_prob, 
 use Rattle.modem_flow.specs.State.{formed, settings_conditions}
 use Rattle.modem_flow.specs.declared.State.{State}
 use Rattle.modem_flow.proofs.Facts.{Facts, facts}
-use Rattle.modem_flow.proofs.State.formed.Statement.{statement}
-use Rattle.modem_flow.proofs.State.formed.Tie as tie
+use Rattle.modem_flow.proofs.State.formed.Goals as goal
+use Rattle.modem_flow.proofs.State.formed.Lts
+use Rattle.modem_flow.proofs.State.formed.Reads
+use Rattle.modem_flow.proofs.State.formed.Tie
+
+abbrev After-in_range : Type 0
+After-in_range = Lts.After-in_range Tie.the-claims Reads.Pre Reads.Post
+
+abbrev Start : Type 0
+Start = Lts.Start Tie.the-claims Reads.Pre Reads.Post
 
 -- the tests, with what `in_range` answered
 abbrev tests : State → (in_range : Bool) → List Bool
@@ -108,48 +115,38 @@ tests-hold s r m e passed h k =
       le-leb s.backlog.bytes.0 (largest * s.backlog.count) h,
     ) k
 
-in-range-requires : tie.Need-in-range-requires
-in-range-requires c κs = search rules
-
-abbrev at-start : tie.After-in-range → tie.Start
+abbrev at-start : After-in_range → Start
 at-start r = r.before.before.before.before.before.before.before.before.before.before.before.before.before.before.before.before.before.before.before.before
 
-returns : tie.Need-returns
-returns c =
-    let r = c.before in tests-fail (at-start r).args.self r.in-range.result r.in-range.ensures c.if1.true
-
-mul-if2 : tie.Need-overflow-mul-if2
-mul-if2 c =
+pub overflow_mul-backlog : goal.overflow_mul-backlog
+overflow_mul-backlog c =
     let e1 = c.before in
     let r = e1.before in
     let s = (at-start r).args.self in
-    let b = all-at (tests s r.in-range.result) (not-false _ e1.if1.false) in
+    let b = all-at (tests s r.in_range.result) e1.if-not-fits.false in
     omega (
       arith,
       leb-true s.backlog.count s.settings.slots (b 9),
-      leb-true s.settings.slots 65536 (all-at (settings_conditions s.settings) (sym r.in-range.ensures ∙ b 12) 5),
+      leb-true s.settings.slots 65536 (all-at (settings_conditions s.settings) (sym r.in_range.ensures ∙ b 12) 5),
     )
 
-returns-2 : tie.Need-returns-2
-returns-2 c = false_of _ (λ w. let f = facts _ w in omega arith)
+pub returns-then-backlog : goal.returns-then-backlog
+returns-then-backlog c = false_of _ (λ w. let f = facts _ w in omega arith)
 
-phase-fits-requires : tie.Need-phase-fits-requires
-phase-fits-requires c κs = search rules
-
-returns-3 : tie.Need-returns-3
-returns-3 c =
+pub returns : goal.returns
+returns c =
     let e2 = c.before in
     let e1 = e2.before.before.before in
     let r = e1.before in
     tests-hold
     (at-start r).args.self
-    r.in-range.result
-    c.phase-fits.result
-    r.in-range.ensures
-    (not-false _ e1.if1.false)
-    e2.if2.false
-    c.phase-fits.ensures
+    r.in_range.result
+    c.phase_fits.result
+    r.in_range.ensures
+    e1.if-not-fits.false
+    e2.if-backlog.false
+    c.phase_fits.ensures
 
-pub formed-spec : {M : Type 1} → statement M
-formed-spec =
-    tie.close (tie.spec in-range-requires returns mul-if2 returns-2 phase-fits-requires returns-3)
+pub returns-then-not-fits : goal.returns-then-not-fits
+returns-then-not-fits c =
+    tests-fail c.args.self c.in_range.result c.in_range.ensures (ap not c.if-not-fits.true)
