@@ -1,6 +1,5 @@
 -- `State::fits`: where a part fails a condition fails, and where all parts pass every condition passes.
-use borrow.Author.Rules.{rules}
-use borrow.Author.Tests.{le-leb, le-ltb, leb-false, leb-true, lt-leb, lt-ltb, ltb-false, not-false, not-true}
+use borrow.Author.Tests.{le-leb, le-ltb, leb-false, lt-leb, lt-ltb, ltb-false, not-false, not-true}
 use mathlib.Core.Path.{◌≡◌, ap, sym, ◌∙◌}
 use mathlib.Core.Bool.{Bool, true, false, not, ◌&&◌, ◌||◌, and-true, false≢true}
 use mathlib.Core.List.{List, [], ◌∷◌, foldl}
@@ -15,8 +14,19 @@ use Rattle.laws.proofs.TestLists.{false_of, first-not, none_from}
 use Rattle.pair_rules.specs.WellFormed.{queue_conditions, settings_conditions}
 use Rattle.pair_rules.specs.declared.State.{State}
 use Rattle.pair_rules.proofs.Facts.{QueueFits, queue-fits}
-use Rattle.pair_rules.proofs.State.fits.Statement.{statement}
-use Rattle.pair_rules.proofs.State.fits.Tie as tie
+use Rattle.pair_rules.proofs.State.fits.Goals as goal
+use Rattle.pair_rules.proofs.State.fits.Lts
+use Rattle.pair_rules.proofs.State.fits.Reads
+use Rattle.pair_rules.proofs.State.fits.Tie
+
+abbrev Else-wrong : Type 0
+Else-wrong = Lts.Else2 Tie.the-claims Reads.Pre Reads.Post
+
+abbrev After-in_range : Type 0
+After-in_range = Lts.After-in_range Tie.the-claims Reads.Pre Reads.Post
+
+abbrev Start : Type 0
+Start = Lts.Start Tie.the-claims Reads.Pre Reads.Post
 
 -- the tests that stand beside the settings': each is true of a state that is wrong
 abbrev wrongs : (slots : ℕ) → State → List Bool
@@ -107,76 +117,18 @@ module _ (slots : ℕ) (s : State) where
         and-true,
       ) k
 
-counts-fit-requires : tie.Need-counts-fit-requires
-counts-fit-requires c κs = search rules
-
-returns : tie.Need-returns
-returns c =
-    let a = c.before.before.before.args in
-    part a.slots a.self _ _ (λ f. le-leb _ most_verdicts f.total-high) c.before.counts-fit.ensures c.if1.true
-
-in-range-requires : tie.Need-in-range-requires
-in-range-requires c κs = search rules
-
--- from the test of the others back to `in_range`, and on to the start
-abbrev ranged : tie.Else2 → tie.After-in-range
+abbrev ranged : Else-wrong → After-in_range
 ranged c = c.before.before.before.before.before.before.before.before.before.before.before.before.before.before.before
 
-abbrev at-start : tie.After-in-range → tie.Start
+abbrev at-start : After-in_range → Start
 at-start r = r.before.before.before.before.before.before.before
 
-returns-2 : tie.Need-returns-2
-returns-2 c =
+pub returns-then-wrong : goal.returns-then-wrong
+returns-then-wrong c =
     let r = c.before.before.before.before.before.before.before.before.before.before.before.before.before.before.before in
-    let a = (at-start r).args in one-wrong a.slots a.self r.in-range.result r.in-range.ensures c.if2.true
+    let a = (at-start r).args in one-wrong a.slots a.self r.in_range.result r.in_range.ensures c.if-wrong.true
 
-mul-if3 : tie.Need-overflow-mul-if3
-mul-if3 c =
-    let e2 = c.before in
-    let r = ranged e2 in
-    let a = (at-start r).args in
-    let q = r.in-range.result in
-    omega (
-      arith,
-      (at-start r).pre,
-      ltb-false a.slots a.self.backlog.count (none_from (not q) (wrongs a.slots a.self) e2.if2.false 9),
-    )
-
-returns-3 : tie.Need-returns-3
-returns-3 c =
+pub returns-then-backlog : goal.returns-then-backlog
+returns-then-backlog c =
     let a = (at-start (ranged c.before.before.before)).args in
     false_of _ (λ w. let f = queue-fits a.slots a.self w in omega arith)
-
-measurement-fits-requires : tie.Need-measurement-fits-requires
-measurement-fits-requires c κs = search rules
-
-returns-4 : tie.Need-returns-4
-returns-4 c =
-    let e3 = c.before in
-    let e2 = e3.before.before.before in
-    let r = ranged e2 in
-    let e1 = r.before.before.before.before in
-    let a = (at-start r).args in
-    none-decides
-    a.slots
-    a.self
-    r.in-range.result
-    c.measurement-fits.result
-    r.in-range.ensures
-    e2.if2.false
-    e3.if3.false
-    (sym e1.before.counts-fit.ensures ∙ not-false _ e1.if1.left)
-    c.measurement-fits.ensures
-
-pub fits-spec : {M : Type 1} → statement M
-fits-spec =
-    tie.close
-    (tie.spec
-    counts-fit-requires
-    returns
-    in-range-requires
-    returns-2
-    mul-if3
-    returns-3
-    measurement-fits-requires
-    returns-4)

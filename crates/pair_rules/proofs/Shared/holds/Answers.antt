@@ -1,5 +1,4 @@
 -- `Shared::holds`: common use, and that the used slots are those held and those spare.
-use borrow.Author.Rules.{rules}
 use borrow.Author.Tests.{eq-eqb, eqb-false, eqb-true, ne_eqb}
 use mathlib.Core.Path.{◌≡◌, refl}
 use mathlib.Core.Bool.{Bool, true, false, ◌&&◌}
@@ -10,8 +9,7 @@ use Rattle.laws.proofs.TestLists.{false_of}
 use Rattle.pair_rules.specs.Queues.{paired}
 use Rattle.pair_rules.specs.declared.Which.TheVariants.{Intercom}
 use Rattle.pair_rules.proofs.Facts.{both-fit, shared-fits}
-use Rattle.pair_rules.proofs.Shared.holds.Statement.{statement}
-use Rattle.pair_rules.proofs.Shared.holds.Tie as tie
+use Rattle.pair_rules.proofs.Shared.holds.Goals as goal
 
 spare-is : (held spare used : ℕ) → held ≤ used → eqb spare (used - held) ≡ eqb (held + spare) used
 spare-is held spare used h = go (eqb (held + spare) used) refl
@@ -27,66 +25,36 @@ holds-is slots first second a b spare used x y h ex ey =
     let common : slots - first - second ≡ slots - (first + second) = omega arith in
     rw (ex, ey, common, spare-is (a + b) spare used h)
 
-add-if1 : tie.Need-overflow-add-if1
-add-if1 c =
+pub overflow_add-a : goal.overflow_add-a
+overflow_add-a c =
     let a = c.before.before in
-    omega (arith, (shared-fits a.args.self a.requires.0).slots-high, a.requires.1)
+    omega (arith, (shared-fits a.args.self a.requires.self_value).slots-high, a.requires.count_le_slots)
 
-returns : tie.Need-returns
-returns c =
+pub returns-then-store-a : goal.returns-then-store-a
+returns-then-store-a c =
     let a = c.before.before.before.before.args in
-    let less : a.self.store.used < a.intercom.backlog.count + a.passengers.backlog.count = c.if1.true in
+    let less : a.self.store.used < a.intercom.backlog.count + a.passengers.backlog.count = c.if-store-a.true in
     false_of _ (λ w. let f = both-fit (paired Intercom a.self a.intercom a.passengers) w in omega arith)
 
-sub-common : tie.Need-overflow-sub-common
-sub-common c =
+pub overflow_sub-common : goal.overflow_sub-common
+overflow_sub-common c =
     let a = c.before.before.before.before.before.before in
-    omega (arith, (shared-fits a.args.self a.requires.0).reserves-high)
+    omega (arith, (shared-fits a.args.self a.requires.self_value).reserves-high)
 
-sub-common-2 : tie.Need-overflow-sub-common-2
-sub-common-2 c =
+pub overflow_sub-common-2 : goal.overflow_sub-common-2
+overflow_sub-common-2 c =
     let a = c.before.before.before.before.before.before.before in
-    omega (arith, (shared-fits a.args.self a.requires.0).reserves-high)
+    omega (arith, (shared-fits a.args.self a.requires.self_value).reserves-high)
 
-over-requires : tie.Need-over-requires
-over-requires c κs = search rules
-
-over-requires-2 : tie.Need-over-requires-2
-over-requires-2 c κs = search rules
-
-add-used : tie.Need-overflow-add-used
-add-used c = search rules
-
-add-result : tie.Need-overflow-add-result
-add-result c = search rules
-
-sub-result : tie.Need-overflow-sub-result
-sub-result c = search rules
-
-returns-2 : tie.Need-returns-2
-returns-2 c =
+pub returns : goal.returns
+returns c =
     let o2 = c.before.before in
     let o1 = o2.before in
     let e = o1.before.before.before.before in
     let a = e.before.before.before.before.args in
     let s = a.self in
     holds-is s.slots s.reserves.intercom s.reserves.passengers a.intercom.backlog.count a.passengers.backlog.count
-    s.store.spare s.store.used o1.over.result o2.over2.result
-    e.if1.false
+    s.store.spare s.store.used o1.over.result o2.over-2.result
+    e.if-store-a.false
     o1.over.ensures
-    o2.over2.ensures
-
-pub holds-spec : {M : Type 1} → statement M
-holds-spec =
-    tie.close
-    (tie.spec
-    add-if1
-    returns
-    sub-common
-    sub-common-2
-    over-requires
-    over-requires-2
-    add-used
-    add-result
-    sub-result
-    returns-2)
+    o2.over-2.ensures
