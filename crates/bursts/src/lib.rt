@@ -1,6 +1,7 @@
 // Lists of calls in one entry. What a burst is, over any kind, is defined in specs/; that it is the list of its calls is proved in proofs/.
 // Here are the numbers of calls and answers, and the room for a burst's arrivals.
 #![tactic(auto)]
+
 mod numbers;
 mod room;
 

@@ -1,5 +1,6 @@
 // The flow of a packet: the Jenkins one-at-a-time hash of its key, plus a salt, modulo 64.
 #![tactic(auto)]
+
 ghost use Rattle.std.specs.Prelude.{◌≡◌, ◌<◌};
 ghost use Rattle.hash.specs.OneAtATime.{absorb, finish, flow_of, one_at_atime};
 

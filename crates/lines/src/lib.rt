@@ -1,5 +1,6 @@
 // A line of a script, read byte by byte: a letter and up to seven numbers.
 #![tactic(auto)]
+
 mod push;
 mod scanning;
 

@@ -33,6 +33,7 @@ impl Reader {
         }
     }
 
+    #[tactic(auto, unfolding(crate::specs::Reader::after_start))]
     fn start(self, byte: u8) -> Reader
         ensures { result ≡ after_start self byte }
     {
@@ -54,6 +55,7 @@ impl Reader {
         }
     }
 
+    #[tactic(auto, unfolding(crate::specs::Reader::after_letter))]
     fn letter(self, byte: u8) -> Reader
         ensures { result ≡ after_letter self byte }
     {
@@ -121,6 +123,7 @@ impl Reader {
         self.spoil()
     }
 
+    #[tactic(auto, unfolding(crate::specs::Reader::after_digits))]
     fn digits(self, byte: u8) -> Reader
         ensures { result ≡ after_digits self byte }
     {

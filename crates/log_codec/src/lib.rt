@@ -1,5 +1,6 @@
 // A log's settings and records as little-endian bytes, in lent bytes.
 #![tactic(auto)]
+
 mod headers;
 mod numbers;
 mod records;

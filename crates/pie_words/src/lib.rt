@@ -1,5 +1,6 @@
 // PIE's rules over its words, which stand from `k` on in a record's words: a slice, so that records of any kind lend theirs.
 #![tactic(auto)]
+
 ghost use Rattle.std.specs.Prelude.{◌≡◌};
 ghost use Rattle.pie_words.specs.Flags.{flag_word};
 

@@ -1,5 +1,6 @@
 // A ring of places in two tables, of handles and of sizes.
 #![tactic(auto)]
+
 ghost use Rattle.std.specs.Prelude.{◌≡◌, ◌+◌, ◌<◌, ◌≤◌, ◌%◌, length, set};
 
 // Where the packet at place `i` stands: one comparison and one subtraction give the remainder.

@@ -29,11 +29,13 @@ none-refuses ((number, false) ∷ rows) n e (suc i) = none-refuses rows (and_rig
 -- ── the lowest is given ──
 
 numbers-above : (low : ℕ) (rows : List (ℕ × Bool)) (n : ℕ) (test : Bool) → Ascending low rows → Memᴰ (n, test) rows → low < n
+numbers-above low [] n test a x'' = elim x'' [ ]
 numbers-above low ((number, held) ∷ rows) n test a (Memᴰ.head e) = omega (arith, ap (λ (r : ℕ × Bool). r.0) e)
 numbers-above low ((number, held) ∷ rows) n test a (Memᴰ.tail m) = omega (arith, numbers-above number rows n test a.1 m)
 
 first-lowest : (low : ℕ) (rows : List (ℕ × Bool)) (n : ℕ) → Ascending low rows → Memᴰ (n, true) rows →
     (low < first_refusal rows) × (first_refusal rows ≤ n)
+first-lowest low [] n a x'' = elim x'' [ ]
 first-lowest low ((number, true) ∷ rows) n a (Memᴰ.head e) = omega (arith, ap (λ (r : ℕ × Bool). r.0) e)
 first-lowest low ((number, false) ∷ rows) n a (Memᴰ.head e) = absurd (subst T (ap (λ (r : ℕ × Bool). r.1) e) tt)
 first-lowest low ((number, true) ∷ rows) n a (Memᴰ.tail m) = omega (arith, numbers-above number rows n true a.1 m)
@@ -59,6 +61,7 @@ test_of n [] = false
 test_of n ((number, test) ∷ rows) = (eqb n number && test) || test_of n rows
 
 applies-test : (n : ℕ) (rows : List (ℕ × Bool)) → Memᴰ (n, true) rows → test_of n rows ≡ true
+applies-test n [] x' = elim x' [ ]
 applies-test n ((number, test) ∷ rows) (Memᴰ.head e) =
     rw (eq-eqb n number (ap (λ (r : ℕ × Bool). r.0) e), sym (ap (λ (r : ℕ × Bool). r.1) e))
 applies-test n ((number, test) ∷ rows) (Memᴰ.tail m) = rw (applies-test n rows m, or-true)

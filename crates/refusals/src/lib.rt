@@ -1,5 +1,6 @@
 // The refusals of document 01: their numbers, and the tests that ask for no more than a backlog or five counts; and what an arrival answers.
 #![tactic(auto)]
+
 use pie::Verdict;
 
 mod counting;

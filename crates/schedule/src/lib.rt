@@ -1,6 +1,7 @@
 // Deficit round robin over 64 flows: which flow is served next. Both lists of flows stand in one ring of 64 places, the old list before the
 // new one. A deficit is kept as a number, 65,535 above the deficit itself.
 #![tactic(auto)]
+
 mod choosing;
 mod entering;
 mod passing;

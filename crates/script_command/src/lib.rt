@@ -1,5 +1,6 @@
 // The command that a line of a script is, for the ring queue.
 #![tactic(auto)]
+
 ghost use Rattle.std.specs.Prelude.{◌≡◌};
 ghost use Rattle.lines.specs.Reader.{numbers_in};
 ghost use Rattle.script_command.specs.Forms.{command_of};

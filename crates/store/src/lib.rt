@@ -1,6 +1,7 @@
 // Slots of two lent tables, linked into chains of packets: a store hands slots out and takes them back. A word of the table of sizes holds
 // a size in its low 16 bits and a link, the place of another slot, above. Counts say where a chain ends; links never do.
 #![tactic(auto)]
+
 mod following;
 mod putting;
 mod taking;

@@ -18,6 +18,7 @@ impl Store {
     }
 
     // The store without that place.
+    #[tactic(auto, unfolding(crate::specs::Put::store_after_put))]
     pub fn put(self, sizes: &[u32]) -> Store
         requires { (self.freed < length sizes.now) × (self.freed < 65536) × (self.used ≤ 65536) }
         ensures { result ≡ store_after_put self sizes.now }
@@ -41,6 +42,7 @@ impl Store {
 
 impl Ends {
     // The ends of a chain of `count` packets with one more, at `place`.
+    #[tactic(auto, unfolding(crate::specs::Put::ends_after_put))]
     pub fn put(self, count: u64, place: u64) -> Ends
         ensures { result ≡ ends_after_put self count place }
     {
@@ -72,6 +74,7 @@ fn link(sizes: &mut [u32], ends: Ends, count: u64, place: u64)
 }
 
 // Writes a packet at `place`, behind the tail of a chain of `count` packets.
+#[tactic(auto, unfolding(crate::specs::Put::sizes_after_put))]
 pub fn write_packet(
     handles: &mut [u32],
     sizes: &mut [u32],

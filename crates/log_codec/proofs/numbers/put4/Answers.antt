@@ -1,0 +1,20 @@
+-- `put4` meets its contract.
+use Rattle.log_codec.proofs.Stores.{four}
+use native.Mathlib.Omega.{arith}
+use lib.ListN.{length-set}
+use Rattle.log_codec.proofs.numbers.put4.Goals as goal
+
+pub bounds-bytes-at-2 : goal.bounds-bytes-at-2
+bounds-bytes-at-2 c = simp length-set (omega arith)
+
+pub bounds-bytes-at-3 : goal.bounds-bytes-at-3
+bounds-bytes-at-3 c = simp length-set (omega arith)
+
+pub bounds-bytes-at-4 : goal.bounds-bytes-at-4
+bounds-bytes-at-4 c = simp length-set (omega arith)
+
+pub shape_of-bytes : goal.shape_of-bytes
+shape_of-bytes c = simp length-set
+
+pub returns : goal.returns
+returns c = four c.args.bytes.now c.args.at c.args.x

@@ -1,0 +1,27 @@
+-- `configure`: with two fields before the value there are three numbers.
+use native.Mathlib.Omega.{arith}
+use Rattle.script_command.specs.Forms.{command_of}
+use Rattle.script_command.proofs.Bytes.{configure-fits}
+use Rattle.lines.proofs.Counts.{count-not}
+use Rattle.script_command.proofs.configure.Goals as goal
+
+pub returns-then-reader-ne2 : goal.returns-then-reader-ne2
+unfolding command_of
+returns-then-reader-ne2 c = rw (count-not c.args.reader 2 (omega arith) c.if-reader-ne2.true)
+
+pub overflow_cast-result : goal.overflow_cast-result
+overflow_cast-result c = omega (arith, (configure-fits c.args.reader _ c.if-fits.true).0)
+
+pub overflow_cast-result-then-fits : goal.overflow_cast-result-then-fits
+overflow_cast-result-then-fits c = omega (arith, (configure-fits c.args.reader _ c.if-fits.true).1)
+
+pub overflow_cast-result-then-fits-2 : goal.overflow_cast-result-then-fits-2
+overflow_cast-result-then-fits-2 c = omega (arith, (configure-fits c.args.reader _ c.if-fits.true).2)
+
+pub returns-then-fits : goal.returns-then-fits
+unfolding command_of
+returns-then-fits c = rw (c.if-reader-ne2.false, c.if-fits.true)
+
+pub returns : goal.returns
+unfolding command_of
+returns c = rw (c.if-reader-ne2.false, c.if-fits.false)
