@@ -79,7 +79,7 @@ part_of s = (s.ref_ptr, s.now)
 
 -- these bytes, `from` bytes into what a reference refers to: no copy
 abbrev pub within : (slice : Bor (List ℕ)) (from : ℕ) (bytes : List ℕ) → Part
-within s from bytes = ((s.ptr.0, from + s.ptr.1), bytes)
+within s from bytes = ((s.ref_ptr.0, from + s.ref_ptr.1), bytes)
 
 -- a note where it stands, and an empty part where the log is refused
 abbrev pub note_part : (slice : Bor (List ℕ)) → Answer (List ℕ) → Part

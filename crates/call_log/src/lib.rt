@@ -1,5 +1,6 @@
 // A log of accepted calls over lent bytes: a writer and a reader.
 #![tactic(auto)]
+
 use log_codec::{Header, Record};
 
 mod copying;

@@ -1,5 +1,6 @@
 // Two logs compared: which line differs, or what the longer has left.
 #![tactic(auto)]
+
 ghost use Rattle.std.specs.Prelude.{◌≡◌, ◌+◌, ◌*◌, ◌-◌, ◌≤◌};
 ghost use Rattle.compare.specs.Compare.{compare};
 ghost use Rattle.compare.specs.Codes.{code_of, words_of};

@@ -1,5 +1,6 @@
 // DOCSIS-PIE (RFC 8034, Appendix A) on numbers alone. It knows no tables, no refusals and no clock but what it is told.
 #![tactic(auto)]
+
 use pie::Verdict;
 use units::{Micros, Prob};
 

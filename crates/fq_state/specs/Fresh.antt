@@ -1,5 +1,5 @@
 -- 21: fresh. Each flow's allowance is full; lists are empty, deficits 0, and everything else is 0.
-use Rattle.std.specs.Prelude.{Bool, cond, not, List, [], ◌∷◌, ◌++◌, ℕ, leb, replicate}
+use Rattle.std.specs.Prelude.{Bool, cond, not, [], ◌∷◌, ◌++◌, ℕ, leb, replicate}
 use Rattle.laws.specs.Tests.{all}
 use Rattle.units.specs.Kinds.{bytes, micros}
 use Rattle.pie.specs.Constants.{full_allowance, latest}

@@ -1,5 +1,5 @@
 -- 23: which records are well formed. Nothing is asked of the tables.
-use Rattle.std.specs.Prelude.{Bool, true, not, ◌&&◌, ◌||◌, List, [], ◌∷◌, ◌++◌, ℕ, ◌+◌, ◌*◌, ◌^◌, leb, ltb, eqb}
+use Rattle.std.specs.Prelude.{Bool, true, not, ◌&&◌, ◌||◌, List, [], ◌∷◌, ◌++◌, ◌+◌, ◌*◌, ◌^◌, leb, ltb, eqb}
 use Rattle.laws.specs.Tests.{all}
 use Rattle.units.specs.Kinds.{whole}
 use Rattle.pie.specs.Constants.{full_allowance, largest, latest, longest, most_accumulated, most_verdicts, threshold}

@@ -1,5 +1,6 @@
 // The record of 64 flows over one pair of tables: what all flows have in common, a flow, and the tests of each.
 #![tactic(auto)]
+
 use pie::Backlog;
 use store::Store;
 use units::{Bytes, Micros};

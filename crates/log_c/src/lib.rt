@@ -1,5 +1,6 @@
 // The C interface of the log (include/obikuteru.h). Settings and records are lent as their bytes, the writer's state as two words.
 #![tactic(auto)]
+
 ghost use Rattle.std.specs.Prelude.{◌≡◌, length};
 ghost use Rattle.log_codec.specs.Headers.{decoded_header};
 ghost use Rattle.log_codec.specs.Records.{decoded};

@@ -1,5 +1,6 @@
 // The records of two queues, intercom and passengers, over one pair of tables: their tests, the fresh ones, and what a call returns.
 #![tactic(auto)]
+
 use pie::{Backlog, Pie};
 use refusals::{Accepted, ArrivalAnswer};
 use store::{Ends, Store};

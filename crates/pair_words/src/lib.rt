@@ -1,5 +1,6 @@
 // The records of two queues as words that are lent (include/obikuteru.h), and their test.
 #![tactic(auto)]
+
 mod layout;
 mod records;
 mod testing;

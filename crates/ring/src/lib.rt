@@ -1,5 +1,6 @@
 // One queue of packet records over two lent tables, as a ring, shedding load by PIE.
 #![tactic(auto)]
+
 use pie::{Backlog, Pie};
 use refusals::{Accepted, ArrivalAnswer};
 use units::{Bytes, Micros};

@@ -1,6 +1,5 @@
 -- Bytes served follow the quanta gained, and these differ by at most one.
 use mathlib.Core.Path.{◌≡◌, refl, ap, sym, subst, ◌∙◌}
-use mathlib.Core.Logic.{◌≢◌}
 use mathlib.Core.Bool.{Bool, true, false, cond, true≢false}
 use mathlib.Core.List.{List, [], ◌∷◌, ◌++◌, append_assoc}
 use Prim.Native.Nat.{ℕ, zero, suc, ◌+◌, ◌-◌, ◌*◌, ◌≤◌, ◌<◌, max}
@@ -11,7 +10,7 @@ use lib.Seq.{get_or-set_same, get_or-set_other}
 use borrow.Author.Tests.{eqb-true, eqb-false, not-false}
 use Rattle.schedule.specs.Choosing.{Choice, Look, choose, choose_in, look, most_looks, moves, nobody, serves}
 use Rattle.schedule.specs.Entering.{entered, is_listed}
-use Rattle.schedule.specs.TwoLists.{TwoLists, deficit_of, listed, lists, quantum, zero_deficit}
+use Rattle.schedule.specs.TwoLists.{TwoLists, deficit_of, listed, quantum, zero_deficit}
 use Rattle.schedule.proofs.Occurs.{occurs-end, occurs-other}
 use Rattle.schedule.specs.Choosing as choosing
 use Rattle.schedule_guarantees.specs.ChoosingEnds.{MayBeServed}

@@ -12,7 +12,7 @@ use Rattle.schedule.specs.Choosing.{Look, after, charged, choose, choose_in, loo
 use Rattle.schedule.specs.Entering.{entered, is_listed}
 use Rattle.schedule.specs.TwoLists.{TwoLists, deficit_of, listed, lists, occurs, quantum, zero_deficit}
 use Rattle.schedule.proofs.Occurs.{occurs-end, occurs-other, occurs-self}
-use Rattle.schedule.proofs.Well.{Facts, facts-of, highest, less, well-of}
+use Rattle.schedule.proofs.Well.{Facts, facts-of, highest, well-of}
 use Rattle.schedule_guarantees.specs.Kept.{ArrivalKeeps, ChoosingKeeps, DepartureKeeps, MovesKeep, Sound}
 use Rattle.schedule_guarantees.proofs.Moves.{Finds, Moved, Served, facts-moved, found-law, proper-of}
 

@@ -1,6 +1,6 @@
 -- The bound of Fairness is reached, in lists that arise from empty ones: flow 0, which has just entered, is served 134,097 bytes more than
 -- flow 1, which owes 65,535.
-use Rattle.std.specs.Prelude.{◌≡◌, ◌+◌, replicate}
+use Rattle.std.specs.Prelude.{◌≡◌, replicate}
 use mathlib.Core.List.{List, [], ◌∷◌, ◌++◌, foldl}
 use Rattle.schedule.specs.TwoLists.{lists, zero_deficit}
 use Rattle.schedule_guarantees.specs.Stretch.{AllFit, Event, Line, Waits, after, arrives, departs, served}

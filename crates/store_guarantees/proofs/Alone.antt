@@ -1,6 +1,6 @@
 -- A chain whose puts find a free slot answers as a list of packets by itself.
 use mathlib.Core.Path.{◌≡◌, refl, sym, ◌∙◌}
-use mathlib.Core.Bool.{Bool, true, false, true≢false, ◌||◌}
+use mathlib.Core.Bool.{Bool, true, false, true≢false}
 use mathlib.Core.List.{List, [], ◌∷◌}
 use Prim.Native.Nat.{ℕ, ◌<◌}
 use borrow.Author.Tests.{eqb-true, eqb-false}
@@ -13,7 +13,7 @@ use Rattle.store_guarantees.specs.Alone.{Alone, alone_after, alone_outcome, alon
 use Rattle.store_guarantees.specs.Isolation.{Isolation}
 use Rattle.store_guarantees.specs.AsLists.{Refined, all_held, list_after, list_outcome}
 use Rattle.store_guarantees.specs.Chains.{contents, packets_in}
-use Rattle.store_guarantees.specs.Requests.{Request, after, chain_of, empty, outcome_of, put, take, taken}
+use Rattle.store_guarantees.specs.Requests.{Request, after, chain_of, outcome_of, put, take}
 use Rattle.store_guarantees.proofs.AsLists.{proper-still, refines}
 use Rattle.store_guarantees.proofs.FirstInFirstOut.{proper-chain}
 

@@ -2,10 +2,10 @@
 use mathlib.Core.Path.{◌≡◌, refl, ap, sym, ◌∙◌}
 use mathlib.Core.Bool.{Bool, true, false}
 use mathlib.Core.List.{List, [], ◌∷◌, map}
-use Prim.Native.Nat.{ℕ, zero, suc}
+use Prim.Native.Nat.{ℕ}
 use native.Mathlib.Omega.{arith}
-use borrow.Author.Tests.{eq-eqb, leb-true, leb-false, ne_eqb}
-use lib.ListN.{get_or, length, length-map, length-replicate, length-set}
+use borrow.Author.Tests.{eq-eqb, leb-false, ne_eqb}
+use lib.ListN.{length, length-map, length-replicate, length-set}
 use lib.Seq.{set-get_or}
 use Rattle.calls.specs.Packets.{Packet}
 use Rattle.pie.specs.Verdicts.{total}

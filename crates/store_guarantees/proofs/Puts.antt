@@ -1,5 +1,5 @@
 -- A packet that is put is the last of its chain, every other chain stays, and the chains are sound.
-use mathlib.Core.Path.{◌≡◌, refl, ap, sym, ◌∙◌}
+use mathlib.Core.Path.{◌≡◌, refl, ap, subst, sym, ◌∙◌}
 use mathlib.Core.Bool.{Bool, true, false, cond}
 use mathlib.Core.Logic.{◌≢◌}
 use mathlib.Core.List.{List, [], ◌∷◌, ◌++◌, map, map-append}
@@ -11,7 +11,7 @@ use lib.Dec.{eqb, leb, ltb}
 use lib.ListN.{get_or-map, get_or, length, length-map, length-set, set}
 use lib.Seq.{get_or-set_other, set_comm}
 use Rattle.pie.specs.Verdicts.{total}
-use Rattle.store.specs.Put.{ends_after_put, linked, sizes_after_put}
+use Rattle.store.specs.Put.{ends_after_put, sizes_after_put}
 use Rattle.store.specs.Words.{link_at, size_at}
 use Rattle.store_guarantees.specs.Calls.{PutAppends}
 use Rattle.store_guarantees.specs.Chains.{Chain, Chains, chain_at, contents, empty_chain, packet_at, packets_in, places, places_of, walk}
@@ -77,7 +77,7 @@ module _ (h : Chains) (s : Sound h) (i : ℕ) (there : i < length h.chains) (k :
       let walked : get_or (places h) i [] ≡ walk written first (suc n) =
       rw (← same_walks) (get_or-map (places_of written) h.chains i empty_chain ∙ ap (λ m. walk written first m) some) in
       let end : last_of first (walk written (link_at written first) n) ≡ last = rw walked at (s.last i) in
-      let seen : 1 ≤ times last (get_or (places h) i []) = rw walked (rw end at (last-in first (walk written (link_at written first) n))) in
+      let seen : 1 ≤ times last (get_or (places h) i []) = rw walked (subst (λ l. 1 ≤ times l (walk written first (suc n))) end (last-in first (walk written (link_at written first) n))) in
       let covers = total-covers (times last) (places h) i [] refl in
       let covers' = total-covers (times k.place) (places h) i [] refl in
       let apart : last ≢ k.place = λ e. omega (arith, alone, covers', rw e at seen) in

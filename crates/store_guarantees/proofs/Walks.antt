@@ -1,5 +1,5 @@
 -- The places of linked slots, when a word of the table is written.
-use mathlib.Core.Path.{◌≡◌, refl, ap}
+use mathlib.Core.Path.{◌≡◌, refl, ap, subst}
 use mathlib.Core.Bool.{Bool, true, false}
 use mathlib.Core.Logic.{◌≢◌}
 use mathlib.Core.List.{List, [], ◌∷◌, ◌++◌, map}
@@ -61,7 +61,8 @@ walk-extend sizes last at inside first zero e h =
     rw e (rw link)
 walk-extend sizes last at inside first (suc n) e h =
     let found = last-in (link_at sizes first) (walk sizes (link_at sizes (link_at sizes first)) n) in
-    let seen = rw e at found in
+    let seen : 1 ≤ times last (walk sizes (link_at sizes first) (suc n)) = subst (λ l. 1 ≤ times l (walk sizes (link_at sizes first) (suc n))) e found in
+    let parts : times last (walk sizes first (suc (suc n))) ≡ one (eqb last first) + times last (walk sizes (link_at sizes first) (suc n)) = refl in
     let apart : first ≢ last = not-head last first (omega arith) in
     let same = get_or-set_other sizes last first (size_at sizes last + 65536 * at) 0 apart in
     let later = walk-extend sizes last at inside (link_at sizes first) n e (omega arith) in
@@ -104,4 +105,4 @@ ends_set cs pss i c' ps hc hp new old j = go (eqb j i) refl
 
 pub walk-length : (sizes : List ℕ) (first n : ℕ) → length (walk sizes first n) ≡ n
 walk-length sizes first zero = refl
-walk-length sizes first (suc n) = ap suc (walk-length sizes _ n)
+walk-length sizes first (suc n) = ap suc (walk-length sizes (link_at sizes first) n)

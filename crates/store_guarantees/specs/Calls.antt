@@ -1,5 +1,5 @@
 -- A call on one chain: what it does to that chain's packets, that it leaves every other chain's, and that it follows no link to no slot.
-use Rattle.std.specs.Prelude.{◌≡◌, false, List, [], ◌∷◌, ◌++◌, ℕ, ◌≤◌, ◌<◌, get_or, length, replicate, set}
+use Rattle.std.specs.Prelude.{◌≡◌, false, List, [], ◌∷◌, ◌++◌, ℕ, ◌≤◌, ◌<◌, length, replicate, set}
 use Rattle.calls.specs.Packets.{Packet}
 use Rattle.store.specs.Following.{link_refused}
 use Rattle.store.specs.Put.{free_place}

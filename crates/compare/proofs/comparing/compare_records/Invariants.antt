@@ -1,0 +1,20 @@
+use mathlib.Core.Path.{◌≡◌}
+use Prim.Native.Nat.{◌+◌, ◌*◌, ◌-◌, ◌≤◌}
+use Rattle.call_log.specs.Layout.{records_from}
+use Rattle.compare.specs.Compare.{compare_records}
+use Rattle.compare.proofs.InTurn.{from}
+use Rattle.compare.proofs.comparing.compare_records.Given as goal
+use Rattle.compare.proofs.comparing.compare_records.Reads as reads
+-- TODO use Rattle.compare.proofs.comparing.compare_records.Lts as lts
+use Rattle.log_codec.proofs.get.Reads as get-reads
+use Rattle.compare.proofs.sameness.same_record.Reads as same-record-reads
+
+abbrev pub invariant-loop-number : goal.invariant-loop-number
+invariant-loop-number l =
+    (l.number ≤ l.count)
+    × (l.number ≤ l.others)
+    × (l.at ≡ l.offset + 40 * l.number)
+    × (compare_records 0 (records_from l.count l.first l.offset) (records_from l.others l.second l.offset) ≡ from l.first l.second l.count l.others l.number l.at)
+
+abbrev pub decreases-loop-number : goal.decreases-loop-number
+decreases-loop-number l = l.count - l.number

@@ -1,0 +1,6 @@
+-- `obikuteru_log_begin`: the library's `begin`, in words and bytes.
+use Rattle.log_c.proofs.Answered.{written}
+use Rattle.log_c.proofs.obikuteru_log_begin.Goals as goal
+
+pub returns : goal.returns
+returns c = written c.begin-w.result (rw c.get_header-h.ensures at c.begin-w.ensures) c.code.ensures

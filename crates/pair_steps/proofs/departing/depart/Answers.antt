@@ -1,0 +1,188 @@
+-- `depart`: the tests in their order, then the words in which the new records differ.
+use borrow.Author.Tests.{eq-eqb, ne_eqb, eqb-false, ltb-false}
+use mathlib.Core.Path.{◌≡◌, ap, refl, sym, ◌∙◌}
+use mathlib.Core.Bool.{Bool, true, false}
+use mathlib.Core.List.{List, [], ◌∷◌}
+use Prim.Native.Nat.{ℕ, ◌≤◌, ◌<◌}
+use native.Mathlib.Omega.{arith}
+use lib.Dec.{ltb}
+use lib.ListN.{get_or, length}
+use lib.Seq.{get_or-set_other}
+use Rattle.laws.proofs.Tests.{or-neither}
+use Rattle.pie.specs.declared.Rate.{Rate}
+use Rattle.refusals.specs.Tests.{head_refused}
+use Rattle.refusals.proofs.Fitting.{head-fits}
+use Rattle.pair_rules.proofs.Symmetry.{well-formed-seen}
+use Rattle.pair_rules.specs.Departure.{head_handle, head_size, head_word_refused}
+use Rattle.pair_rules.proofs.WhenAccepted.{Known, known}
+use Rattle.pair_rules.specs.WellFormed.{well_formed}
+use Rattle.pair_words.specs.Words.{pair_of, shared_of, state_of, which_of}
+use Rattle.pair_steps.proofs.Replies.{Fit, departed-gives, tables-fit}
+use Rattle.pair_steps.proofs.Replies.{departure-empty, departure-late, departure-made, departure-wrong}
+use Rattle.pair_steps.proofs.Words.{departed-words, left-long, left-rate, taken-words}
+use Rattle.pair_steps.proofs.departing.depart.Goals as goal
+
+-- what the records' words say
+module _ (second : Bool) (sh ow ot : List ℕ) (f : well_formed (pair_of second sh ow ot) ≡ true) where
+  known_of : Known (shared_of sh).slots (shared_of sh).store (state_of ow)
+  known_of =
+      let w = which_of second in
+      known w (shared_of sh) (state_of ow) (state_of ot) (sym (well-formed-seen w (shared_of sh) (state_of ow) (state_of ot)) ∙ f)
+
+  head_in : (sizes : List ℕ) → length sizes ≡ (shared_of sh).slots →
+      ((state_of ow).ends.head < length sizes) × ((state_of ow).ends.head < 65536)
+  head_in sizes z = let k = known_of in omega (arith, k.own.head-high, k.slots-high, z)
+
+-- the head's word was tested
+not-wrong : (ow sizes : List ℕ) (size : ℕ) (wrong : Bool) → size ≡ head_size (state_of ow) sizes →
+    wrong ≡ head_refused (state_of ow).backlog size → wrong ≡ false → head_refused (state_of ow).backlog (head_size (state_of ow) sizes) ≡ false
+not-wrong ow sizes size wrong es ew e = sym (rw es at ew) ∙ e
+
+is-wrong : (ow sizes : List ℕ) (size : ℕ) (wrong : Bool) → size ≡ head_size (state_of ow) sizes →
+    wrong ≡ head_refused (state_of ow).backlog size → wrong ≡ true → head_refused (state_of ow).backlog (head_size (state_of ow) sizes) ≡ true
+is-wrong ow sizes size wrong es ew e = sym (rw es at ew) ∙ e
+
+pub returns-then-wrong_clock : goal.returns-then-wrong_clock
+unfolding shared_of state_of
+returns-then-wrong_clock c =
+    let s = shared_of c.args.shared.now in
+    let h = c.args.handles.now in
+    let z = c.args.sizes.now in
+    rw (departure-late s (state_of c.args.own.now) (state_of c.args.other.now) h z c.args.clock
+    (tables-fit s h z c.requires.handles_len.0 c.requires.handles_len.1)
+    (which_of c.args.second) c.requires.other_value c.if-wrong_clock.true) (refl, refl, refl, refl, c.requires.packet_value)
+
+pub returns-then-empty : goal.returns-then-empty
+unfolding shared_of state_of
+returns-then-empty c =
+    let s = shared_of c.args.shared.now in
+    let h = c.args.handles.now in
+    let z = c.args.sizes.now in
+    rw (departure-empty s (state_of c.args.own.now) (state_of c.args.other.now) h z c.args.clock
+    (tables-fit s h z c.requires.handles_len.0 c.requires.handles_len.1)
+    (which_of c.args.second) c.requires.other_value c.if-wrong_clock.false (eq-eqb _ _ c.if-empty.true))
+    (refl, refl, refl, refl, c.requires.packet_value)
+
+pub size_at-size-requires : goal.size_at-size-requires
+unfolding shared_of state_of
+size_at-size-requires c =
+    head_in c.args.second c.args.shared.now c.args.own.now c.args.other.now c.requires.other_value c.args.sizes.now c.requires.handles_len.1
+
+pub wrong_head-wrong-requires : goal.wrong_head-wrong-requires
+unfolding shared_of state_of
+wrong_head-wrong-requires c =
+    let k = known_of c.args.second c.args.shared.now c.args.own.now c.args.other.now c.requires.other_value in
+    omega (arith, k.own.count-high, k.slots-high)
+
+pub returns-then-wrong : goal.returns-then-wrong
+unfolding shared_of state_of
+returns-then-wrong c =
+    let s = shared_of c.args.shared.now in
+    let o = state_of c.args.own.now in
+    let h = c.args.handles.now in
+    let z = c.args.sizes.now in
+    let wrong = is-wrong c.args.own.now z _ _ c.size_at-size.ensures c.wrong_head-wrong.ensures c.if-wrong.true in
+    let x : head_word_refused s.slots o z ≡ true = rw wrong in
+    rw (departure-wrong s o (state_of c.args.other.now) h z c.args.clock
+    (tables-fit s h z c.requires.handles_len.0 c.requires.handles_len.1)
+    (which_of c.args.second) c.requires.other_value c.if-wrong_clock.false (ne_eqb _ _ c.if-empty.false) x)
+    (refl, refl, refl, refl, c.requires.packet_value)
+
+pub leads_nowhere-lost-requires : goal.leads_nowhere-lost-requires
+unfolding shared_of state_of
+leads_nowhere-lost-requires c =
+    head_in c.args.second c.args.shared.now c.args.own.now c.args.other.now c.requires.other_value c.args.sizes.now c.requires.handles_len.1
+
+pub returns-then-lost : goal.returns-then-lost
+unfolding shared_of state_of
+returns-then-lost c =
+    let s = shared_of c.args.shared.now in
+    let o = state_of c.args.own.now in
+    let h = c.args.handles.now in
+    let z = c.args.sizes.now in
+    let right = not-wrong c.args.own.now z _ _ c.size_at-size.ensures c.wrong_head-wrong.ensures c.if-wrong.false in
+    let lost = sym c.leads_nowhere-lost.ensures ∙ c.if-lost.true in
+    let x : head_word_refused s.slots o z ≡ true = rw (right, lost) in
+    rw (departure-wrong s o (state_of c.args.other.now) h z c.args.clock
+    (tables-fit s h z c.requires.handles_len.0 c.requires.handles_len.1)
+    (which_of c.args.second) c.requires.other_value c.if-wrong_clock.false (ne_eqb _ _ c.if-empty.false) x)
+    (refl, refl, refl, refl, c.requires.packet_value)
+
+pub follow-next-requires : goal.follow-next-requires
+unfolding shared_of state_of
+follow-next-requires c =
+    head_in c.args.second c.args.shared.now c.args.own.now c.args.other.now c.requires.other_value c.args.sizes.now c.requires.handles_len.1
+
+pub offset_bounds-handles-head : goal.offset_bounds-handles-head
+unfolding shared_of state_of
+offset_bounds-handles-head c =
+    let k = known_of c.args.second c.args.shared.now c.args.own.now c.args.other.now c.requires.other_value in
+    omega (arith, k.own.head-high, k.slots-high)
+
+pub bounds-handles-head : goal.bounds-handles-head
+unfolding shared_of state_of
+bounds-handles-head c =
+    let k = known_of c.args.second c.args.shared.now c.args.own.now c.args.other.now c.requires.other_value in
+    omega (arith, k.own.head-high, c.requires.handles_len.0)
+
+pub write_freed-requires : goal.write_freed-requires
+unfolding shared_of state_of
+write_freed-requires c =
+    let k = known_of c.args.second c.args.shared.now c.args.own.now c.args.other.now c.requires.other_value in
+    omega (arith, k.own.head-high, k.freed-high, k.slots-high, c.requires.handles_len.1)
+
+pub overflow_add-shared : goal.overflow_add-shared
+unfolding shared_of state_of
+overflow_add-shared c =
+    let sh = c.args.shared.now in
+    let k = known_of c.args.second sh c.args.own.now c.args.other.now c.requires.other_value in
+    omega (arith, k.spare-high, k.slots-high, get_or-set_other sh 4 5 (state_of c.args.own.now).ends.head 0 (λ x. omega arith))
+
+pub overflow_sub-left : goal.overflow_sub-left
+unfolding shared_of state_of
+overflow_sub-left c =
+    rw c.size_at-size.ensures (head-fits _ _
+    (not-wrong c.args.own.now c.args.sizes.now _ _ c.size_at-size.ensures c.wrong_head-wrong.ensures c.if-wrong.false)).fits
+
+pub measure-requires-clause-k_in_bounds : goal.measure-requires-clause-k_in_bounds
+unfolding shared_of state_of
+measure-requires-clause-k_in_bounds c =
+    omega (arith, left-long c.args.clock c.size_at-size.result c.follow-next.result c.args.own.now c.requires.shared_len.1)
+
+pub measure-requires-clause-k_bound : goal.measure-requires-clause-k_bound
+unfolding shared_of state_of
+measure-requires-clause-k_bound c =
+    let k = known_of c.args.second c.args.shared.now c.args.own.now c.args.other.now c.requires.other_value in
+    let w = c.args.own.now in
+    let same = left-rate c.args.clock c.size_at-size.result c.follow-next.result w c.requires.shared_len.1 in
+    let low = (or-neither (ltb c.args.clock (get_or w 2 0)) _ c.if-wrong_clock.false).0 in
+    let later : get_or w 2 0 ≤ c.args.clock = ltb-false _ _ low in (
+      rw (ap (λ (r : Rate). r.start.0) same) (omega (arith, k.own.start-high, later)),
+      rw (ap (λ (r : Rate). r.average.0) same) k.own.average-high,
+      rw (ap (λ (r : Rate). r.counted.0) same) k.own.counted-high,
+      rw c.size_at-size.ensures
+          (head-fits _ _ (not-wrong w c.args.sizes.now _ _ c.size_at-size.ensures c.wrong_head-wrong.ensures c.if-wrong.false)).high,
+    )
+
+pub returns : goal.returns
+unfolding shared_of state_of
+returns c =
+    let w = which_of c.args.second in
+    let sh = c.args.shared.now in
+    let ow = c.args.own.now in
+    let s = shared_of sh in
+    let o = state_of ow in
+    let t = state_of c.args.other.now in
+    let h = c.args.handles.now in
+    let z = c.args.sizes.now in
+    let size = head_size o z in
+    let link = sym c.leads_nowhere-lost.ensures ∙ c.if-lost.false in
+    let fine = not-wrong ow z _ _ c.size_at-size.ensures c.wrong_head-wrong.ensures c.if-wrong.false in
+    let right : head_word_refused s.slots o z ≡ false = rw (fine, link) in
+    let made = departure-made s o t h z c.args.clock (tables-fit s h z c.requires.handles_len.0 c.requires.handles_len.1) w
+    c.requires.other_value c.if-wrong_clock.false (ne_eqb _ _ c.if-empty.false) right in
+    departed-gives w s o t h z c.args.clock sh _ ow _ _ _ made
+    (taken-words o.ends.head sh c.requires.shared_len.0)
+    (rw (c.follow-next.ensures, c.size_at-size.ensures) at c.measure.ensures ∙ departed-words z c.args.clock size ow c.requires.shared_len.1)
+    c.write_freed.ensures
+    (ap (λ (n : ℕ). head_handle o h ∷ n ∷ []) c.size_at-size.ensures)
