@@ -1,10 +1,9 @@
 -- `arrival_line`: the queue is lent the first `slots` of each table, and the rest stays.
-use mathlib.Core.Path.{◌≡◌, ◌∙◌}
+use mathlib.Core.Path.{◌≡◌}
 use mathlib.Core.Bool.{Bool}
 use mathlib.Core.List.{List, ◌++◌}
 use Prim.Native.Nat.{ℕ, ◌+◌, ◌≤◌, min}
 use lib.ListN.{drop, length, take}
-use lib.Seq.{length_front}
 use native.Mathlib.Omega.{arith}
 use Rattle.script_answers.proofs.Joins.{then}
 use Rattle.script_answers.specs.Output.{state_text, word_of}

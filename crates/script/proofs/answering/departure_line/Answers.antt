@@ -1,5 +1,4 @@
 -- `departure_line`: the queue is lent the first `slots` of each table.
-use mathlib.Core.Path.{◌∙◌}
 use native.Mathlib.Omega.{arith}
 use Rattle.script_answers.proofs.Joins.{then}
 use Rattle.script.proofs.Lent.{lent-count, lent-take}

@@ -1,5 +1,4 @@
 -- `tick_line`: the reply is the queue's, and its text is written behind the word.
-use mathlib.Core.Path.{◌∙◌}
 use native.Mathlib.Omega.{arith}
 use Rattle.script_answers.proofs.Joins.{then}
 use Rattle.script.proofs.answering.tick_line.Goals as goal
