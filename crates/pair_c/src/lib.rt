@@ -2,6 +2,7 @@
 // and the tables and leaves the rest to the call on records that are well formed. An entry that names a queue is lent that queue's words
 // first and the other one's second; the header picks them.
 #![tactic(auto)]
+
 ghost use Rattle.std.specs.Prelude.{◌≡◌, false, [], ◌+◌, ◌<◌, eqb};
 ghost use Rattle.pair_rules.specs.Fresh.{fresh, setup_of};
 ghost use Rattle.pair_rules.specs.WellFormed.{well_formed};

@@ -4,5 +4,3 @@ use Rattle.fq_words.proofs.testing.fits.Goals as goal
 pub returns : goal.returns
 returns c =
     rw (← c.decode-c.ensures, ← c.decode_lists-l.ensures) c.parts_fit.ensures
-
--- TODO returns has the clauses ['value', 'counts_after']
