@@ -1,5 +1,6 @@
 // One entry for a list of calls on two queues: the records are tested once, and each call is answered as the single entries would.
 #![tactic(auto)]
+
 ghost use Rattle.std.specs.Prelude.{◌≡◌, cond, false, true, ◌+◌, ◌*◌, ◌≤◌, length};
 ghost use Rattle.pair_rules.specs.declared.Which.TheVariants.{Intercom};
 ghost use Rattle.pie.specs.Constants.{most_verdicts};

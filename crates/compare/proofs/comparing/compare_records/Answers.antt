@@ -6,8 +6,6 @@ use borrow.Author.Rules.{rules}
 use Rattle.compare.proofs.InTurn.{both_end, first_ends_lem, second-ends, turn-differs, turn-same}
 use Rattle.compare.proofs.comparing.compare_records.Goals as goal
 
--- TODO use Rattle.compare.proofs.comparing.compare_records.Lts as lts
-
 pub loop-number-init : goal.loop-number-init
 loop-number-init c = (search rules, search rules, omega arith, simp sub-zero)
 

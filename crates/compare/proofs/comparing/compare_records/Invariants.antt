@@ -5,8 +5,6 @@ use Rattle.compare.specs.Compare.{compare_records}
 use Rattle.compare.proofs.InTurn.{from}
 use Rattle.compare.proofs.comparing.compare_records.Given as goal
 
--- TODO use Rattle.compare.proofs.comparing.compare_records.Lts as lts
-
 abbrev pub invariant-loop-number : goal.invariant-loop-number
 invariant-loop-number l =
     (l.number ≤ l.count)
