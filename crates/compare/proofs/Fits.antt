@@ -2,17 +2,16 @@
 use mathlib.Core.Path.{◌≡◌, refl, ap, sym, ◌∙◌}
 use mathlib.Core.Bool.{Bool, true, false, cond}
 use mathlib.Core.List.{List, [], ◌∷◌}
-use Prim.Native.Nat.{ℕ, suc, ◌+◌, ◌*◌, ◌-◌, ◌≤◌}
+use Prim.Native.Nat.{ℕ, ◌+◌, ◌*◌, ◌≤◌}
 use native.Mathlib.Omega.{arith}
 use lib.ListN.{length}
 use denote.Ref.{Bor}
 use Rattle.log_codec.specs.declared.Record.{Record}
 use Rattle.call_log.specs.Answers.{Answer, given, refused}
-use Rattle.call_log.specs.Reader.{Part}
 use Rattle.call_log.specs.Whole.{Contents, read_whole, shape_in}
 use Rattle.compare.specs.Compare.{Comparison, compare, compare_contents, compare_records, equal, first_ends, notes_differ}
 use Rattle.compare.specs.Compare.{record_differs, refused_first, refused_second, same, same_record, same_settings, second_ends}
-use Rattle.compare.specs.Compare.{settings_differ, with_first, with_second}
+use Rattle.compare.specs.Compare.{settings_differ, with_first}
 use Rattle.compare.specs.Remaining.{part_for, remaining_of}
 use Rattle.compare.specs.Values.{comparison_of}
 use Rattle.compare.specs.declared.Compared.{Compared}

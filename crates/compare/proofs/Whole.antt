@@ -1,14 +1,13 @@
 -- A log that was read whole: its contents stand where offset and count say.
-use mathlib.Core.Path.{◌≡◌, refl, ap, ap₂, sym, ◌∙◌}
+use mathlib.Core.Path.{◌≡◌, refl, ap, sym, ◌∙◌}
 use mathlib.Core.Bool.{Bool, true, false, cond}
 use mathlib.Core.List.{List}
-use Prim.Native.Nat.{ℕ, ◌+◌, ◌*◌, ◌-◌, ◌≤◌}
+use Prim.Native.Nat.{ℕ, ◌+◌, ◌*◌, ◌≤◌}
 use native.Mathlib.Omega.{arith}
-use lib.ListN.{drop, length, take}
-use Rattle.log_codec.specs.Headers.{decoded_header}
+use lib.ListN.{length}
 use Rattle.call_log.specs.Answers.{Answer, given, refused}
 use Rattle.call_log.specs.Faults.{header_refused}
-use Rattle.call_log.specs.Layout.{count_in, header_in, note_in, offset_in, records_from, records_in}
+use Rattle.call_log.specs.Layout.{count_in, header_in, note_in, offset_in, records_in}
 use Rattle.call_log.specs.Reader.{trailer_refused}
 use Rattle.call_log.specs.Whole.{Contents, any_faulty, read_whole, shape_in}
 use Rattle.call_log.proofs.Facts.{sound}

@@ -1,5 +1,6 @@
 // The entry of `compare` for C programs to link.
 #![tactic(auto)]
+
 ghost use Rattle.std.specs.Prelude.{◌≡◌, ◌-◌};
 ghost use Rattle.compare.specs.Compare.{compare};
 ghost use Rattle.compare.specs.Codes.{code_of, words_of};

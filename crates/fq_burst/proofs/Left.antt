@@ -1,19 +1,18 @@
 -- What a call on a sound record leaves holds the record that it returns, and the tables keep their lengths.
 use mathlib.Core.Path.{◌≡◌, refl, ap, sym, ◌∙◌}
-use mathlib.Core.Bool.{Bool, true, false}
-use mathlib.Core.List.{List, [], ◌∷◌, ◌++◌}
-use Prim.Native.Nat.{ℕ, zero, suc, ◌+◌, ◌*◌, ◌≤◌, ◌<◌}
+use mathlib.Core.List.{List, [], ◌∷◌}
+use Prim.Native.Nat.{ℕ, ◌+◌, ◌≤◌}
 use native.Mathlib.Omega.{arith}
 use lib.Dec.{leb}
-use lib.ListN.{get_or, length, length-set, set}
+use lib.ListN.{get_or, length, length-set}
 use Rattle.laws.proofs.Choice.{at-cond}
-use Rattle.pie.specs.Verdicts.{raised, total}
+use Rattle.pie.specs.Verdicts.{total}
 use Rattle.pie.proofs.Counts.{length-raised, total-raised}
 use Rattle.schedule.specs.declared.Lists.{Lists}
 use Rattle.store.specs.Put.{linked, sizes_after_put}
 use Rattle.store.specs.declared.Ends.{Ends}
 use Rattle.fq_state.specs.State.{State}
-use Rattle.fq_words.specs.Words.{flows_from, flows_of, state_of}
+use Rattle.fq_words.specs.Words.{flows_from, flows_of}
 use Rattle.fq_words.specs.Written.{flow_words}
 use Rattle.fq_state.specs.declared.Common.{Common}
 use Rattle.fq_state.specs.declared.Flow.{Flow}

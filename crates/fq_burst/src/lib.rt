@@ -1,5 +1,6 @@
 // One entry for a list of calls on 64 flows: the record is tested once, and each call is answered as the single entries would.
 #![tactic(auto)]
+
 ghost use Rattle.std.specs.Prelude.{◌≡◌, cond, false, true, ◌+◌, ◌*◌, ◌≤◌, ◌<◌, length};
 ghost use Rattle.bursts.specs.Burst.{burst, done, fits, outcome};
 ghost use Rattle.pie.specs.Constants.{most_verdicts};

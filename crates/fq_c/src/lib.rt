@@ -2,6 +2,7 @@
 // and a tick test the record and leave the rest to the call on one that is well formed. A fresh call writes the whole record, all zero
 // where it is refused; the test of a record writes nothing; a key's flow needs no record.
 #![tactic(auto)]
+
 ghost use Rattle.std.specs.Prelude.{◌≡◌};
 ghost use Rattle.hash.specs.OneAtATime.{flow_of};
 ghost use Rattle.fq_state.specs.Fresh.{fresh, fresh_refusal, settings_of};

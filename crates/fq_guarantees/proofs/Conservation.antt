@@ -9,7 +9,7 @@ use Rattle.fq_state.specs.State.{flow_at}
 use Rattle.fq_guarantees.proofs.Facts.{facts}
 use Rattle.fq_guarantees.proofs.NeverMalformed.{not-2}
 use Rattle.fq_guarantees.specs.Conservation.{AllConserved, Conservation, FlowConserved}
-use Rattle.fq_guarantees.specs.Handed.{Run, call_of, of_flow, queued}
+use Rattle.fq_guarantees.specs.Handed.{Run, call_of, of_flow, queued, run}
 use Rattle.fq_guarantees.proofs.Chained.{count-queued}
 use Rattle.fq_guarantees.proofs.RunKept.{Kept, run-kept}
 use Rattle.fq_guarantees.proofs.Steps.{not-9}
@@ -45,11 +45,12 @@ module _ (r : Run) (k : Kept r) where
 
 pub conservation : Conservation
 conservation settings clock handles sizes requests e =
-    let k = run-kept settings clock handles sizes requests e in
+    let r = run settings clock handles sizes requests in
+    let k : Kept r = run-kept settings clock handles sizes requests e in
     record {
-      each = flow-conserved _ k;
-      together = all-conserved _ k;
+      each = flow-conserved r k;
+      together = all-conserved r k;
       verdicts = k.counted;
-      never-2 = λ q. not-2 _ (call_of _ q) k.whole.formed;
-      never-9 = λ q. not-9 _ q k.whole;
+      never-2 = λ q. not-2 r.flows.state (call_of r.flows q) k.whole.formed;
+      never-9 = λ q. not-9 r.flows q k.whole;
     }

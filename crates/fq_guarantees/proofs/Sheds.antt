@@ -27,7 +27,6 @@ use Rattle.fq_state.specs.State.{State, bytes_of, count_of}
 use Rattle.laws.specs.Tests.{all}
 use Rattle.fq_state.specs.WellFormed.{flow_conditions}
 use Rattle.fq_state.specs.declared.Flow.{Flow}
-use Rattle.fq_rules.specs.Answer.{verdict}
 use Rattle.fq_rules.specs.Arrival.{arrived_common, arrived_flow, arrived_pie, flow_number, verdict_of}
 use Rattle.fq_rules.specs.Departure.{choice_of, departed_common, departed_flow, departed_pie, head_size, served_flow}
 use Rattle.fq_rules.specs.Tick.{ticked_common, ticked_flow}

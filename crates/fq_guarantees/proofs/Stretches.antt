@@ -9,7 +9,7 @@ use Rattle.pie.specs.Verdicts.{admitted}
 use Rattle.calls.specs.Traces.{Entry, trace}
 use Rattle.schedule.specs.Ring.{deficit_of}
 use Rattle.schedule.specs.TwoLists.{zero_deficit}
-use Rattle.schedule_guarantees.specs.Stretch.{AllFit, AtEach, Event, Line, Waits, after, arrives, departs, served}
+use Rattle.schedule_guarantees.specs.Stretch.{AllFit, AtEach, Event, Line, Waits, after, arrives, served}
 use Rattle.fq_state.specs.State.{State}
 use Rattle.fq_rules.specs.Answer.{Answer, departed, refused, size_in, ticked, verdict}
 use Rattle.fq_rules.specs.Answer as answer

@@ -14,7 +14,6 @@ use Rattle.schedule.specs.Entering.{is_listed}
 use Rattle.schedule.specs.Ring.{Schedule, entered_in, two_lists}
 use Rattle.store.specs.Following.{link_refused}
 use Rattle.store.specs.Put.{ends_after_put, free_place, handles_after_put, sizes_after_put, store_after_put}
-use Rattle.store.specs.declared.Store.{Store}
 use Rattle.fq_state.specs.Flow.{backlog_of, ends_of, flow_with, pie_of}
 use Rattle.fq_state.specs.State.{State, flow_at}
 use Rattle.fq_state.specs.declared.Common.{Common}

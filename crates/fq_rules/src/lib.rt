@@ -1,6 +1,7 @@
 // What a call does to one of 64 flows and to what all of them have in common, by value: the verdict on a packet, and the flow and the
 // common part after an arrival, after a departure and after a tick.
 #![tactic(auto)]
+
 mod arriving;
 mod deciding;
 mod departing;

@@ -1,6 +1,7 @@
 // The calls on 64 flows whose record is known to be well formed, over words that are lent: the single entries and the burst share them.
 // The flows' counts are lent beside the words, for the choosing, and kept true.
 #![tactic(auto)]
+
 use fq_state::Common;
 use refusals::{Accepted, ArrivalAnswer};
 use schedule::Lists;

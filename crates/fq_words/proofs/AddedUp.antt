@@ -2,10 +2,10 @@
 use mathlib.Core.Path.{◌≡◌, refl, ap, sym, ◌∙◌}
 use mathlib.Core.Bool.{true, false, ◌&&◌}
 use mathlib.Core.List.{List, [], ◌∷◌, ◌++◌, map}
-use Prim.Native.Nat.{ℕ, zero, suc, ◌+◌, ◌*◌, ◌≤◌, ◌<◌}
+use Prim.Native.Nat.{ℕ, ◌+◌, ◌*◌, ◌≤◌, ◌<◌}
 use native.Mathlib.Numerals.{add-one}
 use native.Mathlib.Omega.{arith}
-use lib.ListN.{get_or-map, drop, drop_of_length-le, get_or, length, length-map, length-set, set, take}
+use lib.ListN.{get_or-map, drop, drop_of_length-le, length, length-map, length-set, set, take}
 use lib.Seq.{drop-cons, take_all, take-suc, take-suc-set}
 use Rattle.laws.specs.Tests.{all}
 use Rattle.pie.specs.Verdicts.{total}

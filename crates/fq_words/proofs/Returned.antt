@@ -11,7 +11,7 @@ use Rattle.refusals.specs.declared.Refusal.{Refusal}
 use Rattle.refusals.specs.declared.Refusal.TheVariants.{Settings, Malformed, Tables, Clock, TooSoon, Empty, Size, Counts, Head}
 use Rattle.schedule.specs.declared.Lists.{Lists}
 use Rattle.fq_state.specs.State.{State}
-use Rattle.fq_words.specs.Words.{flows_of, state_of}
+use Rattle.fq_words.specs.Words.{state_of}
 use Rattle.fq_state.specs.declared.Common.{Common}
 use Rattle.fq_words.specs.Written.{flow_words}
 use Rattle.fq_words.proofs.Words.{words_are}

@@ -1,6 +1,7 @@
 // The record of 64 flows as words: nineteen of what all flows have in common, 64 of the order of the lists, twelve of each flow, and 64
 // deficits. Decoded and encoded, tested as a whole, and made fresh.
 #![tactic(auto)]
+
 use fq_state::Common;
 use refusals::Accepted;
 use schedule::Lists;

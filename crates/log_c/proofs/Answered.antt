@@ -1,10 +1,10 @@
 -- What each answer of the log leaves for C.
 use mathlib.Core.Path.{◌≡◌, refl, ap, sym, ◌∙◌}
 use mathlib.Core.Bool.{Bool, true, false, cond}
-use mathlib.Core.List.{List, [], ◌∷◌, ◌++◌, append-nil}
-use Prim.Native.Nat.{ℕ, zero, suc, ◌+◌, ◌-◌, ◌≤◌}
+use mathlib.Core.List.{List, [], ◌∷◌, append-nil}
+use Prim.Native.Nat.{ℕ, zero, suc, ◌+◌, ◌-◌}
 use native.Mathlib.Omega.{arith}
-use lib.ListN.{drop, get_or, length, replicate, set, take}
+use lib.ListN.{drop, get_or, length, replicate, set}
 use denote.Ref.{Bor}
 use lib.Seq.{sets, sets-eq}
 use Rattle.log_codec.specs.Headers.{encoded_header}

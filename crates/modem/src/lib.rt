@@ -1,5 +1,6 @@
 // The queues of a cable modem's sixteen service flows. Their verdict counts are one table, which goes over and back with each call.
 #![tactic(auto)]
+
 use modem_flow::Replied;
 
 mod calls;

@@ -1,5 +1,6 @@
 // The modem's C interface (include/obikuteru.h): a flow's calls over a state that is lent as words and a lent table of counts.
 #![tactic(auto)]
+
 ghost use Rattle.std.specs.Prelude.{◌≡◌, ◌&&◌, not};
 ghost use Rattle.modem_flow.specs.Arrival.{stored};
 ghost use Rattle.modem_flow.specs.Fresh.{settings_of};

@@ -1,5 +1,6 @@
 // One service flow of a cable modem: packet records over two lent tables, as a ring, shedding load by DOCSIS-PIE.
 #![tactic(auto)]
+
 use docsis_pie::DocsisPie;
 use pie::{Backlog, Verdict};
 use refusals::Refusal;

@@ -1,5 +1,6 @@
 // The calls over a flow's words: on a record that was tested (arriving, departing, ticking), and on any (single).
 #![tactic(auto)]
+
 mod arriving;
 mod departing;
 mod single;

@@ -89,7 +89,7 @@ fn anew(s: Sheet) -> Sheet {
     Sheet { v, ..s }
 }
 
-pub(crate) fn run(input: &[u8]) {
+pub(crate) fn run(rt: &impl Print, input: &[u8]) {
     let mut handles = [0u32; 64];
     let mut sizes = [0u32; 64];
     let mut counts = [[0u64; 5]; 16];
@@ -108,7 +108,7 @@ pub(crate) fn run(input: &[u8]) {
                 counts = table;
             }
             b'*' => state = example::state(v),
-            b'?' => print::show(input, s.text, s.expected, v, came),
+            b'?' => print::show(rt, input, s.text, s.expected, v, came),
             b'!' => {
                 let r = example::call(state, v, counts, &mut handles, &mut sizes);
                 let table = counts_of(r);

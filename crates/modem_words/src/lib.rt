@@ -1,5 +1,6 @@
 // A flow's record as words and its counts in the lent table, for the modem's C interface and its bursts.
 #![tactic(auto)]
+
 mod codes;
 mod counting;
 mod numbering;

@@ -1,5 +1,6 @@
 // How many ticks in succession on an empty queue suffice for it to recover, by the target (Q-13).
 #![tactic(auto)]
+
 ghost use Rattle.std.specs.Prelude.{◌≡◌, false, ◌≤◌};
 ghost use Rattle.units.specs.Kinds.{whole};
 ghost use Rattle.pie.specs.Update.{next_prob, table};

@@ -1,5 +1,6 @@
 // The entry of `recovery` for C programs to link.
 #![tactic(auto)]
+
 ghost use Rattle.std.specs.Prelude.{◌≡◌};
 ghost use Rattle.pie_guarantees.specs.TicksToRecover.{ticks_to_recover};
 

@@ -1,5 +1,6 @@
 // A log checked by the rules: they run from its settings over its calls, and its answers are held against theirs.
 #![tactic(auto)]
+
 ghost use Rattle.std.specs.Prelude.{◌≡◌};
 ghost use Rattle.replay.specs.Replay.{replay};
 ghost use Rattle.replay.specs.Replied.{handles_after, sizes_after};

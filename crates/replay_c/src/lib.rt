@@ -1,5 +1,6 @@
 // The entry of `replay` for C programs to link.
 #![tactic(auto)]
+
 ghost use Rattle.std.specs.Prelude.{◌≡◌};
 ghost use Rattle.replay.specs.Replay.{replay};
 ghost use Rattle.replay.specs.Replied.{handles_after, sizes_after};

@@ -1,6 +1,7 @@
 // The C interface (include/obikuteru.h): the queue's calls over a state that is lent as words.
 // Each entry decodes the words, makes the one call of the queue and writes what it returned. Tables that a call is not lent to write stay.
 #![tactic(auto)]
+
 ghost use Rattle.std.specs.Prelude.{◌≡◌, []};
 ghost use Rattle.ring.specs.State.{well_formed};
 ghost use Rattle.ring.specs.Fresh.{fresh, settings_of};

@@ -1,5 +1,6 @@
 // The entries of `ring_c` for C programs to link.
 #![tactic(auto)]
+
 ghost use Rattle.std.specs.Prelude.{◌≡◌, []};
 ghost use Rattle.ring.specs.State.{well_formed};
 ghost use Rattle.ring.specs.Fresh.{fresh, settings_of};

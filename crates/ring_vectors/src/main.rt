@@ -1,6 +1,7 @@
 // Document 01's numbers that are run and not proved: 'Numbers on each side' but for P1 to P12, and 'Slips that look right'.
 // Each line says what was expected and what came.
 #![tactic(auto)]
+
 mod print;
 mod situation;
 
@@ -8,10 +9,16 @@ use print::{print_number, print_verdict};
 use situation::{Situation, tick_refusal, ticked};
 
 // Rule 6, for a packet that is not ECN-capable.
-fn draws() {
+fn draws(rt: &impl Print) {
     let s = Situation::loaded();
-    print_verdict(b"p 0 with u 0 is never early", 0, s.with_prob(0).arrival(0));
     print_verdict(
+        rt,
+        b"p 0 with u 0 is never early",
+        0,
+        s.with_prob(0).arrival(0),
+    );
+    print_verdict(
+        rt,
         b"p 2^32 with u 4,294,967,295 is early",
         4,
         s.with_prob(4_294_967_296).arrival(4_294_967_295),
@@ -19,24 +26,28 @@ fn draws() {
 }
 
 // Rule 4 on each side: past it, and past rule 5, u 0 is early.
-fn light_load() {
+fn light_load(rt: &impl Print) {
     let s = Situation::loaded();
     print_verdict(
+        rt,
         b"old delay 7,499 with p 858,993,459 is enqueued by rule 4",
         0,
         s.with_old(7_499).with_prob(858_993_459).arrival(0),
     );
     print_verdict(
+        rt,
         b"old delay 7,500 goes on to rule 5",
         4,
         s.with_old(7_500).with_prob(858_993_459).arrival(0),
     );
     print_verdict(
+        rt,
         b"p 858,993,460 goes on to rule 5",
         4,
         s.with_old(7_499).with_prob(858_993_460).arrival(0),
     );
     print_verdict(
+        rt,
         b"an odd target 15,001 with old delay 7,500 is enqueued by rule 4",
         0,
         s.with_target(15_001)
@@ -45,6 +56,7 @@ fn light_load() {
             .arrival(0),
     );
     print_verdict(
+        rt,
         b"target 15,001 with old delay 7,501 goes on to rule 5",
         4,
         s.with_target(15_001)
@@ -55,14 +67,16 @@ fn light_load() {
 }
 
 // Rule 5 on each side.
-fn small_queue() {
+fn small_queue(rt: &impl Print) {
     let s = Situation::loaded();
     print_verdict(
+        rt,
         b"3,000 bytes are enqueued by rule 5",
         0,
         s.with_bytes(3_000).arrival(0),
     );
     print_verdict(
+        rt,
         b"3,001 bytes go on to rule 6",
         4,
         s.with_bytes(3_001).arrival(0),
@@ -70,64 +84,76 @@ fn small_queue() {
 }
 
 // Ticks: rounding toward zero, k by the probability before the tick, and the allowance.
-fn ticks() {
+fn ticks(rt: &impl Print) {
     let s = Situation::measured();
     let down = ticked(s.with_prob(5_000_000).state(), 15_000);
     print_number(
+        rt,
         b"p 5,000,000, delay 14,000, old delay 15,000: a step of -738,197",
         4_261_803,
         down.pie.prob.0,
     );
     let up = ticked(s.with_prob(4_294).with_old(12_000).state(), 15_000);
     print_number(
+        rt,
         b"p 4,294, delay 14,000, old delay 12,000: k is 2,048, by p before the step",
         9_274,
         up.pie.prob.0,
     );
     let spent = ticked(s.with_allowance(15_000).state(), 15_000);
     print_number(
+        rt,
         b"allowance 15,000 at a tick becomes 0",
         0,
         spent.pie.allowance.0,
     );
     let filled = ticked(Situation::resting().with_allowance(15_000).state(), 15_000);
-    print_number(b"unless rule 8 fills it", 150_000, filled.pie.allowance.0);
+    print_number(
+        rt,
+        b"unless rule 8 fills it",
+        150_000,
+        filled.pie.allowance.0,
+    );
 }
 
 // A tick that comes twice in one period, and the clock of a refused call.
-fn refusals() {
+fn refusals(rt: &impl Print) {
     let first = ticked(
         Situation::measured().with_allowance(150_000).state(),
         15_000,
     );
     print_number(
+        rt,
         b"a tick at 15,000 takes 15,000 from the allowance",
         135_000,
         first.pie.allowance.0,
     );
     print_number(
+        rt,
         b"a tick at 29,999 is refused by 5",
         5,
         tick_refusal(first, 29_999),
     );
     let second = ticked(first, 29_999);
     print_number(
+        rt,
         b"it takes nothing from the allowance",
         135_000,
         second.pie.allowance.0,
     );
-    print_number(b"it leaves the clock", 15_000, second.clock.0);
+    print_number(rt, b"it leaves the clock", 15_000, second.clock.0);
     print_number(
+        rt,
         b"a tick at 30,000 is accepted",
         0,
         tick_refusal(second, 30_000),
     );
 }
 
-fn main() {
-    draws();
-    light_load();
-    small_queue();
-    ticks();
-    refusals();
+fn main(rt: HostRuntime) {
+    draws(&rt);
+    light_load(&rt);
+    small_queue(&rt);
+    ticks(&rt);
+    refusals(&rt);
 }

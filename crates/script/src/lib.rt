@@ -1,5 +1,6 @@
 // A script of queue calls, fed in pieces of any length.
 #![tactic(auto)]
+
 use lines::Reader;
 use ring::State;
 

@@ -1,10 +1,11 @@
 // Runs the script on standard input and writes its answers to standard output.
 #![tactic(auto)]
+
 ghost use Rattle.std.specs.Prelude.{◌≡◌, true, ◌≤◌, length};
 ghost use Rattle.script_program.specs.Feeds.{Feeds};
 
-use libc::{STDIN_FILENO, STDOUT_FILENO};
 use script::Runner;
+use std::io::Read;
 
 // What input leaves: how much of it is taken, and whether more is to be fed.
 #[derive(Clone, Copy)]
@@ -16,6 +17,7 @@ struct Progress {
 
 // Feeds input until the output has no room for more, and writes that.
 fn feed_some(
+    rt: &impl Print,
     begun: Runner,
     handles: &mut [u32],
     sizes: &mut [u32],
@@ -29,7 +31,7 @@ fn feed_some(
     let fed = script::feed(begun, handles, sizes, input, output);
     let runner = fed.runner;
     let written = fed.written;
-    let is_written = io::write_all(STDOUT_FILENO, &output[..written]);
+    let is_written = rt.write_all(&output[..written]).is_ok();
     let more = is_written & !script::is_over(runner);
     Progress {
         runner,
@@ -40,6 +42,7 @@ fn feed_some(
 
 // Feeds a piece of input: all of it, where more is to be fed.
 fn feed_piece(
+    rt: &impl Print,
     begun: Runner,
     handles: &mut [u32],
     sizes: &mut [u32],
@@ -53,7 +56,7 @@ fn feed_piece(
     let mut runner = begun;
     let mut at = 0;
     while at < input.len() {
-        let some = feed_some(runner, handles, sizes, &input[at..], output);
+        let some = feed_some(rt, runner, handles, sizes, &input[at..], output);
         let taken = some.taken;
         runner = some.runner;
         at += taken;
@@ -73,52 +76,72 @@ fn feed_piece(
 }
 
 // The end of the input.
-fn finish(runner: Runner, handles: &mut [u32], sizes: &mut [u32], output: &mut [u8]) {
+fn finish(
+    rt: &impl Print,
+    runner: Runner,
+    handles: &mut [u32],
+    sizes: &mut [u32],
+    output: &mut [u8],
+) {
     let fed = script::finish(runner, handles, sizes, output);
     let written = fed.written;
-    io::write_all(STDOUT_FILENO, &output[..written]);
+    let _ = rt.write_all(&output[..written]);
 }
 
-// Reads once, and feeds what came.
-fn read_piece(
+// Reads once, and feeds what came. A read that fails is the end of the input.
+fn read_piece<R: Read>(
+    rt: &impl Print,
+    from: &mut R,
     runner: Runner,
     handles: &mut [u32],
     sizes: &mut [u32],
     input: &mut [u8],
     output: &mut [u8],
 ) -> Progress {
-    let got = libc::read(STDIN_FILENO, input);
-    let n = io::count(got, input);
+    let n = from.read(input).unwrap_or(0);
     if n == 0 {
-        finish(runner, handles, sizes, output);
+        finish(rt, runner, handles, sizes, output);
         return Progress {
             runner,
             taken: 0,
             more: false,
         };
     }
-    feed_piece(runner, handles, sizes, &input[..n], output)
+    feed_piece(rt, runner, handles, sizes, &input[..n], output)
 }
 
-// A proved loop has to end, and nothing says that an input does. So the loop counts its turns
-// down, from a number that no run uses up.
-fn run(handles: &mut [u32], sizes: &mut [u32], input: &mut [u8], output: &mut [u8]) {
+// A proved loop has to end, and nothing says that an input does. So the loop counts its turns,
+// up to a number that no run reaches.
+fn run<R: Read>(
+    rt: &impl Print,
+    from: &mut R,
+    handles: &mut [u32],
+    sizes: &mut [u32],
+    input: &mut [u8],
+    output: &mut [u8],
+) {
     let mut runner = script::begin();
-    let mut turns = u64::MAX;
-    while turns > 0 {
-        let piece = read_piece(runner, handles, sizes, input, output);
+    for _ in 0..u64::MAX {
+        let piece = read_piece(rt, from, runner, handles, sizes, input, output);
         if !piece.more {
             return;
         }
         runner = piece.runner;
-        turns -= 1;
     }
 }
 
-fn main() {
+fn main(rt: HostRuntime) {
+    let mut from = rt.stdin();
     let mut handles = [0u32; 4096];
     let mut sizes = [0u32; 4096];
-    let mut input = io::large_buffer();
-    let mut output = io::large_buffer();
-    run(&mut handles, &mut sizes, &mut input, &mut output);
+    let mut input = [0u8; 65536];
+    let mut output = [0u8; 65536];
+    run(
+        &rt,
+        &mut from,
+        &mut handles,
+        &mut sizes,
+        &mut input,
+        &mut output,
+    );
 }

@@ -1,7 +1,6 @@
 -- `put`: what is written so far is what stood before and the text's first bytes.
 use mathlib.Core.Path.{refl}
 use mathlib.Core.List.{append-nil}
-use Prim.Native.Nat.{◌-◌}
 use native.Mathlib.Nat.{add-zero}
 use native.Mathlib.Omega.{arith}
 use lib.ListN.{length-set}

@@ -1,7 +1,7 @@
 -- `copy`: byte by byte.
 use mathlib.Core.Path.{◌≡◌, refl, ap, ◌∙◌}
 use mathlib.Core.List.{List}
-use Prim.Native.Nat.{ℕ, ◌<◌, ◌≤◌, ◌-◌}
+use Prim.Native.Nat.{ℕ, ◌<◌, ◌≤◌}
 use lib.ListN.{get_or, length, take}
 use lib.Seq.{sets, take_all}
 use native.Mathlib.Omega.{arith}

@@ -1,7 +1,7 @@
 -- `put_note` meets its contract.
 use mathlib.Core.Path.{refl, ap, ◌∙◌}
 use mathlib.Core.List.{List}
-use Prim.Native.Nat.{ℕ, ◌+◌, ◌-◌}
+use Prim.Native.Nat.{ℕ, ◌+◌}
 use lib.ListN.{get_or, set, take}
 use lib.Seq.{sets, take_all}
 use native.Mathlib.Omega.{arith}

@@ -1,15 +1,10 @@
 -- `compare_records`: each turn compares one record of each log.
 use mathlib.Core.Path.{sym, ◌∙◌}
-use Prim.Native.Nat.{◌-◌}
 use native.Mathlib.Omega.{arith}
 use native.Mathlib.Nat.{sub-zero}
 use borrow.Author.Rules.{rules}
 use Rattle.compare.proofs.InTurn.{both_end, first_ends_lem, second-ends, turn-differs, turn-same}
 use Rattle.compare.proofs.comparing.compare_records.Goals as goal
-use Rattle.compare.proofs.comparing.compare_records.Reads as reads
--- TODO use Rattle.compare.proofs.comparing.compare_records.Lts as lts
-use Rattle.log_codec.proofs.get.Reads as get-reads
-use Rattle.compare.proofs.sameness.same_record.Reads as same-record-reads
 
 pub loop-number-init : goal.loop-number-init
 loop-number-init c = (search rules, search rules, omega arith, simp sub-zero)

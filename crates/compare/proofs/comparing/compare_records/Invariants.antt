@@ -4,10 +4,6 @@ use Rattle.call_log.specs.Layout.{records_from}
 use Rattle.compare.specs.Compare.{compare_records}
 use Rattle.compare.proofs.InTurn.{from}
 use Rattle.compare.proofs.comparing.compare_records.Given as goal
-use Rattle.compare.proofs.comparing.compare_records.Reads as reads
--- TODO use Rattle.compare.proofs.comparing.compare_records.Lts as lts
-use Rattle.log_codec.proofs.get.Reads as get-reads
-use Rattle.compare.proofs.sameness.same_record.Reads as same-record-reads
 
 abbrev pub invariant-loop-number : goal.invariant-loop-number
 invariant-loop-number l =

@@ -1,6 +1,6 @@
 -- `read_digits`: each turn is the reader's own step.
 use mathlib.Core.Path.{refl}
-use Prim.Native.Nat.{◌-◌, ◌<◌}
+use Prim.Native.Nat.{◌<◌}
 use native.Mathlib.Omega.{arith}
 use lib.ListN.{get_or, length}
 use Rattle.lines.proofs.Bytes.{clear-digit}

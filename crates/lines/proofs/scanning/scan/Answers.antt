@@ -1,6 +1,5 @@
 -- `scan`: the reader goes along the line up to its end.
 use mathlib.Core.Path.{sym, ◌∙◌}
-use Prim.Native.Nat.{◌-◌}
 use native.Mathlib.Omega.{arith}
 use Rattle.lines.proofs.LineEnds.{along-byte, along-here, along_then, end-at-end, end-at-newline, read-at-end, read-at-newline}
 use Rattle.lines.proofs.scanning.scan.Goals as goal

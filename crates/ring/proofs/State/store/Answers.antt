@@ -24,5 +24,3 @@ returns-else-admits-clause-handles_after c = simp (← c.before.admits-admits.en
 
 pub returns-else-admits-clause-sizes_after : goal.returns-else-admits-clause-sizes_after
 returns-else-admits-clause-sizes_after c = simp (← c.before.admits-admits.ensures, c.if-admits.false) refl
-
--- TODO returns-then-admits has the clauses ['handles_after', 'sizes_after']

@@ -1,0 +1,28 @@
+-- `obikuteru_fq_arrival_of`: refused by 2, or as the call on a well-formed record.
+use mathlib.Core.Path.{◌≡◌, refl, sym, ◌∙◌}
+use mathlib.Core.Bool.{false, false≢true}
+use Rattle.fq_state.specs.WellFormed.{well_formed}
+use Rattle.fq_rules.proofs.Malformed.{malformed-arrival}
+use Rattle.fq_words.specs.Words.{lent}
+use Rattle.fq_c.proofs.obikuteru_fq_arrival_of.Goals as goal
+
+pub returns-then-not-formed : goal.returns-then-not-formed
+returns-then-not-formed c =
+    let s = lent c.args.common.now c.args.order.now c.args.deficits.now c.args.flows.now in
+    let malformed : well_formed s ≡ false = sym c.fits-formed.ensures.value ∙ c.if-not-formed.true in
+    rw (malformed-arrival s c.args.handles.now c.args.sizes.now c.args.clock c.args.key.now c.args.size c.args.ecn c.args.u malformed) (c.refused.ensures, refl, refl, refl, refl, refl, refl)
+
+pub arrive-requires-clause-flows_value : goal.arrive-requires-clause-flows_value
+arrive-requires-clause-flows_value c =
+    sym c.fits-formed.ensures.value ∙ c.if-not-formed.false
+
+pub arrive-requires-clause-counts_value : goal.arrive-requires-clause-counts_value
+arrive-requires-clause-counts_value c =
+    c.fits-formed.ensures.counts_after c.if-not-formed.false
+
+pub arrive-requires-clause-common_bound : goal.arrive-requires-clause-common_bound
+arrive-requires-clause-common_bound c =
+    λ z. absurd (false≢true z)
+
+pub returns : goal.returns
+returns c = c.arrive.ensures.fact

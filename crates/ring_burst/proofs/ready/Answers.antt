@@ -1,0 +1,35 @@
+-- `ready`: what each test that passes says.
+use Rattle.ring_burst.proofs.ready.Goals as goal
+use mathlib.Core.Path.{◌≡◌, sym, ◌∙◌}
+use mathlib.Core.Bool.{true, false≢true}
+use Prim.Native.Nat.{◌≤◌}
+use borrow.Author.Tests.{leb-true}
+use Rattle.laws.proofs.Tests.{and_right}
+use Rattle.pie.specs.Constants.{most_verdicts}
+use Rattle.pie.specs.Verdicts.{total}
+use Rattle.ring.specs.State.{well_formed}
+use Rattle.ring.proofs.Facts.{facts}
+use Rattle.ring_words.specs.Words.{state_of}
+
+pub returns-then-not-formed : goal.returns-then-not-formed
+returns-then-not-formed c = λ e. absurd (false≢true e)
+
+pub returns-then-handles-w : goal.returns-then-handles-w
+returns-then-handles-w c = λ e. absurd (false≢true e)
+
+pub returns-then-sizes-w : goal.returns-then-sizes-w
+returns-then-sizes-w c = λ e. absurd (false≢true e)
+
+pub has_room-requires : goal.has_room-requires
+unfolding state_of
+has_room-requires c = (facts _ (sym c.obikuteru_well_formed.ensures ∙ and_right c.held-whole.result _ c.if-not-formed.false)).total-high
+
+pub returns : goal.returns
+unfolding state_of
+returns c = λ e. (
+  c.held-whole.ensures.1,
+  sym c.obikuteru_well_formed.ensures ∙ and_right c.held-whole.result _ c.if-not-formed.false,
+  c.if-handles-w.false,
+  c.if-sizes-w.false,
+  leb-true _ most_verdicts (sym c.has_room.ensures ∙ e),
+)
