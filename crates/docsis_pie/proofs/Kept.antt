@@ -1,7 +1,7 @@
 -- The ranges of a record's numbers, and that arrival rules 3 to 15 and tick rules 1 to 12 keep them.
 use mathlib.Core.Path.{◌≡◌, refl, sym, ◌∙◌, ap}
-use mathlib.Core.Bool.{Bool, true, false, cond, ◌&&◌, false≢true}
-use Prim.Native.Nat.{ℕ, ◌-◌, ◌*◌, ◌+◌, ◌≤◌, min}
+use mathlib.Core.Bool.{true, false, ◌&&◌, false≢true}
+use Prim.Native.Nat.{ℕ, ◌-◌, ◌*◌, ◌≤◌}
 use native.Mathlib.Omega.{arith}
 use borrow.Author.Tests.{eq-eqb, eqb-true, ltb-false, ne_eqb}
 use lib.Dec.{eqb, ltb}
@@ -10,10 +10,10 @@ use Rattle.laws.proofs.Choice.{at-cond, either}
 use Rattle.laws.proofs.Tests.{and_left, and_right}
 use Rattle.pie.specs.Constants.{longest}
 use Rattle.pie.specs.Verdicts.{is_early}
-use Rattle.docsis_pie.specs.Constants.{active, full_allowance, high, most_prob, period, quiescent}
+use Rattle.docsis_pie.specs.Constants.{full_allowance, high, most_prob, period, quiescent}
 use Rattle.docsis_pie.specs.Delay.{delay_of}
 use Rattle.docsis_pie.specs.DropDecision.{after_drop, cleared, decided, drawn, drawn_with, in_allowance, is_inactive, is_quiescent}
-use Rattle.docsis_pie.specs.DropDecision.{scaled_of, stays_inactive, summed, with_accumulated, with_activity, with_allowance, no_longer_inactive}
+use Rattle.docsis_pie.specs.DropDecision.{scaled_of, stays_inactive, summed, with_accumulated, with_activity, no_longer_inactive}
 use Rattle.docsis_pie.specs.Probability.{next_prob}
 use Rattle.docsis_pie.specs.Update.{is_quiet, next_allowance, updated}
 use Rattle.docsis_pie.specs.declared.Decided.{Decided}

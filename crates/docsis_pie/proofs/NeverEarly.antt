@@ -1,16 +1,15 @@
 -- Where p is 0 no packet is dropped early: rule 4 clears what is accumulated, rule 7 adds 0, and rule 11 enqueues.
 use mathlib.Core.Path.{◌≡◌, refl}
-use mathlib.Core.Bool.{true, cond}
+use mathlib.Core.Bool.{true}
 use Prim.Native.Nat.{ℕ, ◌+◌, min}
 use native.Mathlib.Omega.{arith}
-use lib.Dec.{eqb, ltb}
 use borrow.Author.Tests.{eq-eqb, lt-ltb}
 use Rattle.units.specs.Kinds.{none}
 use Rattle.laws.proofs.Choice.{either}
 use Rattle.pie.specs.declared.Verdict.{Verdict}
-use Rattle.pie.specs.declared.Verdict.TheVariants.{DroppedEarly, Enqueued}
+use Rattle.pie.specs.declared.Verdict.TheVariants.{Enqueued}
 use Rattle.docsis_pie.specs.Constants.{high, low, quiescent}
-use Rattle.docsis_pie.specs.DropDecision.{cleared, drawn, early, is_inactive, is_small, lightly_loaded, scaled_of, sum_is_high, sum_is_low, summed, with_activity, no_longer_inactive}
+use Rattle.docsis_pie.specs.DropDecision.{cleared, drawn, is_inactive, is_small, lightly_loaded, scaled_of, sum_is_low, summed, with_activity, no_longer_inactive}
 use Rattle.docsis_pie.specs.declared.DocsisPie.{DocsisPie}
 
 pub no-longer-inactive-accumulated : (pie : DocsisPie) → (no_longer_inactive pie).accumulated.0 ≡ pie.accumulated.0

@@ -7,8 +7,8 @@ use borrow.Author.Tests.{eqb-true, ltb-false}
 use lib.Dec.{eqb, ltb}
 use Rattle.units.specs.Kinds.{none}
 use Rattle.laws.proofs.Choice.{at-cond}
-use Rattle.docsis_pie.specs.Constants.{active, inactive, period, quiescent, reset_timeout}
-use Rattle.docsis_pie.specs.Update.{phase, phase_after, waited}
+use Rattle.docsis_pie.specs.Constants.{active, period, quiescent, reset_timeout}
+use Rattle.docsis_pie.specs.Update.{phase_after, waited}
 use Rattle.docsis_pie.specs.declared.Phase.{Phase}
 
 pub record PhaseFits (p allowance : ℕ) (ph : Phase) : Type 0 where

@@ -7,7 +7,7 @@ use Rattle.units.specs.Kinds.{none}
 use Rattle.laws.proofs.Choice.{either}
 use Rattle.pie.specs.Constants.{longest}
 use Rattle.docsis_pie.specs.Constants.{low, most_prob}
-use Rattle.docsis_pie.specs.Delay.{delay_of, fast_of}
+use Rattle.docsis_pie.specs.Delay.{delay_of}
 use Rattle.docsis_pie.specs.DropDecision.{scaled_of}
 use Rattle.docsis_pie.specs.Probability.{limited, next_prob, stepped_prob}
 

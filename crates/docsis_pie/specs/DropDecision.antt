@@ -7,7 +7,6 @@ use Rattle.pie.specs.declared.Verdict.TheVariants.{Enqueued, DroppedEarly}
 use Rattle.docsis_pie.specs.Constants.{active, activity, full_allowance, high, inactive, low, mean_packet, quiescent, small_queue}
 use Rattle.docsis_pie.specs.declared.Decided.{Decided}
 use Rattle.docsis_pie.specs.declared.DocsisPie.{DocsisPie}
-use Rattle.docsis_pie.specs.declared.Phase.{Phase}
 
 -- ── the record with one part changed ──
 

@@ -1,6 +1,6 @@
 -- Worked numbers of docs/DOCSIS-PIE.md, part 7, as one table under one claim; the program `docsis_vectors` runs all of them. The target is
 -- 10,000. A packet arrives at 15,000 bytes in a buffer of 30,000, with no allowance and an old delay of 10,000.
-use Rattle.std.specs.Prelude.{◌≡◌, refl, Bool, true, List, [], ◌∷◌, ℕ, ◌^◌, ℤ, pos, neg_ℤ}
+use Rattle.std.specs.Prelude.{◌≡◌, refl, true, List, [], ◌∷◌, ℕ, ◌^◌, ℤ, pos, neg_ℤ}
 use Rattle.laws.specs.Every.{Every}
 use Rattle.units.specs.Kinds.{micros, prob}
 use Rattle.pie.specs.Update.{error_of, lookup}

@@ -1,8 +1,8 @@
 -- Every accepted call returns a well-formed state where it is given one, and a fresh state is well formed.
 use mathlib.Core.Path.{◌≡◌, refl}
-use mathlib.Core.Bool.{Bool, true, false, cond, ◌&&◌}
-use mathlib.Core.List.{List, [], ◌∷◌}
-use Prim.Native.Nat.{ℕ, ◌+◌, ◌-◌, ◌*◌, ◌≤◌, ◌<◌}
+use mathlib.Core.Bool.{true, false, ◌&&◌}
+use mathlib.Core.List.{List}
+use Prim.Native.Nat.{ℕ, ◌+◌, ◌*◌, ◌≤◌, ◌<◌}
 use native.Mathlib.Nat.{mod-lt}
 use native.Mathlib.Omega.{arith}
 use lib.Dec.{leb}
@@ -18,7 +18,6 @@ use Rattle.pie.specs.declared.Verdict.TheVariants.{DroppedBytes, DroppedSlots}
 use Rattle.refusals.specs.Answer.{made}
 use Rattle.laws.specs.Tests.{all}
 use Rattle.laws.proofs.TestLists.{all-at}
-use Rattle.docsis_pie.specs.DropDecision.{decided}
 use Rattle.docsis_pie.specs.declared.Decided.{Decided}
 use Rattle.docsis_pie.proofs.Kept.{PieFits, decided-fits, spent_fits, updated-fits}
 use Rattle.modem_flow.specs.Answer.{Reply}

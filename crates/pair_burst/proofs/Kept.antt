@@ -3,10 +3,10 @@ use mathlib.Core.Path.{◌≡◌, refl, ◌∙◌}
 use mathlib.Core.List.{List}
 use Prim.Native.Nat.{ℕ}
 use lib.Dec.{leb}
-use lib.ListN.{length, length-set, set}
+use lib.ListN.{length, length-set}
 use Rattle.laws.proofs.Choice.{at-cond}
 use Rattle.refusals.specs.Answer.{Answer, admits}
-use Rattle.calls.specs.Requests.{Request, ask_arrival, ask_departure, ask_tick}
+use Rattle.calls.specs.Requests.{ask_arrival, ask_departure, ask_tick}
 use Rattle.store.specs.Put.{free_place, linked, sizes_after_put}
 use Rattle.store.specs.declared.Ends.{Ends}
 use Rattle.pair_rules.specs.Queues.{own}

@@ -1,10 +1,9 @@
 -- A call leaves records that are ready for one arrival less.
 use mathlib.Core.Path.{◌≡◌, refl, sym, ap, ◌∙◌}
-use mathlib.Core.Bool.{Bool, true, false, cond, not}
+use mathlib.Core.Bool.{Bool, true}
 use mathlib.Core.List.{List}
 use Prim.Native.Nat.{ℕ, zero, suc, ◌+◌, ◌≤◌}
 use native.Mathlib.Omega.{arith}
-use lib.Dec.{eqb}
 use lib.ListN.{get_or, length}
 use Rattle.pie.specs.Verdicts.{raised, total}
 use Rattle.pie.proofs.Counts.{length-raised, total-raised}
@@ -20,11 +19,11 @@ use Rattle.pair_rules.specs.declared.State.{State}
 use Rattle.pair_rules.specs.declared.Which.{Which}
 use Rattle.pair_rules.specs.declared.Which.TheVariants.{Intercom, Passengers}
 use Rattle.pair_rules.specs.Answer.{unless_refused}
-use Rattle.pair_rules.specs.Arrival.{arrival, arrival_refusal, arrived_state, arrived_store, verdict_of}
+use Rattle.pair_rules.specs.Arrival.{arrival, arrival_refusal, arrived_state, verdict_of}
 use Rattle.pair_rules.specs.Departure.{departed_state, departure, departure_refusal}
 use Rattle.pair_rules.specs.Tick.{tick, tick_refusal, ticked_state}
-use Rattle.pair_guarantees.specs.Handed.{Queues, reply_to, returned}
-use Rattle.pair_words.specs.After.{own_after, shared_after}
+use Rattle.pair_guarantees.specs.Handed.{reply_to, returned}
+use Rattle.pair_words.specs.After.{own_after}
 use Rattle.pie_words.proofs.Flags.{flag-says}
 use Rattle.laws.proofs.Written.{written_out}
 use Rattle.pair_words.specs.Words.{shared_of, shared_words, state_of, state_words}

@@ -1,7 +1,7 @@
 -- One call of a burst, from what its entry gives.
-use mathlib.Core.Path.{◌≡◌, refl, ap, sym, ◌∙◌}
-use mathlib.Core.Bool.{Bool, true, false, ◌&&◌, false≢true}
-use mathlib.Core.List.{List, [], ◌∷◌}
+use mathlib.Core.Path.{◌≡◌, refl, sym, ◌∙◌}
+use mathlib.Core.Bool.{Bool, true, false, false≢true}
+use mathlib.Core.List.{List}
 use Prim.Native.Nat.{ℕ, zero, suc, ◌+◌, ◌-◌, ◌≤◌}
 use native.Mathlib.Omega.{arith}
 use lib.Dec.{eqb, ltb}
@@ -9,8 +9,7 @@ use lib.ListN.{get_or, length}
 use Rattle.bursts.specs.Numbers.{clock_at}
 use Rattle.bursts.proofs.Answers.{first-low}
 use Rattle.bursts.proofs.Steps.{Step}
-use Rattle.refusals.specs.Answer.{Answer, departed, handle_in, refused, size_in, ticked, verdict}
-use Rattle.calls.specs.Requests.{Request}
+use Rattle.refusals.specs.Answer.{departed, size_in}
 use Rattle.pair_rules.specs.Answer.{Reply}
 use Rattle.pair_rules.specs.Queues.{own}
 use Rattle.pair_rules.specs.declared.Pair.{Pair}

@@ -1,19 +1,16 @@
 -- Twenty-one words, written out, and what the inner functions make of them.
 use mathlib.Core.Path.{◌≡◌, refl, subst⁻¹, sym, ◌∙◌}
-use mathlib.Core.Bool.{Bool, true, false, cond, not, ◌&&◌, false≢true}
-use mathlib.Core.List.{List, [], ◌∷◌}
+use mathlib.Core.Bool.{Bool, true, false, cond, ◌&&◌, false≢true}
+use mathlib.Core.List.{List}
 use Prim.Native.Nat.{ℕ, ◌+◌, ◌-◌, ◌≤◌, ◌<◌}
 use native.Mathlib.Omega.{arith}
-use lib.Dec.{eqb, leb, ltb}
+use lib.Dec.{eqb, leb}
 use lib.ListN.{get_or, length, set}
 use lib.Seq.{get_or-set_other}
-use borrow.Author.Tests.{lt-leb, ltb-true, not-true}
-use Rattle.laws.proofs.Tests.{and_left, and_right}
-use Rattle.pie.specs.Constants.{threshold}
-use Rattle.pie.specs.DepartureRate.{rate_after, running}
+use borrow.Author.Tests.{lt-leb}
+use Rattle.pie.specs.DepartureRate.{rate_after}
 use Rattle.pie.specs.Update.{updated}
 use Rattle.pie.specs.Verdicts.{admitted, place_of, raised}
-use Rattle.pie.specs.declared.Rate.{Rate}
 use Rattle.pie.specs.declared.Verdict.{Verdict}
 use Rattle.pie.specs.declared.Verdict.TheVariants.{Enqueued, Marked, DroppedBytes, DroppedSlots, DroppedEarly}
 use Rattle.store.specs.Following.{followed, link_refused}
@@ -24,7 +21,6 @@ use Rattle.pair_rules.specs.Queues.{storing}
 use Rattle.pair_rules.specs.Arrival.{arrived_pie, arrived_state}
 use Rattle.pair_rules.specs.Departure.{departed_state}
 use Rattle.pair_rules.specs.Tick.{ticked_state}
-use Rattle.pie_words.specs.Flags.{is_set}
 use Rattle.pair_words.specs.Words.{shared_of, shared_words, state_of, state_words, store_of}
 use Rattle.pie_words.proofs.Flags.{flag-kept}
 use Rattle.laws.proofs.Written.{listed, written_out}

@@ -1,5 +1,5 @@
 -- The algorithm as it begins: at fresh, and where an inactive queue turns active (RFC 8033, 5.3; Q-12).
-use Rattle.std.specs.Prelude.{false, ℕ}
+use Rattle.std.specs.Prelude.{ℕ}
 use Rattle.units.specs.Kinds.{micros, none, prob}
 use Rattle.pie.specs.Constants.{full_allowance}
 use Rattle.pie.specs.DepartureRate.{resting}

@@ -13,7 +13,7 @@ use Rattle.units.specs.Kinds.{whole}
 use Rattle.units.specs.declared.Prob.{Prob}
 use Rattle.pie.specs.Constants.{full_allowance, largest, latest, longest, most_accumulated, most_verdicts, threshold}
 use Rattle.pie.specs.DepartureRate.{counting, rate_after, resting, running, sample_of, starting}
-use Rattle.pie.specs.DropDecision.{accumulated_after, drop_decision}
+use Rattle.pie.specs.DropDecision.{accumulated_after}
 use Rattle.pie.specs.Start.{restarted}
 use Rattle.pie.specs.Update.{delay_of, next_prob, refills, updated}
 use Rattle.pie.specs.Verdicts.{admitted, total}

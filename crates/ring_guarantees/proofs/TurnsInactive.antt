@@ -2,7 +2,7 @@
 use mathlib.Core.Path.{◌≡◌, refl, sym, ap, ◌∙◌}
 use mathlib.Core.Bool.{Bool, true, false}
 use mathlib.Core.List.{[], ◌∷◌, ◌++◌, foldl-append}
-use Prim.Native.Nat.{ℕ, ◌+◌, ◌≤◌, ◌<◌}
+use Prim.Native.Nat.{ℕ, ◌≤◌, ◌<◌}
 use native.Mathlib.Omega.{arith}
 use borrow.Author.Tests.{le-ltb, lt-ltb}
 use Rattle.pie.specs.Update.{delay_of, updated}
@@ -10,7 +10,6 @@ use Rattle.pie.specs.declared.Pie.{Pie}
 use Rattle.calls.proofs.Traces.{cut}
 use Rattle.pie_guarantees.specs.Recovery as general
 use Rattle.pie_guarantees.proofs.Fading.{no-delay}
-use Rattle.pie_guarantees.proofs.Recovery as proved
 use Rattle.pie_guarantees.proofs.Tallies.{Tallied, at-start, counted-empty, next-tallied}
 use Rattle.refusals.specs.Answer.{ticked}
 use Rattle.ring.specs.Arrival.{arrived_state}

@@ -1,6 +1,6 @@
 -- A queue whose state and tables are handed back untouched at each call, from a fresh one, and what its calls admitted, handed out and
 -- answered.
-use mathlib.Core.List.{List, [], ◌∷◌, foldl}
+use mathlib.Core.List.{List, foldl}
 use Rattle.std.specs.Prelude.{ℕ}
 use Rattle.calls.specs.Handed as general
 use Rattle.calls.specs.Handed.{QueueKind}
@@ -8,10 +8,8 @@ use Rattle.calls.specs.Packets.{Packet}
 use Rattle.calls.specs.Requests.{Request, admitted_by, departed_by}
 use Rattle.calls.specs.Ring.{ring}
 use Rattle.ring.specs.declared.Settings.{Settings}
-use Rattle.ring.specs.declared.State.{State}
 use Rattle.refusals.specs.Answer.{Answer}
 use Rattle.ring.specs.Fresh.{fresh}
-use Rattle.ring.specs.Calls.{Call}
 use Rattle.ring.specs.Calls.{Queue, answer_of, after}
 
 -- the queued packets, head first

@@ -2,19 +2,16 @@
 use mathlib.Core.Path.{◌≡◌, refl, ap, subst⁻¹}
 use mathlib.Core.Bool.{Bool, true, false, cond, not, ◌&&◌}
 use mathlib.Core.List.{List}
-use Prim.Native.Nat.{ℕ, ◌+◌, ◌-◌, ◌*◌, ◌%◌, ◌<◌}
+use Prim.Native.Nat.{ℕ, ◌+◌, ◌-◌, ◌*◌, ◌%◌}
 use native.Mathlib.Omega.{arith}
-use lib.Dec.{eqb, leb, ltb}
+use lib.Dec.{eqb, ltb}
 use lib.ListN.{get_or, length, set}
-use borrow.Author.Tests.{eqb-true, lt-leb, ltb-true, not-false, not-true}
-use Rattle.laws.proofs.Tests.{and_left, and_right}
-use Rattle.pie.specs.Constants.{threshold}
-use Rattle.pie.specs.DepartureRate.{rate_after, running}
+use borrow.Author.Tests.{eqb-true, not-false}
+use Rattle.pie.specs.DepartureRate.{rate_after}
 use Rattle.pie.specs.DropDecision.{accumulated_after}
 use Rattle.pie.specs.Update.{refills, updated}
 use Rattle.pie.specs.Verdicts.{admitted, place_of, raised}
 use Rattle.pie.specs.declared.Pie.{Pie}
-use Rattle.pie.specs.declared.Rate.{Rate}
 use Rattle.pie.specs.declared.Verdict.{Verdict}
 use Rattle.pie.specs.declared.Verdict.TheVariants.{Enqueued, Marked, DroppedBytes, DroppedSlots, DroppedEarly}
 use Rattle.ring.specs.Activity.{begun}

@@ -1,5 +1,4 @@
 -- `ticks_until_none`: the ticks so far and those still to be counted are all.
-use Prim.Native.Nat.{◌-◌}
 use native.Mathlib.Nat.{zero-add}
 use native.Mathlib.Omega.{arith}
 use Rattle.recovery.proofs.Counting.{again, over-at, spent}

@@ -1,11 +1,6 @@
 -- `obikuteru_calls`: both ways are the burst.
 use Rattle.ring_burst.proofs.obikuteru_calls.Goals as goal
-use mathlib.Core.Path.{◌≡◌, refl}
-use mathlib.Core.Bool.{true}
-use Prim.Native.Nat.{◌*◌}
-use lib.ListN.{length}
-use borrow.Author.Tests.{not-true}
-use Rattle.bursts.specs.Burst.{fits}
+use mathlib.Core.Path.{refl}
 use Rattle.bursts.proofs.Steps.{fitting}
 use Rattle.ring_burst.specs.Burst.{ring_bursts}
 

@@ -1,13 +1,10 @@
 -- `ready`: what each test that passes says.
 use Rattle.ring_burst.proofs.ready.Goals as goal
-use mathlib.Core.Path.{◌≡◌, sym, ◌∙◌}
-use mathlib.Core.Bool.{true, false≢true}
-use Prim.Native.Nat.{◌≤◌}
+use mathlib.Core.Path.{sym, ◌∙◌}
+use mathlib.Core.Bool.{false≢true}
 use borrow.Author.Tests.{leb-true}
 use Rattle.laws.proofs.Tests.{and_right}
 use Rattle.pie.specs.Constants.{most_verdicts}
-use Rattle.pie.specs.Verdicts.{total}
-use Rattle.ring.specs.State.{well_formed}
 use Rattle.ring.proofs.Facts.{facts}
 use Rattle.ring_words.specs.Words.{state_of}
 

@@ -1,15 +1,13 @@
 -- `DocsisPie::decide`: the rules one after the other.
-use borrow.Author.Rules.{rules}
-use mathlib.Core.Path.{◌≡◌, sym, ◌∙◌}
-use mathlib.Core.Bool.{false}
+use mathlib.Core.Path.{sym, ◌∙◌}
 use Prim.Native.Nat.{◌≤◌}
 use native.Mathlib.Omega.{arith}
 use lib.Dec.{eqb}
 use Rattle.units.specs.Kinds.{none}
 use Rattle.laws.proofs.Choice.{either}
 use Rattle.pie.specs.Constants.{longest}
-use Rattle.docsis_pie.specs.Constants.{high, low, most_prob, quiescent}
-use Rattle.docsis_pie.specs.DropDecision.{cleared, decided, in_allowance, is_inactive, with_accumulated, with_activity, no_longer_inactive}
+use Rattle.docsis_pie.specs.Constants.{high, most_prob, quiescent}
+use Rattle.docsis_pie.specs.DropDecision.{cleared, decided, is_inactive, with_accumulated, with_activity, no_longer_inactive}
 use Rattle.docsis_pie.specs.declared.DocsisPie.{DocsisPie}
 use Rattle.docsis_pie.proofs.Ranges.{scaled-le}
 use Rattle.docsis_pie.proofs.DocsisPie.decide.Goals as goal

@@ -1,5 +1,4 @@
 -- `DocsisPie::draw`: each branch's tests choose its line of the rules.
-use borrow.Author.Rules.{rules}
 use mathlib.Core.Path.{◌≡◌, refl, sym, ◌∙◌}
 use mathlib.Core.Bool.{Bool, true, false, cond, ◌||◌, false≢true}
 use Rattle.pie.specs.declared.Verdict.{Verdict}

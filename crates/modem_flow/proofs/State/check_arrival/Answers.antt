@@ -2,7 +2,6 @@
 use borrow.Author.Tests.{eq-eqb, ne_eqb}
 use mathlib.Core.Path.{◌≡◌, ap, sym, ◌∙◌}
 use mathlib.Core.Bool.{true, not}
-use Prim.Native.Nat.{◌≤◌}
 use lib.Dec.{eqb}
 use Rattle.pie.specs.Constants.{most_verdicts}
 use Rattle.pie.specs.Verdicts.{total}

@@ -2,7 +2,6 @@
 use borrow.Author.Tests.{eq-eqb, eqb-true, ne_eqb}
 use mathlib.Core.Path.{◌≡◌, ap}
 use mathlib.Core.Bool.{true, not}
-use mathlib.Core.Logic.{◌≢◌}
 use native.Mathlib.Omega.{arith}
 use lib.Dec.{eqb}
 use lib.ListN.{length}

@@ -2,9 +2,7 @@
 use borrow.Author.Tests.{le-ltb, lt-ltb}
 use mathlib.Core.Path.{◌≡◌, ap}
 use mathlib.Core.Bool.{true, not}
-use Prim.Native.Nat.{◌+◌}
 use native.Mathlib.Omega.{arith}
-use Rattle.docsis_pie.specs.Constants.{period}
 use Rattle.modem_flow.specs.State.{well_formed}
 use Rattle.modem_flow.specs.Tick.{tick_refusal}
 use Rattle.modem_flow.proofs.Facts.{both-pass, facts, record-fails, record-formed, row-fails}

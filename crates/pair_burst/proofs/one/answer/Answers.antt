@@ -4,7 +4,7 @@ use mathlib.Core.Path.{◌∙◌}
 use mathlib.Core.List.{[]}
 use Prim.Native.Nat.{ℕ, ◌+◌, ◌/◌, ◌%◌, ◌≤◌, ◌<◌}
 use native.Mathlib.Omega.{arith}
-use lib.ListN.{get_or, length-set}
+use lib.ListN.{get_or}
 use Rattle.pair_burst.proofs.Both.{both-step, ready-fits, same-both}
 use Rattle.pair_burst.proofs.Steps.{unknown-step}
 use Rattle.pair_burst.proofs.one.answer.Goals as goal

@@ -2,7 +2,7 @@
 use borrow.Author.Tests.{eq-eqb, le-ltb, lt-ltb, ne_eqb}
 use mathlib.Core.Path.{◌∙◌}
 use lib.Dec.{eqb}
-use Rattle.pair_burst.proofs.Refused.{arrival-kind, departure-kind}
+use Rattle.pair_burst.proofs.Refused.{departure-kind}
 use Rattle.pair_burst.proofs.Steps.{arrival-step, departure-step, tick-step}
 use Rattle.pair_burst.proofs.one.of_queue.Goals as goal
 

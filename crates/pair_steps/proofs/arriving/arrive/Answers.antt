@@ -26,7 +26,7 @@ use Rattle.pair_rules.specs.WellFormed.{well_formed}
 use Rattle.pair_words.specs.Words.{pair_of, shared_of, state_of, which_of}
 use Rattle.pair_words.proofs.Counts.{count_word}
 use Rattle.pair_steps.specs.Written.{entered_words, settled_words}
-use Rattle.pair_steps.proofs.Replies.{Fit, Made, admitted-gives, dropped-gives, tables-fit}
+use Rattle.pair_steps.proofs.Replies.{Fit, admitted-gives, dropped-gives, tables-fit}
 use Rattle.pair_steps.proofs.Replies.{arrival-late, arrival-lost, arrival-made, arrival-size}
 use Rattle.pair_steps.proofs.Words.{admitted-words, dropped-words, same-shared}
 use Rattle.pair_steps.proofs.arriving.arrive.Goals as goal

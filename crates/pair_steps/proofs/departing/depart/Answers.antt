@@ -1,5 +1,5 @@
 -- `depart`: the tests in their order, then the words in which the new records differ.
-use borrow.Author.Tests.{eq-eqb, ne_eqb, eqb-false, ltb-false}
+use borrow.Author.Tests.{eq-eqb, ne_eqb, ltb-false}
 use mathlib.Core.Path.{◌≡◌, ap, refl, sym, ◌∙◌}
 use mathlib.Core.Bool.{Bool, true, false}
 use mathlib.Core.List.{List, [], ◌∷◌}
@@ -17,7 +17,7 @@ use Rattle.pair_rules.specs.Departure.{head_handle, head_size, head_word_refused
 use Rattle.pair_rules.proofs.WhenAccepted.{Known, known}
 use Rattle.pair_rules.specs.WellFormed.{well_formed}
 use Rattle.pair_words.specs.Words.{pair_of, shared_of, state_of, which_of}
-use Rattle.pair_steps.proofs.Replies.{Fit, departed-gives, tables-fit}
+use Rattle.pair_steps.proofs.Replies.{departed-gives, tables-fit}
 use Rattle.pair_steps.proofs.Replies.{departure-empty, departure-late, departure-made, departure-wrong}
 use Rattle.pair_steps.proofs.Words.{departed-words, left-long, left-rate, taken-words}
 use Rattle.pair_steps.proofs.departing.depart.Goals as goal

@@ -2,7 +2,7 @@ use Rattle.pie_words.proofs.deciding.spares.Goals as goal
 use Rattle.pie_words.proofs.deciding.spares.Goals.{then-soon+else-rare, else-soon}
 use mathlib.Core.Path.{◌≡◌, sym, ◌∙◌}
 use mathlib.Core.Bool.{Bool, true, false, ◌&&◌}
-use mathlib.Core.Logic.{◌⊎◌, inl, inr, ⊎_elim}
+use mathlib.Core.Logic.{◌⊎◌, inl, inr}
 use Rattle.pie.specs.DropDecision.{lightly_loaded}
 use Rattle.pie_words.specs.Words.{pie_at}
 

@@ -4,7 +4,7 @@ use native.Mathlib.Omega.{arith}
 use lib.ListN.{length}
 use Rattle.refusals.specs.Numbers.{refusal_in}
 use Rattle.ring.proofs.Replies.{arrival-decided, arrival-refused}
-use Rattle.ring.proofs.WhenAccepted.{ArrivalAccepted, arrival-accepted}
+use Rattle.ring.proofs.WhenAccepted.{arrival-accepted}
 use Rattle.ring.proofs.State.arrival.Goals as goal
 
 pub decide-decided-requires-clause-self_value : goal.decide-decided-requires-clause-self_value

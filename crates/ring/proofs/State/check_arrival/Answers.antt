@@ -2,7 +2,7 @@
 use mathlib.Core.Bool.{not}
 use mathlib.Core.Path.{ap}
 use Rattle.ring.specs.Arrival.{arrival_refusal}
-use Rattle.ring.proofs.Facts.{counted, uncounted}
+use Rattle.ring.proofs.Facts.{uncounted}
 use Rattle.ring.proofs.State.check_arrival.Goals as goal
 
 pub returns-then-not-formed : goal.returns-then-not-formed

@@ -2,12 +2,11 @@
 use borrow.Author.Tests.{eq-eqb, eqb-true, ne_eqb}
 use mathlib.Core.Bool.{not}
 use mathlib.Core.Path.{◌≡◌, ap, sym, ◌∙◌}
-use mathlib.Core.Logic.{◌≢◌}
 use native.Mathlib.Omega.{arith}
 use lib.Dec.{eqb}
 use lib.ListN.{length}
 use Rattle.ring.specs.Departure.{departure_refusal}
-use Rattle.ring.proofs.Facts.{Facts, counted, facts, uncounted}
+use Rattle.ring.proofs.Facts.{facts, uncounted}
 use Rattle.laws.proofs.Tests.{and_right}
 use Rattle.ring.proofs.State.check_departure.Goals as goal
 

@@ -6,7 +6,7 @@ use mathlib.Core.Bool.{not}
 use mathlib.Core.Path.{ap, sym, ◌∙◌}
 use native.Mathlib.Omega.{arith}
 use Rattle.ring.specs.Tick.{tick_refusal}
-use Rattle.ring.proofs.Facts.{counted, facts, uncounted}
+use Rattle.ring.proofs.Facts.{facts, uncounted}
 use Rattle.ring.proofs.State.check_tick.Goals as goal
 
 pub returns-then-not-formed : goal.returns-then-not-formed

@@ -1,5 +1,4 @@
 -- `State::decide`: rules 1 and 2, then the drop decision, which an inactive queue shares.
-use borrow.Author.Rules.{rules}
 use borrow.Author.Tests.{eq-eqb, le-ltb, lt-ltb, ne_eqb}
 use mathlib.Core.Path.{◌≡◌, refl}
 use mathlib.Core.Bool.{Bool, true, false, cond}

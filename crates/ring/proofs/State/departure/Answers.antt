@@ -5,7 +5,7 @@ use lib.ListN.{length}
 use Rattle.refusals.specs.Numbers.{refusal_in}
 use Rattle.ring.specs.Departure.{head_of}
 use Rattle.ring.proofs.Replies.{departure-refused, departure-taken}
-use Rattle.ring.proofs.WhenAccepted.{DepartureAccepted, departure-accepted}
+use Rattle.ring.proofs.WhenAccepted.{departure-accepted}
 use Rattle.ring.proofs.State.departure.Goals as goal
 
 pub offset_bounds-handles-at : goal.offset_bounds-handles-at

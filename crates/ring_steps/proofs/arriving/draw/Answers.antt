@@ -1,8 +1,6 @@
 -- `draw`: an arm for each verdict.
 use Rattle.ring_steps.proofs.arriving.draw.Goals as goal
 use native.Mathlib.Omega.{arith}
-use Rattle.pie.specs.declared.Verdict.TheVariants.{DroppedBytes, DroppedEarly, DroppedSlots, Enqueued, Marked}
-use Rattle.ring_steps.proofs.Decisions.{drawn-written}
 
 pub pie_at-requires : goal.pie_at-requires
 pie_at-requires c = omega (arith, c.requires.0)

@@ -1,19 +1,16 @@
 -- `depart`: the tests in their order, then the words in which the new state differs.
 use Rattle.ring_steps.proofs.departing.depart.Goals as goal
-use mathlib.Core.Path.{◌≡◌, ap, refl, sym, ◌∙◌}
-use mathlib.Core.Bool.{false}
-use mathlib.Core.Logic.{◌≢◌}
-use Prim.Native.Nat.{ℕ, ◌≤◌}
+use mathlib.Core.Path.{ap, refl, sym, ◌∙◌}
+use Prim.Native.Nat.{◌≤◌}
 use native.Mathlib.Omega.{arith}
 use lib.Dec.{ltb}
 use lib.ListN.{get_or}
 use borrow.Author.Tests.{eq-eqb, ltb-false, ne_eqb}
 use Rattle.laws.proofs.Tests.{or-neither}
 use Rattle.pie.specs.declared.Rate.{Rate}
-use Rattle.refusals.specs.Tests.{head_refused}
-use Rattle.refusals.proofs.Fitting.{HeadFits, head-fits}
+use Rattle.refusals.proofs.Fitting.{head-fits}
 use Rattle.ring.specs.Departure.{head_of}
-use Rattle.ring.proofs.Facts.{Facts, facts}
+use Rattle.ring.proofs.Facts.{facts}
 use Rattle.ring_words.specs.Words.{state_of}
 use Rattle.ring_steps.proofs.Replies.{departure-empty, departure-late, departure-made, departure-wrong}
 use Rattle.ring_steps.proofs.Words.{departed-words, left-long, left-rate}
