@@ -6,7 +6,7 @@ use Prim.Native.Nat.{ℕ, zero, suc}
 use native.Mathlib.Omega.{arith}
 use lib.ListN.{length}
 use Rattle.laws.proofs.Choice.{at-cond}
-use Rattle.refusals.specs.Answer.{departed, refused, ticked, verdict}
+use Rattle.refusals.specs.Answer.{departed, ticked, verdict}
 use Rattle.modem_flow.specs.Answer.{HandsOut, Reply, answer_in, answer_of, unless_refused}
 use Rattle.modem_flow.specs.Answer as one-flow
 use Rattle.modem_flow.specs.Arrival.{arrival, stored}

@@ -1,10 +1,9 @@
 -- A call leaves a flow that is ready for one arrival less.
 use mathlib.Core.Path.{◌≡◌, refl, sym, ap, ◌∙◌}
-use mathlib.Core.Bool.{true}
 use mathlib.Core.List.{List, [], ◌∷◌}
 use Prim.Native.Nat.{ℕ, zero, suc, ◌+◌, ◌≤◌}
 use native.Mathlib.Omega.{arith}
-use lib.ListN.{get_or, length, length-set, set}
+use lib.ListN.{length, length-set, set}
 use borrow.Author.Tests.{le-ltb}
 use Rattle.laws.proofs.Choice.{at-cond}
 use Rattle.pie.specs.Verdicts.{raised, total}
@@ -14,7 +13,6 @@ use Rattle.modem_flow.specs.Answer.{Reply}
 use Rattle.modem_flow.specs.Arrival.{arrived_state, decision_of, stored, tail_place}
 use Rattle.modem_flow.specs.Departure.{departed_state}
 use Rattle.modem_flow.specs.Tick.{ticked_state}
-use Rattle.modem_flow.specs.State.{formed}
 use Rattle.modem_flow.specs.declared.Settings.{Settings}
 use Rattle.modem_flow.specs.declared.State.{State}
 use Rattle.modem.specs.Asked.{Request, ask, ask_arrival, ask_departure, ask_tick, flow_after}

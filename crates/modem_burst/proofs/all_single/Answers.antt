@@ -1,7 +1,7 @@
 -- `all_single`: after i calls the burst of i calls is done.
 use Rattle.modem_burst.proofs.all_single.Goals as goal
 use mathlib.Core.Path.{◌≡◌, ap, refl, ◌∙◌}
-use Prim.Native.Nat.{◌-◌, ◌*◌}
+use Prim.Native.Nat.{◌*◌}
 use native.Mathlib.Omega.{arith}
 use lib.ListN.{length, length-set}
 use Rattle.bursts.specs.Burst.{burst}

@@ -4,7 +4,6 @@ use mathlib.Core.Path.{◌≡◌, sym, ◌∙◌}
 use mathlib.Core.Bool.{true, false≢true, not, ◌&&◌}
 use Prim.Native.Nat.{◌≤◌}
 use native.Mathlib.Omega.{arith}
-use lib.ListN.{length}
 use borrow.Author.Tests.{leb-true, ltb-false, not-true}
 use Rattle.laws.proofs.Tests.{and_left, and_right}
 use Rattle.pie.specs.Constants.{most_verdicts}

@@ -1,5 +1,5 @@
 -- `feed_piece`: the bytes before `at` are fed, and each turn feeds more behind them.
-use mathlib.Core.Path.{◌≡◌, refl, ◌∙◌}
+use mathlib.Core.Path.{refl, ◌∙◌}
 use Prim.Native.Nat.{◌-◌, ◌≤◌}
 use native.Mathlib.Omega.{arith}
 use lib.ListN.{drop, length, length-drop, length-take}

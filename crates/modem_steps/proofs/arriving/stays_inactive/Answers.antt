@@ -1,7 +1,6 @@
 -- `stays_inactive`: an inactive flow stays so, or becomes quiescent.
 use Rattle.modem_steps.proofs.arriving.stays_inactive.Goals as goal
 use mathlib.Core.Path.{refl, sym, ◌∙◌}
-use Rattle.modem_steps.proofs.Words.{pie-same, no-longer-inactive-words}
 
 pub returns-then-stays-clause-value : goal.returns-then-stays-clause-value
 returns-then-stays-clause-value c =
