@@ -1,6 +1,6 @@
 -- The example computes.
 use mathlib.Core.Path.{refl}
-use Rattle.hash.specs.OneAtATime.{absorb, absorb_all, finish, flow_of, one_at_atime}
+use Rattle.hash.specs.OneAtATime.{absorb, absorb_all, finish, flow_of, one_at_a_time}
 use Rattle.pie.specs.DepartureRate.{rate_after}
 use Rattle.pie.specs.DropDecision.{accumulated_after, drop_decision}
 use Rattle.pie.specs.Verdicts.{raised}
@@ -22,5 +22,5 @@ pub example : Example
 unfolding absorb absorb_all accumulated_after are_flows arrival arrival_refusal arrived_common arrived_flow arrived_schedule choose choose_in
     chosen_in entered_in lists_well
     departed_common departed_flow departure departure_refusal drop_decision ends_after_put entered every finish flow_of flow_with flows_fit fresh
-    head_refused look occurs one_at_atime raised rate_after ring_of sizes_after_put store_after_put verdict_of well_formed well_listed
+    head_refused look occurs one_at_a_time raised rate_after ring_of sizes_after_put store_after_put verdict_of well_formed well_listed
 example = (refl, refl)

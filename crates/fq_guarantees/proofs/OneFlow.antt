@@ -11,7 +11,7 @@ use borrow.Author.Tests.{leb-false, ltb-false, ltb-true}
 use lib.Dec.{leb}
 use Rattle.laws.proofs.Choice.{at-cond}
 use Rattle.pie.specs.Verdicts.{admitted}
-use Rattle.hash.specs.OneAtATime.{flow_of, one_at_atime, plus}
+use Rattle.hash.specs.OneAtATime.{flow_of, one_at_a_time, plus}
 use Rattle.store.specs.Put.{free_place}
 use Rattle.fq_state.specs.Flow.{empty_flow}
 use Rattle.fq_state.specs.State.{State, bytes_of, count_of, flow_at}
@@ -30,7 +30,7 @@ known-flow s k n i h = flow-fits s.common (flow_at s.flows i) (each-passes s.com
 -- the flow of a key
 key-flow-low : (key : List ℕ) (salt : ℕ) → flow_of key salt < 64
 unfolding flow_of
-key-flow-low key salt = mod-lt (plus (one_at_atime key) salt) (omega arith)
+key-flow-low key salt = mod-lt (plus (one_at_a_time key) salt) (omega arith)
 
 pub flow-low : (s : State) (key : List ℕ) → flow_number s key < 64
 flow-low s key = key-flow-low key s.common.settings.salt

@@ -14,7 +14,7 @@ use Rattle.pie.specs.declared.Verdict.{Verdict}
 use Rattle.pie.specs.declared.Verdict.TheVariants.{Enqueued, Marked, DroppedBytes, DroppedSlots, DroppedEarly}
 use Rattle.store_guarantees.specs.Sound.{Sound}
 use Rattle.store_guarantees.proofs.Fresh as store
-use Rattle.store_guarantees.proofs.Lists.{get_d-replicate-same}
+use Rattle.store_guarantees.proofs.Lists.{get_or-replicate-same}
 use Rattle.fq_state.specs.Flow.{empty_flow}
 use Rattle.fq_state.specs.Fresh.{fresh, fresh_refusal, fresh_state}
 use Rattle.fq_state.specs.State.{flow_at}
@@ -66,7 +66,7 @@ module _ (settings : Settings) (clock : ℕ) (e : fresh_refusal settings clock �
         (eqb-true _ _ (and_left a b both)) (eqb-true _ _ (and_right a b both))).0
 
     pub begun-empty : (flow : ℕ) → queued flow begun ≡ []
-    begun-empty flow = get_d-replicate-same {A = List Packet} 64 flow []
+    begun-empty flow = get_or-replicate-same {A = List Packet} 64 flow []
 
     begun-held : (flow : ℕ) → Held flow begun
     begun-held flow = let none = begun-empty flow in record { bytes = rw none (no_bytes flow 64); sized = rw none tt }

@@ -1,7 +1,7 @@
 -- 22: worked values as one table under one claim.
 use Rattle.std.specs.Prelude.{◌≡◌, ℕ, List, [], ◌∷◌, refl}
 use Rattle.laws.specs.Every.{Every}
-use Rattle.hash.specs.OneAtATime.{absorb, absorb_all, finish, flow_of, one_at_atime}
+use Rattle.hash.specs.OneAtATime.{absorb, absorb_all, finish, flow_of, one_at_a_time}
 
 -- what an example says
 pub data Example : Type 0 where
@@ -10,9 +10,9 @@ pub data Example : Type 0 where
   flows-are : (key : List ℕ) → (hash first second third : ℕ) → Example
 
 abbrev pub Holds : Example → Type 0
-Holds (hash-is key h) = one_at_atime key ≡ h
+Holds (hash-is key h) = one_at_a_time key ≡ h
 Holds (flows-are key h first second third) =
-    (one_at_atime key ≡ h) × (flow_of key 0 ≡ first) × (flow_of key 5 ≡ second) × (flow_of key 4294967295 ≡ third)
+    (one_at_a_time key ≡ h) × (flow_of key 0 ≡ first) × (flow_of key 5 ≡ second) × (flow_of key 4294967295 ≡ third)
 
 -- 12 bytes 0 and one byte n
 abbrev pub key_of : (n : ℕ) → List ℕ
@@ -32,5 +32,5 @@ examples =
     ∷ []
 
 pub examples-hold : Every Holds examples
-unfolding absorb absorb_all finish flow_of one_at_atime
+unfolding absorb absorb_all finish flow_of one_at_a_time
 examples-hold = (refl, ((refl, refl, refl, refl), ((refl, refl, refl, refl), ((refl, refl, refl, refl), ((refl, refl, refl, refl), tt)))))

@@ -25,9 +25,9 @@ absorb_all h [] = h
 absorb_all h (byte ∷ key) = absorb_all (absorb h byte) key
 
 -- 22: from h = 0
-unfoldable pub one_at_atime : (key : List ℕ) → ℕ
-one_at_atime key = finish (absorb_all 0 key)
+unfoldable pub one_at_a_time : (key : List ℕ) → ℕ
+one_at_a_time key = finish (absorb_all 0 key)
 
 -- 22: the flow of a key: hash plus salt, wrapping, modulo 64
 unfoldable pub flow_of : (key : List ℕ) (salt : ℕ) → ℕ
-flow_of key salt = plus (one_at_atime key) salt % 64
+flow_of key salt = plus (one_at_a_time key) salt % 64

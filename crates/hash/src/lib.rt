@@ -2,7 +2,7 @@
 #![tactic(auto)]
 
 ghost use Rattle.std.specs.Prelude.{◌≡◌, ◌<◌};
-ghost use Rattle.hash.specs.OneAtATime.{absorb, finish, flow_of, one_at_atime};
+ghost use Rattle.hash.specs.OneAtATime.{absorb, finish, flow_of, one_at_a_time};
 
 // One byte taken into the hash.
 fn mix(h: u32, byte: u8) -> u32
@@ -23,7 +23,7 @@ fn last(h: u32) -> u32
 }
 
 pub fn one_at_a_time(key: &[u8]) -> u32
-    ensures { result ≡ one_at_atime key.now }
+    ensures { result ≡ one_at_a_time key.now }
 {
     let mut h: u32 = 0;
     let mut i: usize = 0;

@@ -2,6 +2,8 @@
 // explained there; a line is printed for each, with what was expected and what came.
 #![tactic(auto)]
 
+ghost use Rattle.std.specs.Prelude.{◌≤◌, length};
+
 mod example;
 mod letters;
 mod notation;
@@ -9,8 +11,25 @@ mod print;
 
 use std::io::Read;
 
+// Reads until the buffer is full or the input ends, and says how much came. A read that fails is the end. Each read but the last brings a
+// byte, so that as many suffice as the buffer has.
+fn read_full<R: Read>(from: &mut R, buffer: &mut [u8]) -> usize
+    ensures { result ≤ length buffer.new }
+{
+    let mut filled = 0;
+    for _ in 0..buffer.len() {
+        let came = from.read(&mut buffer[filled..]).unwrap_or(0);
+        if came == 0 {
+            return filled;
+        }
+        filled += came;
+    }
+    filled
+}
+
 fn main(rt: HostRuntime) {
-    let mut input = Vec::new(rt.alloc());
-    let _ = rt.stdin().take(65_536).read_to_end(&mut input);
-    notation::run(&rt, &input);
+    let mut from = rt.stdin();
+    let mut input = [0u8; 65536];
+    let n = read_full(&mut from, &mut input);
+    notation::run(&rt, &input[..n]);
 }

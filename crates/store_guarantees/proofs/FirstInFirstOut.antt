@@ -15,7 +15,7 @@ use Rattle.store_guarantees.specs.Requests.{AllProper, Proper, Request, chain_of
 use Rattle.store_guarantees.specs.Sound.{Sound}
 use Rattle.store_guarantees.proofs.AsLists.{refines}
 use Rattle.store_guarantees.proofs.Fresh.{fresh-sound}
-use Rattle.store_guarantees.proofs.Lists.{get_d-replicate-same}
+use Rattle.store_guarantees.proofs.Lists.{get_or-replicate-same}
 
 abbrev Lists : Type 0
 Lists = List (List Packet)
@@ -100,7 +100,7 @@ run-kept slots n handles sizes requests low high lh ls p =
     steps-kept n _ requests
     (record {
       sound = f.0;
-      order = λ j. rw (f.1, get_d-replicate-same {A = List Packet} n j []);
+      order = λ j. rw (f.1, get_or-replicate-same {A = List Packet} n j []);
       chains = length-replicate n empty_chain;
       entered = length-replicate {A = List Packet} n [];
       left = length-replicate {A = List Packet} n [];

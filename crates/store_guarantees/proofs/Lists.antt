@@ -19,10 +19,10 @@ pub map-replicate : {A B : Type 0} (f : A → B) (n : ℕ) (a : A) → map f (re
 map-replicate f zero a = refl
 map-replicate f (suc n) a = ap (λ t. f a ∷ t) (map-replicate f n a)
 
-pub get_d-replicate-same : {A : Type 0} (n i : ℕ) (a : A) → get_or (replicate n a) i a ≡ a
-get_d-replicate-same zero i a = refl
-get_d-replicate-same (suc n) zero a = refl
-get_d-replicate-same (suc n) (suc i) a = get_d-replicate-same n i a
+pub get_or-replicate-same : {A : Type 0} (n i : ℕ) (a : A) → get_or (replicate n a) i a ≡ a
+get_or-replicate-same zero i a = refl
+get_or-replicate-same (suc n) zero a = refl
+get_or-replicate-same (suc n) (suc i) a = get_or-replicate-same n i a
 
 -- the i-th changes
 pub total-set : {A : Type 0} (f : A → ℕ) (l : List A) (i : ℕ) (a d : A) → i < length l → total (map f (set l i a)) + f (get_or l i d) ≡ total (map f l) + f a
