@@ -1,7 +1,7 @@
 // The entry of `compare` for C programs to link.
 #![tactic(auto)]
 
-ghost use Rattle.std.specs.Prelude.{◌≡◌, ◌-◌};
+ghost use Rattle.std.specs.Prelude.{◌≡◌};
 ghost use Rattle.compare.specs.Compare.{compare};
 ghost use Rattle.compare.specs.Codes.{code_of, words_of};
 
