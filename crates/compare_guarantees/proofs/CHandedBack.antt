@@ -1,10 +1,10 @@
 -- The C entry's words tell the encoded rest, where it stands.
-use mathlib.Core.Path.{◌≡◌, refl, sym, ap, ◌∙◌}
+use mathlib.Core.Path.{◌≡◌, refl, ap, ◌∙◌}
 use mathlib.Core.Logic.{◌≢◌}
 use mathlib.Core.List.{List, [], ◌∷◌, ◌++◌}
-use Prim.Native.Nat.{ℕ, ◌+◌, ◌*◌}
+use Prim.Native.Nat.{ℕ, ◌*◌}
 use native.Mathlib.Omega.{arith}
-use lib.ListN.{drop, length, take}
+use lib.ListN.{drop, length}
 use Rattle.log_codec.specs.Fields.{AreBytes}
 use Rattle.log_codec.specs.declared.Record.{Record}
 use Rattle.call_log.specs.Answers.{given}
@@ -13,7 +13,6 @@ use Rattle.compare.specs.Codes.{words_of}
 use Rattle.compare.specs.Compare.{Comparison, compare, equal, first_ends, notes_differ, record_differs, refused_first, refused_second}
 use Rattle.compare.specs.Compare.{second_ends, settings_differ}
 use Rattle.compare.specs.Remaining.{last_from}
-use Rattle.compare_guarantees.specs.ExactlyIf.{Alike}
 use Rattle.compare_guarantees.specs.CHandedBack.{CHandedBack, Tells}
 use Rattle.compare_guarantees.proofs.HandedBack.{answer, place, rest-bytes}
 

@@ -1,8 +1,8 @@
 -- The part that is handed back is the encoded rest, where it stands.
-use mathlib.Core.Path.{◌≡◌, refl, sym, ap, ap₂, subst, ◌∙◌}
+use mathlib.Core.Path.{◌≡◌, refl, sym, ap, ◌∙◌}
 use mathlib.Core.Logic.{◌≢◌}
 use mathlib.Core.List.{List, [], ◌∷◌, ◌++◌}
-use Prim.Native.Nat.{ℕ, zero, suc, ◌+◌, ◌*◌, ◌-◌, ◌≤◌}
+use Prim.Native.Nat.{ℕ, zero, suc, ◌+◌, ◌*◌, ◌≤◌}
 use native.Mathlib.Omega.{arith}
 use lib.ListN.{drop, length, length-append, take}
 use denote.Ref.{Bor}
@@ -10,7 +10,7 @@ use Rattle.log_codec.specs.Fields.{AreBytes}
 use Rattle.log_codec.specs.declared.Record.{Record}
 use Rattle.call_log.specs.Answers.{given}
 use Rattle.call_log.specs.Layout.{count_in, note_in, offset_in, records_from, records_in}
-use Rattle.call_log.specs.Reader.{Part, within}
+use Rattle.call_log.specs.Reader.{within}
 use Rattle.call_log.specs.Whole.{Contents, read_whole}
 use Rattle.call_log.proofs.Contents.{is_whole}
 use Rattle.call_log.proofs.Facts.{sound}
@@ -19,8 +19,8 @@ use Rattle.log_guarantees.specs.AlwaysWhole.{encoded_all}
 use Rattle.log_guarantees.proofs.OneForm.{read-encoded}
 use Rattle.compare.specs.Compare.{Comparison, compare, equal, first_ends, notes_differ, record_differs, refused_first, refused_second}
 use Rattle.compare.specs.Compare.{second_ends, settings_differ}
-use Rattle.compare.specs.Remaining.{last_bytes, last_from, last_of, part_for, remaining_of}
-use Rattle.compare_guarantees.specs.ExactlyIf.{Alike, ReadGrounds}
+use Rattle.compare.specs.Remaining.{last_from, last_of, part_for, remaining_of}
+use Rattle.compare_guarantees.specs.ExactlyIf.{ReadGrounds}
 use Rattle.compare_guarantees.specs.HandedBack.{HandedBack, after}
 use Rattle.compare_guarantees.proofs.ExactlyIf.{exactly-if}
 

@@ -1,6 +1,5 @@
 -- Of a bad log the lowest number that applies is given, the first log's before the second's.
-use mathlib.Core.Path.{◌≡◌, refl, ap, sym, ◌∙◌}
-use mathlib.Core.List.{List}
+use mathlib.Core.Path.{◌≡◌, ap, sym, ◌∙◌}
 use Prim.Native.Nat.{ℕ, suc}
 use native.Mathlib.Omega.{arith}
 use Rattle.call_log.specs.Answers.{Answer, given, refused}

@@ -1,15 +1,12 @@
 -- Two logs are found equal exactly if they are the same bytes.
-use mathlib.Core.Path.{◌≡◌, refl, sym, ap, subst, ◌∙◌}
-use mathlib.Core.List.{List}
+use mathlib.Core.Path.{◌≡◌, refl, sym, ap, ◌∙◌}
 use Prim.Native.Nat.{ℕ}
 use native.Mathlib.Omega.{arith}
 use lib.ListN.{length}
-use Rattle.log_codec.specs.Fields.{AreBytes}
 use Rattle.call_log.specs.Answers.{Answer, given, refused}
 use Rattle.call_log.specs.Whole.{Contents, read_whole}
-use Rattle.log_guarantees.specs.AlwaysWhole.{bytes_of}
 use Rattle.log_guarantees.proofs.OneForm.{one_form}
-use Rattle.compare.specs.Compare.{compare, equal}
+use Rattle.compare.specs.Compare.{equal}
 use Rattle.compare_guarantees.specs.ExactlyIf.{ReadGrounds}
 use Rattle.compare_guarantees.specs.SameBytes.{SameBytes}
 use Rattle.compare_guarantees.proofs.ExactlyIf.{exactly-if}

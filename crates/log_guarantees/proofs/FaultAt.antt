@@ -14,7 +14,7 @@ use Rattle.call_log.specs.Faults.{faulty, header_refused}
 use Rattle.call_log.specs.Layout.{count_in, header_in, offset_in, record_in, records_from, records_in}
 use Rattle.call_log.specs.Reader.{read_at, trailer_refused}
 use Rattle.call_log.specs.Whole.{Contents, any_faulty, read_whole}
-use Rattle.log_guarantees.specs.FaultAt.{FaultAt, Faulty, faults}
+use Rattle.log_guarantees.specs.FaultAt.{FaultAt, faults}
 use Rattle.log_guarantees.specs.InTurn.{answers, each_handed}
 use Rattle.log_guarantees.proofs.ReadsAt.{reads-note, reads-record, reads-settings}
 

@@ -5,11 +5,10 @@ use Prim.Native.Nat.{ℕ, zero, suc, ◌+◌, ◌*◌, ◌-◌, ◌≤◌}
 use native.Mathlib.Omega.{arith}
 use lib.ListN.{drop, length, length-drop, take, take-append-drop}
 use lib.Seq.{drop-drop, take-add, take_all}
-use Rattle.log_codec.specs.Fields.{AreBytes, joined, parted}
+use Rattle.log_codec.specs.Fields.{AreBytes, joined}
 use Rattle.log_codec.specs.Headers.{encoded_header}
 use Rattle.log_codec.specs.Numbers.{number_of}
 use Rattle.log_codec.proofs.RoundTrip.{header-writes-back, joined-parted, writes-back}
-use Rattle.call_log.specs.Answers.{given}
 use Rattle.call_log.specs.Layout.{count_in, header_in, letters, letters_in, note_in, offset_in, records_from, records_in, size_in, trailer_of}
 use Rattle.call_log.specs.Whole.{Contents}
 use Rattle.call_log.proofs.Contents.{is_whole}

@@ -2,7 +2,7 @@
 use mathlib.Core.Path.{◌≡◌, refl, sym, ap, ◌∙◌}
 use mathlib.Core.Bool.{Bool, true, false, cond, not, ◌||◌}
 use mathlib.Core.List.{List, [], ◌∷◌, ◌++◌, append_assoc, append-nil, foldl}
-use Prim.Native.Nat.{ℕ, zero, suc, ◌+◌, ◌-◌, ◌*◌, ◌≤◌}
+use Prim.Native.Nat.{ℕ, zero, suc, ◌+◌, ◌-◌, ◌≤◌}
 use native.Mathlib.Omega.{arith}
 use borrow.Author.Tests.{le-leb, leb-false, lt-ltb}
 use lib.Dec.{eqb, leb, ltb}
@@ -16,7 +16,7 @@ use Rattle.call_log.specs.Answers.{given}
 use Rattle.call_log.specs.Faults.{faulty}
 use Rattle.call_log.specs.Layout.{length_of}
 use Rattle.call_log.specs.Whole.{Contents, any_faulty, read_whole}
-use Rattle.call_log.specs.Writer.{Reply, add, writer_conditions}
+use Rattle.call_log.specs.Writer.{Reply, writer_conditions}
 use Rattle.call_log.specs.declared.Writer.{Writer}
 use Rattle.call_log.proofs.Replies.{add-14}
 use Rattle.log_guarantees.specs.AlwaysWhole.{bytes_of}

@@ -14,7 +14,7 @@ use Rattle.replay.specs.Agreement.{disagreement, refusal_in, request_of, verdict
 use Rattle.replay.specs.Replay.{Replay, accepted, disagrees, refused as misread, replay_from, unless_disagrees}
 use Rattle.replay.specs.Replied.{bytes_in, prob_in}
 use Rattle.replay_guarantees.specs.EachAnswer.{EachAnswer, Grounds}
-use Rattle.replay_guarantees.specs.ExactlyIf.{AllAgree, Field, FirstWrong, after_all, after_record}
+use Rattle.replay_guarantees.specs.ExactlyIf.{AllAgree, Field, after_all, after_record}
 use Rattle.replay_guarantees.specs.ExactlyIf.{bytes, none, probability, refused, verdict}
 use Rattle.replay_guarantees.proofs.ExactlyIf.{exactly-if}
 

@@ -1,24 +1,23 @@
 -- A fresh queue, and the fresh queue of a replay over any tables that fit; the replay of a log that reads whole.
-use mathlib.Core.Path.{◌≡◌, refl, sym, ap, ◌∙◌}
+use mathlib.Core.Path.{◌≡◌, refl}
 use mathlib.Core.Bool.{false}
 use mathlib.Core.List.{List, [], ◌∷◌, foldl}
-use Prim.Native.Nat.{ℕ, ◌+◌}
-use native.Mathlib.Omega.{arith}
+use Prim.Native.Nat.{ℕ}
 use borrow.Author.Tests.{eq-eqb}
 use lib.ListN.{length}
 use Rattle.ring.specs.Fresh.{settings_of}
 use Rattle.ring.specs.declared.Settings.{Settings}
 use Rattle.log_codec.specs.declared.Header.{Header}
 use Rattle.ring.specs.Calls.{Queue, after}
-use Rattle.ring_guarantees.specs.Handed.{Run, begin, queued, step}
+use Rattle.ring_guarantees.specs.Handed.{Run, begin, step}
 use Rattle.calls.specs.Requests.{Request}
 use Rattle.ring.proofs.Kept.{fresh-well-formed}
 use Rattle.call_log.specs.Answers.{given}
 use Rattle.call_log.specs.Faults.{header_refused}
 use Rattle.call_log.specs.Whole.{Contents, read_whole}
-use Rattle.replay.specs.Replay.{Replay, fresh_queue, replay, replay_from}
+use Rattle.replay.specs.Replay.{fresh_queue, replay, replay_from}
 use Rattle.replay.proofs.Contained.{fresh-made, fresh-state}
-use Rattle.replay_guarantees.proofs.Fine.{Sound, all-fine}
+use Rattle.replay_guarantees.proofs.Fine.{Sound}
 use Rattle.replay_guarantees.proofs.SameCalls.{Same}
 
 -- the queue of a run

@@ -7,7 +7,7 @@ use Prim.Native.Nat.{ℕ}
 use Rattle.refusals.proofs.Ordered.{test-fails}
 use Rattle.call_log.specs.Answers.{Answer, refused as log_refused}
 use Rattle.call_log.specs.Whole.{Contents, read_whole}
-use Rattle.log_guarantees.specs.LowestFirst.{InOrder, whole_rows}
+use Rattle.log_guarantees.specs.LowestFirst.{whole_rows}
 use Rattle.log_guarantees.proofs.LowestFirst.{lowest-first as log-lowest-first, order-of}
 use Rattle.replay.specs.Replay.{refused, replay, replay_read}
 use Rattle.replay_guarantees.specs.AnyLog.{RefusedBy, fault, settings, tables, trailer}

@@ -1,26 +1,24 @@
 -- A record without faults, for which there is room, is accepted by the writer.
 use mathlib.Core.Path.{◌≡◌, refl, sym, ap, ◌∙◌}
 use mathlib.Core.Bool.{false, cond, not, ◌||◌}
-use mathlib.Core.List.{List, [], ◌∷◌, ◌++◌, append_assoc, append-nil, foldl}
+use mathlib.Core.List.{List, [], ◌∷◌, ◌++◌}
 use Prim.Native.Nat.{ℕ, ◌+◌, ◌*◌, ◌≤◌}
 use native.Mathlib.Omega.{arith}
 use borrow.Author.Tests.{le-leb, le-ltb, lt-leb}
 use lib.Dec.{eqb, leb, ltb}
-use lib.ListN.{length, length-append}
+use lib.ListN.{length}
 use lib.Seq.{length-sets}
-use Rattle.laws.proofs.Tests.{or-neither}
 use Rattle.laws.specs.Tests.{all}
 use Rattle.log_codec.specs.declared.Header.{Header}
 use Rattle.log_codec.specs.declared.Record.{Record}
 use Rattle.call_log.specs.Faults.{faulty}
 use Rattle.call_log.specs.Layout.{length_of}
-use Rattle.call_log.specs.Whole.{any_faulty}
-use Rattle.call_log.specs.Writer.{Reply, add, begin, writer_conditions}
+use Rattle.call_log.specs.Writer.{Reply, add, writer_conditions}
 use Rattle.call_log.specs.declared.Writer.{Writer}
 use Rattle.call_log.proofs.Replies.{add_done}
 use Rattle.log_guarantees.specs.AlwaysWhole.{bytes_of}
-use Rattle.log_guarantees.specs.Run.{Run, after, run, started}
-use Rattle.log_guarantees.proofs.Kept.{Kept, at-start, one-call}
+use Rattle.log_guarantees.specs.Run.{Run, after}
+use Rattle.log_guarantees.proofs.Kept.{Kept}
 
 module _ (h : Header) (note bytes : List ℕ) where
   -- room for so many records more

@@ -1,6 +1,6 @@
 -- The replay of a list of records gives each answer exactly on its ground: accepted where the rules, run over the recorded calls, give each
 -- record as it stands, so many records, and the queue after them; else the first record that disagrees, and its first field that does.
-use Rattle.std.specs.Prelude.{◌≡◌, ◌↔◌, ℕ, length}
+use Rattle.std.specs.Prelude.{◌≡◌, ◌↔◌, length}
 use mathlib.Core.List.{List}
 use Rattle.log_codec.specs.declared.Record.{Record}
 use Rattle.ring.specs.Calls.{Queue}
