@@ -1,6 +1,6 @@
 -- 2^32 is a multiple of 64, so that the wrapping sum's flow is the sum's.
 use Rattle.std.proofs.Common.{◌≡◌, ℕ, ◌+◌, ◌%◌, ◌<◌, List, sym, ap, ◌∙◌, arith}
-use Rattle.hash.specs.OneAtATime.{flow_of, one_at_atime}
+use Rattle.hash.specs.OneAtATime.{flow_of, one_at_a_time}
 use Rattle.hash.specs.Salt.{SharedAtEverySalt}
 
 wraps : (n : ℕ) → n % 4294967296 % 64 ≡ n % 64
@@ -27,4 +27,4 @@ moves-alike a b s t e =
 
 pub shared-at-every-salt : SharedAtEverySalt
 unfolding flow_of
-shared-at-every-salt key other salt any e = moves-alike (one_at_atime key) (one_at_atime other) salt any e
+shared-at-every-salt key other salt any e = moves-alike (one_at_a_time key) (one_at_a_time other) salt any e
