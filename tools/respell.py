@@ -26,6 +26,7 @@ def snake(match):
     name = match.group()
     if KEPT.search(name):
         return name
+    name = re.sub(r"([A-Z])([A-Z][a-z])", r"\1_\2", name)
     return re.sub(r"([a-z0-9])([A-Z])", r"\1_\2", name).lower()
 
 

@@ -1,4 +1,5 @@
 -- The proofs of the claims in specs/, and what they share.
+pub mod WhichVerdict
 pub mod Replies
 pub mod Flows
 pub mod Facts

@@ -33,6 +33,7 @@
 --   FirstInFirstOut   for each flow: admitted = departed, then queued, in order
 --   Conservation      for each flow, and for all together: bytes = bytes admitted − bytes departed; refusals 2 and 9 are never given
 --   Example           two flows, from a fresh record
+pub mod WhichVerdict
 pub mod Calls
 pub mod Acceptance
 pub mod SixtyFour

@@ -10,7 +10,10 @@
 -- That the library's calls give these replies, answers and bytes is promised by the functions themselves (crate log).
 pub mod Run
 pub mod InTurn
+pub mod OneForm
+pub mod FaultAt
 pub mod ReadsBack
 pub mod AlwaysWhole
+pub mod LowestFirst
 pub mod Refused
 pub mod Reached

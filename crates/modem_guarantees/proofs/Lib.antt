@@ -1,9 +1,15 @@
 -- The proofs of the claims in specs/, each in the file of its name, and what they share.
 pub mod Replies
 pub mod Refusals
+pub mod Says
+pub mod WhichVerdict
+pub mod Kept
 pub mod Bounds
 pub mod NeverEarly
 pub mod Grace
+pub mod IdleTicks
+pub mod TicksToRecover
+pub mod Recovery
 pub mod Answers
 pub mod Moves
 pub mod NeverRefused
@@ -11,3 +17,6 @@ pub mod FlowKeeps
 pub mod FirstInFirstOut
 pub mod Conservation
 pub mod AsIfAlone
+pub mod OwnFlow
+pub mod EveryFlow
+pub mod EveryFlowRecovers

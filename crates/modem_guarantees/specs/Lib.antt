@@ -13,10 +13,16 @@
 pub mod Calls
 pub mod Handed
 pub mod Refusals
+pub mod WhichVerdict
+pub mod Kept
 pub mod Bounds
 pub mod NeverEarly
 pub mod Grace
+pub mod TicksToRecover
+pub mod Recovery
 pub mod FirstInFirstOut
 pub mod Conservation
 pub mod Modem
 pub mod AsIfAlone
+pub mod EveryFlow
+pub mod EveryFlowRecovers

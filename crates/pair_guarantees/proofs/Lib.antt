@@ -1,4 +1,5 @@
 -- The proofs of the claims in specs/, and what they share.
+pub mod WhichVerdict
 pub mod Replies
 pub mod Sheds
 pub mod Refusals
@@ -11,6 +12,7 @@ pub mod MeasuredWhileQueued
 pub mod NeverGivenUp
 pub mod BothQueues
 pub mod Kept
+pub mod AlwaysKept
 pub mod Alone
 pub mod Chained
 pub mod Whole

@@ -24,6 +24,8 @@
 --   Conservation      for each queue: queued bytes = bytes admitted − bytes departed; refusals 2 and 9 are never given
 --   Isolation         while its count is below its reserve at its arrivals, a queue's answers depend on its own calls alone
 --   AsRing            and are those of the ring queue with the reserve for its slots
+pub mod WhichVerdict
+pub mod Kept
 pub mod Calls
 pub mod Shedding
 pub mod Refusals

@@ -1,4 +1,7 @@
 -- The proofs of the claims in specs/, each in the file of its name, and what they share.
+pub mod Says
+pub mod WhichVerdict
+pub mod IdleStep
 pub mod AtTold
 pub mod NoProfile
 pub mod AllowanceLasts

@@ -15,6 +15,8 @@
 --   MeasuredWhileQueued   wherever a measurement runs, a packet is queued
 --   NeverGivenUp          a measurement that starts ends before the queue empties, or as it does
 pub mod Shedding
+pub mod WhichVerdict
+pub mod IdleStep
 pub mod AllowanceLasts
 pub mod Grace
 pub mod Fading

@@ -8,6 +8,10 @@
 -- That the library's replay gives these answers and tables is promised by the function itself (crate replay).
 pub mod Recorded
 pub mod ExactlyIf
+pub mod EachAnswer
+pub mod AnyLog
+pub mod LowestFirst
 pub mod AnyTables
 pub mod WhichRefusals
 pub mod AlwaysAccepted
+pub mod AnyRoom

@@ -5,8 +5,14 @@ pub mod CReplies
 pub mod TracesJoined
 pub mod RunsJoined
 pub mod CTraces
+pub mod CAnswered
+pub mod PlacesApart
+pub mod CWhichVerdict
+pub mod CAllowanceLasts
 pub mod CGrace
 pub mod CRecovery
 pub mod CRecoveryByTarget
 pub mod CFirstInFirstOut
 pub mod CConservation
+pub mod CRefusals
+pub mod CSpacing

@@ -10,13 +10,20 @@
 --   CFirstInFirstOut   demand 2 over lists of calls
 --   CConservation      question 3
 pub mod Fields
+pub mod MoreFields
 pub mod CCalls
 pub mod CHanded
 pub mod Decoding
 pub mod TracesJoined
 pub mod RunsJoined
+pub mod CRefusals
+pub mod CWhichVerdict
+pub mod CAllowanceLasts
 pub mod CGrace
 pub mod CRecovery
 pub mod CRecoveryByTarget
 pub mod CFirstInFirstOut
 pub mod CConservation
+pub mod CSpacing
+pub mod CEarlyAtLeastApart
+pub mod CEarlyAtMostApart

@@ -9,6 +9,9 @@ pub mod Kept
 pub mod KeptInRing
 pub mod ChoosingEnds
 pub mod LongestChoice
+pub mod AllMoves
+pub mod ChoosingEmpties
+pub mod LongestEmptying
 pub mod Stretch
 pub mod Before
 pub mod Levels

@@ -16,6 +16,8 @@ pub mod Kept
 pub mod KeptInRing
 pub mod ChoosingEnds
 pub mod LongestChoice
+pub mod ChoosingEmpties
+pub mod LongestEmptying
 pub mod NeverUnlists
 pub mod Stretch
 pub mod Fairness

@@ -1,7 +1,7 @@
 -- `ready`: the tests of the records and of the tables, and room by what the counts leave.
 use borrow.Author.Tests.{eqb-true, leb-true}
-use mathlib.Core.Path.{sym, ◌∙◌}
-use mathlib.Core.Bool.{false}
+use mathlib.Core.Path.{◌≡◌, sym, ◌∙◌}
+use mathlib.Core.Bool.{false, true}
 use lib.Dec.{eqb}
 use Rattle.pie.specs.Constants.{most_verdicts}
 use Rattle.pair_rules.proofs.Facts.{facts}
@@ -28,13 +28,14 @@ returns c e =
     let slots = (shared_of a.shared.now).slots in
     let h = eqb a.handles slots in
     let z = eqb a.sizes slots in
-    let long = c.records_fit-formed.ensures.shared_len c.if-not-formed.false in (
+    let long = c.records_fit-formed.ensures.shared_len c.if-not-formed.false in
+    let held : c.has_room-first.result ≡ true = cc in (
       long.0,
       long.1,
       long.2,
       sym c.records_fit-formed.ensures.value ∙ c.if-not-formed.false,
       eqb-true _ _ (and_left h z c.if-not-fit.false),
       eqb-true _ _ (and_right h z c.if-not-fit.false),
-      leb-true _ most_verdicts (sym c.has_room-first.ensures ∙ c.if-not-first.false),
+      leb-true _ most_verdicts (sym c.has_room-first.ensures ∙ held),
       leb-true _ most_verdicts (sym c.has_room.ensures ∙ e),
     )
