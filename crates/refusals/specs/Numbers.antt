@@ -1,7 +1,5 @@
 -- The number of each refusal.
-use Rattle.std.specs.Prelude.{ℕ}
-use Rattle.refusals.specs.declared.Accepted.{Accepted}
-use Rattle.refusals.specs.declared.Accepted.TheVariants.{Yes, No}
+use Rattle.std.specs.Prelude.{ℕ, Result, Ok, Err}
 use Rattle.refusals.specs.declared.Refusal.{Refusal}
 use Rattle.refusals.specs.declared.Refusal.TheVariants.{Settings, Malformed, Tables, Clock, TooSoon, Empty, Size, Counts, Head}
 
@@ -17,7 +15,7 @@ number_of Size = 7
 number_of Counts = 8
 number_of Head = 9
 
--- the number of a refusal, and 0 where there is none
-abbrev pub refusal_in : Accepted → ℕ
-refusal_in Yes = 0
-refusal_in (No r) = number_of r
+-- the number of the refusal that a call answers, and 0 where there is none
+abbrev pub refusal_in : {T : Type 0} → Result T Refusal → ℕ
+refusal_in (Ok x) = 0
+refusal_in (Err r) = number_of r

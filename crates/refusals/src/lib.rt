@@ -1,7 +1,5 @@
-// The refusals of document 01: their numbers, and the tests that ask for no more than a backlog or five counts; and what an arrival answers.
+// The refusals of document 01: their numbers, and the tests that ask for no more than a backlog or five counts.
 #![tactic(auto)]
-
-use pie::Verdict;
 
 mod counting;
 mod heads;
@@ -9,10 +7,10 @@ mod numbering;
 
 pub use counting::{counts_fit, counts_full};
 pub use heads::wrong_head;
-pub use numbering::refused;
+pub use numbering::{code, refused};
 
-// One case for each refusal number, in order, from 1.
-#[derive(Clone, Copy)]
+// One case for each refusal number, in order, from 1. A call answers `Result`, and a refused call changes nothing.
+#[derive(Clone, Copy, PartialEq, Eq)]
 pub enum Refusal {
     Settings,
     Malformed,
@@ -25,14 +23,9 @@ pub enum Refusal {
     Head,
 }
 
-#[derive(Clone, Copy)]
-pub enum Accepted {
-    Yes,
-    No(Refusal),
-}
-
-#[derive(Clone, Copy)]
-pub enum ArrivalAnswer {
-    Decided(Verdict),
-    Refused(Refusal),
+// The packet that a departure hands out.
+#[derive(Clone, Copy, PartialEq, Eq)]
+pub struct Packet {
+    pub handle: u32,
+    pub size: u32,
 }

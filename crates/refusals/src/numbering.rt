@@ -1,6 +1,7 @@
 // The numbers of the refusals.
 ghost use Rattle.std.specs.Prelude.{◌≡◌, ◌+◌, ◌≤◌};
 ghost use Rattle.refusals.specs.Numbers.{number_of};
+ghost use Rattle.refusals.specs.Codes.{code_in};
 
 use crate::Refusal;
 
@@ -27,4 +28,14 @@ pub fn refused(r: Refusal) -> u32
     ensures { result ≡ 100 + number_of r }
 {
     100 + r.number()
+}
+
+// The number that a C caller gets for a call that gives this number where it is accepted.
+pub fn code(answer: Result<u32, Refusal>) -> u32
+    ensures { result ≡ code_in answer }
+{
+    match answer {
+        Ok(number) => number,
+        Err(refusal) => refused(refusal),
+    }
 }
