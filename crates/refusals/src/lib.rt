@@ -5,7 +5,7 @@ mod counting;
 mod heads;
 mod numbering;
 
-pub use counting::{counts_fit, counts_full};
+pub use counting::{counts_fit, counts_full, room_left};
 pub use heads::wrong_head;
 pub use numbering::{code, refused};
 
