@@ -5,12 +5,8 @@ use Rattle.modem_flow.proofs.State.fresh.Goals as goal
 
 pub returns-then-fits : goal.returns-then-fits
 unfolding fresh
-returns-then-fits c =
-    let e = c.before in
-    rw (← e.before.before.in_range.ensures, e.if-fits.true, c.empty.ensures) (refl, (refl, refl))
+returns-then-fits c = rw (← c.in_range.ensures, c.if-fits.true, c.empty.ensures) (refl, refl)
 
 pub returns : goal.returns
 unfolding fresh
-returns c =
-    let e = c.before in
-    rw (← e.before.before.in_range.ensures, e.if-fits.false, c.zero.ensures) (refl, (refl, refl))
+returns c = rw (← c.in_range.ensures, c.if-fits.false, c.zero.ensures) (refl, refl)
