@@ -7,16 +7,16 @@ ghost use Rattle.modem_flow.specs.State.{formed};
 ghost use Rattle.refusals.specs.Answer.{arrival_answer};
 ghost use Rattle.modem_flow.specs.Arrival.{arrival_refusal, arrived_state, decision_of, arrival, stored, tail_place};
 
-use crate::well_formed::counts_left;
 use crate::State;
 use docsis_pie::{Decided, DocsisPie};
 use pie::{LARGEST, LATEST, Verdict};
 use places::store;
-use refusals::Refusal;
+use refusals::{Refusal, counts_full};
 use units::{Bytes, Micros, Prob};
 
 impl State {
     // Refusals 2, 3, 4, 7 and 8.
+    #[tactic(auto, unfolding(crate::specs::Arrival::arrival_refusal))]
     fn check_arrival(
         self,
         row: [u64; 5],
@@ -27,13 +27,8 @@ impl State {
     ) -> Result<(), Refusal>
         ensures { refusal_in result ≡ arrival_refusal self row handles sizes clock.0 size.0 }
     {
-        let left = counts_left(row);
-        let over = left == 0;
-        if over {
-            return Err(Refusal::Malformed);
-        }
-        let formed = self.formed();
-        if !formed {
+        let good = self.well_formed(row);
+        if !good {
             return Err(Refusal::Malformed);
         }
         let slots = self.settings.slots;
@@ -49,7 +44,7 @@ impl State {
         if wrong_size {
             return Err(Refusal::Size);
         }
-        let full = left == 1;
+        let full = counts_full(row);
         if full {
             return Err(Refusal::Counts);
         }
@@ -57,6 +52,7 @@ impl State {
     }
 
     // Rules 1 to 15.
+    #[tactic(auto, unfolding(crate::specs::Arrival::decision_of))]
     fn decide(self, size: Bytes, u: u32) -> Decided
         requires self_value { formed self ≡ true }
         requires size_le_largest { size.0 ≤ largest }
@@ -91,6 +87,7 @@ impl State {
     }
 
     // The state after an arrival that was so decided.
+    #[tactic(auto, unfolding(crate::specs::Arrival::arrived_state))]
     fn arrived(self, clock: Micros, size: Bytes, decided: Decided) -> State
         requires self_value { formed self ≡ true }
         requires size_le_largest { size.0 ≤ largest }

@@ -8,11 +8,12 @@ ghost use Rattle.modem_flow.specs.Departure.{departed_state, departure_refusal, 
 use crate::State;
 use pie::LATEST;
 use places::place;
-use refusals::{Packet, Refusal, counts_fit, wrong_head};
+use refusals::{Packet, Refusal, wrong_head};
 use units::{Bytes, Micros};
 
 impl State {
     // Refusals 2, 3, 4, 6 and 9.
+    #[tactic(auto, unfolding(crate::specs::Departure::departure_refusal))]
     fn check_departure(
         self,
         row: [u64; 5],
@@ -23,12 +24,8 @@ impl State {
         ensures { refusal_in result
             ≡ departure_refusal self row handles (length sizes.now) clock.0 (head_of self sizes.now) }
     {
-        let counted = counts_fit(row);
-        if !counted {
-            return Err(Refusal::Malformed);
-        }
-        let formed = self.formed();
-        if !formed {
+        let good = self.well_formed(row);
+        if !good {
             return Err(Refusal::Malformed);
         }
         let slots = self.settings.slots;
@@ -55,6 +52,7 @@ impl State {
     }
 
     // The state after the head, of this size, has left.
+    #[tactic(auto, unfolding(crate::specs::Departure::departed_state))]
     fn departed(self, clock: Micros, size: Bytes) -> State
         requires self_value { formed self ≡ true }
         requires count_nonzero { (0 < self.backlog.count) × (size.0 ≤ self.backlog.bytes.0) }

@@ -53,6 +53,7 @@ impl State {
         empty(none, Micros(0))
     }
 
+    #[tactic(auto, unfolding(crate::specs::Fresh::fresh))]
     // A fresh flow; its row of the counts becomes 0 with it.
     pub fn fresh(settings: Settings, clock: Micros) -> Returned
         ensures { let a = fresh settings clock.0 in

@@ -8,20 +8,17 @@ ghost use Rattle.modem_flow.specs.Tick.{tick, tick_refusal, ticked_state};
 use crate::State;
 use docsis_pie::PERIOD;
 use pie::LATEST;
-use refusals::{Refusal, counts_fit};
+use refusals::Refusal;
 use units::{Bytes, Micros};
 
 impl State {
     // Refusals 2, 4 and 5.
+    #[tactic(auto, unfolding(crate::specs::Tick::tick_refusal))]
     fn check_tick(self, row: [u64; 5], clock: Micros) -> Result<(), Refusal>
         ensures { refusal_in result ≡ tick_refusal self row clock.0 }
     {
-        let counted = counts_fit(row);
-        if !counted {
-            return Err(Refusal::Malformed);
-        }
-        let formed = self.formed();
-        if !formed {
+        let good = self.well_formed(row);
+        if !good {
             return Err(Refusal::Malformed);
         }
         let wrong_clock = (clock.0 < self.clock.0) | (LATEST < clock.0);
@@ -36,6 +33,7 @@ impl State {
     }
 
     // The state after a tick.
+    #[tactic(auto, unfolding(crate::specs::Tick::ticked_state))]
     fn ticked(self, clock: Micros, credits: Bytes) -> State
         requires { formed self ≡ true }
         ensures { result ≡ ticked_state self clock.0 credits.0 }
