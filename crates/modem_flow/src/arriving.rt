@@ -133,6 +133,7 @@ impl State {
     }
 
     // A packet of `size` bytes arrives; `u` is its random number.
+    #[tactic(auto, using(crate::proofs::Replies::refused_reply), unfolding(crate::specs::Arrival::arrival))]
     pub fn arrival(
         &mut self,
         row: [u64; 5],
@@ -149,13 +150,7 @@ impl State {
             (handles.new ≡ stored self.old a.answer handles.old handle)
             × (sizes.new ≡ stored self.old a.answer sizes.old size.0) }
     {
-        self.check_arrival(
-            row,
-            handles.len() as u64,
-            sizes.len() as u64,
-            clock,
-            size,
-        )?;
+        self.check_arrival(row, handles.len() as u64, sizes.len() as u64, clock, size)?;
         let decided = self.decide(size, u);
         let v = decided.verdict;
         self.store(handles, sizes, v, handle, size.0 as u32);

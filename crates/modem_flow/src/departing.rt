@@ -70,6 +70,7 @@ impl State {
     }
 
     // The head leaves. The tables are only read.
+    #[tactic(auto, using(crate::proofs::Replies::refused_reply), unfolding(crate::specs::Departure::departure))]
     pub fn departure(
         &mut self,
         row: [u64; 5],

@@ -53,8 +53,8 @@ impl State {
         empty(none, Micros(0))
     }
 
-    #[tactic(auto, unfolding(crate::specs::Fresh::fresh))]
     // A fresh flow; its row of the counts becomes 0 with it.
+    #[tactic(auto, unfolding(crate::specs::Fresh::fresh))]
     pub fn fresh(settings: Settings, clock: Micros) -> Returned
         ensures { let a = fresh settings clock.0 in
             (accepted_answer result.accepted made ≡ a.answer) × (result.state ≡ a.state) }

@@ -57,6 +57,7 @@ impl State {
     }
 
     // The periodic update, with the credits for bytes that leave at the peak rate.
+    #[tactic(auto, using(crate::proofs::Replies::refused_reply), unfolding(crate::specs::Tick::tick))]
     pub fn tick(&mut self, row: [u64; 5], clock: Micros, credits: Bytes) -> Result<(), Refusal>
         ensures { let a = tick self.old row clock.0 credits.0 in
             (accepted_answer result ticked ≡ a.answer) × (self.new ≡ a.state) }

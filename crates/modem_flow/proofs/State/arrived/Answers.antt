@@ -7,4 +7,3 @@ pub enter-backlog-requires : goal.enter-backlog-requires
 enter-backlog-requires c =
     let a = c.before.before.before.before in
     let f = facts a.args.self a.requires.self_value in omega arith
-

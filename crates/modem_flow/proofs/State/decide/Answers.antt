@@ -13,4 +13,3 @@ decide-requires-clause-prob_le_most_prob c =
 pub decide-requires-clause-bytes_bound : goal.decide-requires-clause-bytes_bound
 decide-requires-clause-bytes_bound c =
     let f = facts c.args.self c.requires.self_value in (omega arith, c.requires.size_le_largest)
-

@@ -6,4 +6,3 @@ pub place-first-requires : goal.place-first-requires
 place-first-requires c =
     let a = c.before.before in
     let f = facts a.args.self a.requires.self_value in (f.first-high, f.slots-low, f.slots-high)
-

@@ -1,15 +1,8 @@
 -- `State::departure`: refused as the check says, else the head is handed out.
 use mathlib.Core.Path.{sym}
 use native.Mathlib.Omega.{arith}
-use Rattle.std.proofs.lemmas.Result.{err_from_is_err_and}
-use Rattle.modem_flow.proofs.Replies.{departure-refused, departure-taken}
 use Rattle.modem_flow.proofs.WhenAccepted.{departure-accepted}
 use Rattle.modem_flow.proofs.State.departure.Goals as goal
-
-pub returns-in_err-check_departure : goal.returns-in_err-check_departure
-returns-in_err-check_departure c =
-    let p = err_from_is_err_and c.from_residual.result c.from_residual.ensures.1 in
-    rw (p.1, p.2) (departure-refused _ _ _ _ _ _ c.in_err-check_departure.ensures)
 
 pub offset_bounds-handles-at : goal.offset_bounds-handles-at
 offset_bounds-handles-at c =
@@ -35,7 +28,3 @@ pub departed-requires : goal.departed-requires
 departed-requires c =
     let k = departure-accepted _ _ _ _ _ _ (sym c.in_ok-check_departure.ensures) in
     record { self_value = k.good; count_nonzero = (k.some, k.head-fits) }
-
-pub returns : goal.returns
-returns c =
-    departure-taken _ _ _ _ _ _ c.in_ok-check_departure.ensures c.departed.ensures

@@ -11,4 +11,3 @@ pub store-requires-clause-handles_len : goal.store-requires-clause-handles_len
 store-requires-clause-handles_len c =
     let a = c.before.before.before.before.before.before in
     let f = facts a.args.self a.requires.self_value in a.requires.handles_len
-

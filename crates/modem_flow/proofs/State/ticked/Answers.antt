@@ -14,4 +14,3 @@ update-pie-requires-clause-target_bound c =
     let a = c.before.before.before in
     let f = facts a.args.self a.requires in
     (f.target-high, omega arith, f.peak-low, f.sustained-low)
-
