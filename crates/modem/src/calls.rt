@@ -6,8 +6,8 @@ ghost use Rattle.modem.specs.Answer.{accepted_answer, arrival_answer, departure_
 ghost use Rattle.modem.specs.Calls.{arrival, departure, flow_refused, fresh, tick};
 ghost use Rattle.modem.specs.declared.FlowRefusal.TheVariants.{NoFlow};
 
-use crate::{FlowRefusal, Returned};
-use modem_flow::{Settings, State};
+use crate::FlowRefusal;
+use modem_flow::{Returned, Settings, State};
 use pie::{Verdict, raise};
 use refusals::Packet;
 use units::{Bytes, Micros};
@@ -29,7 +29,12 @@ fn row_of(flow: u64) -> Result<usize, FlowRefusal>
 
 // A fresh flow.
 #[tactic(auto, unfolding(crate::specs::Calls::fresh, crate::specs::Calls::for_flow, crate::specs::Counts::counts_after))]
-pub fn fresh(counts: &mut [[u64; 5]; 16], flow: u64, settings: Settings, clock: Micros) -> Returned
+pub fn fresh(
+    counts: &mut [[u64; 5]; 16],
+    flow: u64,
+    settings: Settings,
+    clock: Micros,
+) -> Returned<FlowRefusal>
     ensures { let a = fresh counts.old flow settings clock.0 in
         (accepted_answer result.accepted made ≡ a.answer)
         × (result.state ≡ a.state)

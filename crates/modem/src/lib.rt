@@ -4,7 +4,6 @@
 mod calls;
 mod numbering;
 
-use modem_flow::State;
 use refusals::Refusal;
 
 // Why a call is refused: there is no such flow, or what the flow's own call answers.
@@ -12,13 +11,6 @@ use refusals::Refusal;
 pub enum FlowRefusal {
     NoFlow,
     Call(Refusal),
-}
-
-// What a fresh call returns: a refused one the all-zero record.
-#[derive(Clone, Copy)]
-pub struct Returned {
-    pub accepted: Result<(), FlowRefusal>,
-    pub state: State,
 }
 
 pub use calls::{arrival, departure, fresh, tick};

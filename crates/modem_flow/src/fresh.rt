@@ -55,7 +55,7 @@ impl State {
 
     // A fresh flow; its row of the counts becomes 0 with it.
     #[tactic(auto, unfolding(crate::specs::Fresh::fresh))]
-    pub fn fresh(settings: Settings, clock: Micros) -> Returned
+    pub fn fresh(settings: Settings, clock: Micros) -> Returned<Refusal>
         ensures { let a = fresh settings clock.0 in
             (accepted_answer result.accepted made ≡ a.answer) × (result.state ≡ a.state) }
     {

@@ -3,7 +3,6 @@
 
 use docsis_pie::DocsisPie;
 use pie::Backlog;
-use refusals::Refusal;
 use units::{Bytes, BytesPerSecond, Micros};
 
 mod arriving;
@@ -34,9 +33,9 @@ pub struct State {
     pub first: u64,
 }
 
-// What a fresh call returns: a refused one the all-zero record.
+// What a fresh call returns: a refused one the all-zero record. `R` says why it was refused.
 #[derive(Clone, Copy)]
-pub struct Returned {
-    pub accepted: Result<(), Refusal>,
+pub struct Returned<R> {
+    pub accepted: Result<(), R>,
     pub state: State,
 }
