@@ -1,11 +1,12 @@
 -- What a call returns: the answer, the flow's state, and the counts of all sixteen flows.
-use Rattle.std.specs.Prelude.{List, ℕ}
-use Rattle.refusals.specs.Answer.{Answer}
-use Rattle.modem_flow.specs.Answer.{answer_in}
-use Rattle.modem_flow.specs.declared.Outcome.TheVariants.{NoFlow}
-use Rattle.modem_flow.specs.declared.Replied.{Replied}
+use Rattle.std.specs.Prelude.{List, ℕ, ◌+◌, Result, Ok, Err, ⊤}
+use Rattle.pie.specs.declared.Verdict.{Verdict}
+use Rattle.refusals.specs.Answer.{Answer, departed, refused, verdict}
+use Rattle.refusals.specs.Numbers as one-flow
+use Rattle.refusals.specs.declared.Packet.{Packet}
 use Rattle.modem_flow.specs.declared.State.{State}
-use Rattle.modem.specs.declared.Returned.{Returned}
+use Rattle.modem.specs.declared.FlowRefusal.{FlowRefusal}
+use Rattle.modem.specs.declared.FlowRefusal.TheVariants.{NoFlow, Call}
 
 pub record ModemReply : Type 0 where
   pub answer : Answer
@@ -14,12 +15,27 @@ pub record ModemReply : Type 0 where
 
 -- ── what the library's own values say ──
 
-abbrev pub returned_of : Replied → (counts : List (List ℕ)) → Returned
-returned_of r counts = record { replied = r; counts = counts }
+-- the number of a refusal
+abbrev pub number_of : FlowRefusal → ℕ
+number_of NoFlow = 10
+number_of (Call r) = one-flow.number_of r
 
--- refusal 10: the state and the counts as they were given
-abbrev pub no_flow : State → (counts : List (List ℕ)) → Returned
-no_flow s counts = returned_of (record { outcome = NoFlow; handle = 0; size = 0; state = s }) counts
+-- an answer by what an accepted call of its kind answers
+abbrev pub answer_by : {T : Type 0} → (T → Answer) → Result T FlowRefusal → Answer
+answer_by accepted (Ok x) = accepted x
+answer_by accepted (Err r) = refused (number_of r)
 
-abbrev pub reply_in : Returned → ModemReply
-reply_in r = record { answer = answer_in r.replied; state = r.replied.state; counts = r.counts }
+-- an answer that is `accepted` unless it is a refusal
+abbrev pub accepted_answer : Result ⊤ FlowRefusal → (accepted : Answer) → Answer
+accepted_answer r accepted = answer_by (λ x. accepted) r
+
+abbrev pub arrival_answer : Result Verdict FlowRefusal → Answer
+arrival_answer r = answer_by verdict r
+
+abbrev pub departure_answer : Result Packet FlowRefusal → Answer
+departure_answer r = answer_by (λ p. departed p.handle p.size) r
+
+-- what a C caller gets: a number where the call is accepted, 100 and a refusal's number where it is not
+abbrev pub code_in : Result ℕ FlowRefusal → ℕ
+code_in (Ok number) = number
+code_in (Err r) = 100 + number_of r

@@ -1,10 +1,7 @@
 -- The verdict counts of sixteen flows, five for each (docs/DOCSIS-PIE.md, parts 2 and 3).
-use Rattle.std.specs.Prelude.{List, [], ◌∷◌, ℕ, ◌<◌, get_or, set}
-use Rattle.pie.specs.Constants.{most_verdicts}
-use Rattle.pie.specs.Verdicts.{raised, total}
+use Rattle.std.specs.Prelude.{List, [], ◌∷◌, ℕ, get_or, set}
+use Rattle.pie.specs.Verdicts.{raised}
 use Rattle.refusals.specs.Answer.{Answer, departed, made, refused, ticked, verdict}
-use Rattle.modem_flow.specs.declared.Outcome.{Outcome}
-use Rattle.modem_flow.specs.declared.Outcome.TheVariants.{Refused, NoFlow, Made, Decided, Departed, Ticked}
 
 -- the row of a flow
 abbrev pub row_of : (counts : List (List ℕ)) (flow : ℕ) → List ℕ
@@ -21,12 +18,3 @@ counts_after counts flow made = set counts flow zero_row
 counts_after counts flow (verdict v) = set counts flow (raised (row_of counts flow) v)
 counts_after counts flow (departed handle size) = counts
 counts_after counts flow ticked = counts
-
--- where the outcome raises a count, the row has room for one more
-abbrev pub Room : Outcome → (row : List ℕ) → Type 0
-Room (Refused r) row = Unit {0}
-Room NoFlow row = Unit {0}
-Room Made row = Unit {0}
-Room (Decided v) row = total row < most_verdicts
-Room Departed row = Unit {0}
-Room Ticked row = Unit {0}

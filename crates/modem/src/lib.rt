@@ -1,17 +1,17 @@
-// The queues of a cable modem's sixteen service flows. Their verdict counts are one table, which goes over and back with each call.
+// The queues of a cable modem's sixteen service flows. Their verdict counts are one table, which is lent to each call.
 #![tactic(auto)]
 
-use modem_flow::Replied;
-
 mod calls;
-mod counting;
+mod numbering;
 
-// What a call returns: what its flow returned, and the counts of all sixteen flows.
-#[derive(Clone, Copy)]
-pub struct Returned {
-    pub replied: Replied,
-    pub counts: [[u64; 5]; 16],
+use refusals::Refusal;
+
+// Why a call is refused: there is no such flow, or what the flow's own call answers.
+#[derive(Clone, Copy, PartialEq, Eq)]
+pub enum FlowRefusal {
+    NoFlow,
+    Call(Refusal),
 }
 
 pub use calls::{arrival, departure, fresh, tick};
-pub use counting::counts_of;
+pub use numbering::code;

@@ -1,13 +1,11 @@
 -- What the numbers of a record that is formed are, as facts that `omega` reads.
-use mathlib.Core.Path.{◌≡◌, refl}
-use mathlib.Core.Bool.{Bool, true, false, not, ◌&&◌, ◌||◌, and-false}
-use mathlib.Core.Logic.{◌≢◌}
+use mathlib.Core.Path.{◌≡◌}
+use mathlib.Core.Bool.{true, ◌&&◌, ◌||◌}
 use mathlib.Core.List.{List, ◌++◌}
-use Prim.Native.Nat.{ℕ, ◌+◌, ◌-◌, ◌*◌, ◌≤◌, ◌<◌}
-use native.Mathlib.Omega.{arith}
+use Prim.Native.Nat.{ℕ, ◌*◌, ◌≤◌, ◌<◌}
 use lib.Dec.{eqb, leb}
 use lib.ListN.{get_or}
-use borrow.Author.Tests.{eq-eqb, eqb-false, eqb-true, le-leb, leb-true, lt-leb, lt-ltb, ltb-true, ne_eqb, not-false, not-true}
+use borrow.Author.Tests.{le-leb, leb-true, lt-ltb, ltb-true}
 use Rattle.units.specs.Kinds.{fastest, none, slowest}
 use Rattle.laws.proofs.Tests.{and_left, and_right}
 use Rattle.pie.specs.Constants.{largest, latest, longest, most_verdicts}
@@ -122,34 +120,3 @@ row_fits s row w = leb-true _ _ (and_right (formed s) (leb (total row) most_verd
 pub well-formed : (s : State) (row : List ℕ) → formed s ≡ true → total row ≤ most_verdicts → well_formed s row ≡ true
 unfolding well_formed
 well-formed s row e h = rw (e, le-leb (total row) most_verdicts h)
-
--- ── the two parts, tested one after the other ──
-
-module _ (s : State) (row : List ℕ) where
-  pub row-fails : (a : Bool) → a ≡ leb (total row) most_verdicts → not a ≡ true → well_formed s row ≡ false
-  unfolding well_formed
-  row-fails a e h = rw (← e, not-true a h, and-false)
-
-  pub record-fails : (b : Bool) → b ≡ formed s → not b ≡ true → well_formed s row ≡ false
-  unfolding well_formed
-  record-fails b e h = rw (← e, not-true b h)
-
-  pub both-pass : (a b : Bool) → a ≡ leb (total row) most_verdicts → b ≡ formed s → not a ≡ false → not b ≡ false → well_formed s row ≡ true
-  unfolding well_formed
-  both-pass a b e f h k = rw (← e, ← f, not-false a h, not-false b k)
-
--- what the row leaves of 2^48 + 1
-module _ (row : List ℕ) (n : ℕ) (left : n ≡ most_verdicts + 1 - total row) where
-  pub counts-over : (s : State) → eqb n 0 ≡ true → well_formed s row ≡ false
-  unfolding well_formed
-  counts-over s h = rw (lt-leb (total row) most_verdicts (omega (arith, eqb-true n 0 h)), and-false)
-
-  pub counts-fit : eqb n 0 ≡ false → total row ≤ most_verdicts
-  counts-fit h = let some : n ≢ 0 = eqb-false n 0 h in omega arith
-
-  pub counts-full : total row ≤ most_verdicts → eqb n 1 ≡ eqb (total row) most_verdicts
-  counts-full fit = go (eqb (total row) most_verdicts) refl
-    where
-      go : (b : Bool) → eqb (total row) most_verdicts ≡ b → eqb n 1 ≡ b
-      go true e = eq-eqb n 1 (omega (arith, eqb-true (total row) most_verdicts e))
-      go false e = let less : total row ≢ most_verdicts = eqb-false (total row) most_verdicts e in ne_eqb n 1 (omega arith)

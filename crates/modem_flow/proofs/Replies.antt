@@ -1,98 +1,30 @@
 -- What a reply's answer tells: a refusal's number is above 0, and a verdict is no refusal.
 use mathlib.Core.Path.{◌≡◌, refl}
-use mathlib.Core.Bool.{cond}
 use mathlib.Core.List.{List}
 use Prim.Native.Nat.{ℕ, zero, suc}
 use native.Mathlib.Omega.{arith}
-use lib.ListN.{length, set}
-use Rattle.pie.specs.Verdicts.{admitted}
+use lib.ListN.{length}
 use Rattle.pie.specs.declared.Verdict.{Verdict}
-use Rattle.refusals.specs.Answer.{departed, handle_in, refused, size_in, ticked, verdict}
-use Rattle.refusals.specs.Numbers.{number_of, refusal_in}
+use Rattle.refusals.specs.Answer.{refused, verdict}
+use Rattle.refusals.specs.Numbers.{number_of}
 use Rattle.docsis_pie.specs.declared.Decided.{Decided}
 use Rattle.modem_flow.specs.Answer.{Reply, unless_refused}
-use Rattle.modem_flow.specs.Arrival.{arrival, arrival_refusal, arrived_state, decision_of, stored, tail_place}
-use Rattle.modem_flow.specs.Departure.{departed_state, departure, departure_refusal, head_of}
-use Rattle.modem_flow.specs.Tick.{tick, tick_refusal, ticked_state}
-use Rattle.refusals.specs.declared.Accepted.{Accepted}
-use Rattle.refusals.specs.declared.Accepted.TheVariants.{No, Yes}
+use Rattle.modem_flow.specs.Arrival.{arrival, arrival_refusal, arrived_state, decision_of}
 use Rattle.refusals.specs.declared.Refusal.{Refusal}
 use Rattle.refusals.specs.declared.Refusal.TheVariants.{Settings, Malformed, Tables, Clock, TooSoon, Empty, Size, Counts, Head}
 use Rattle.modem_flow.specs.declared.State.{State}
 
-pub refused-reply : (r : Refusal) (given : State) (accepted : Reply) →
+pub refused_reply : (r : Refusal) (given : State) (accepted : Reply) →
     unless_refused (number_of r) given accepted ≡ record { answer = refused (number_of r); state = given }
-refused-reply Settings given accepted = refl
-refused-reply Malformed given accepted = refl
-refused-reply Tables given accepted = refl
-refused-reply Clock given accepted = refl
-refused-reply TooSoon given accepted = refl
-refused-reply Empty given accepted = refl
-refused-reply Size given accepted = refl
-refused-reply Counts given accepted = refl
-refused-reply Head given accepted = refl
-
--- a refused arrival: its reply, and the tables as they were
-pub arrival-refused : (s : State) (row handles sizes : List ℕ) (clock handle size u : ℕ) (checked : Accepted) (r : Refusal) →
-    checked ≡ No r →
-    refusal_in checked ≡ arrival_refusal s row (length handles) (length sizes) clock size →
-    let reply = arrival s row handles sizes clock size u in
-    ((record { answer = refused (number_of r); state = s } ≡ reply) × ((0 ≡ handle_in reply.answer) × (0 ≡ size_in reply.answer)))
-    × ((handles ≡ stored s reply.answer handles handle) × (sizes ≡ stored s reply.answer sizes size))
-unfolding arrival
-arrival-refused s row handles sizes clock handle size u checked r found e =
-    rw (← e, found, refused-reply) ((refl, (refl, refl)), (refl, refl))
-
--- an arrival that is not refused, from what its parts return
-pub arrival-decided : (s : State) (row handles sizes : List ℕ) (clock handle size u : ℕ) (checked : Accepted) (d : Decided) (after : State) (handles' sizes' : List ℕ) →
-    checked ≡ Yes →
-    refusal_in checked ≡ arrival_refusal s row (length handles) (length sizes) clock size →
-    d ≡ decision_of s size u →
-    after ≡ arrived_state s clock size d →
-    (handles' ≡ cond (admitted d.verdict) (set handles (tail_place s) handle) handles) × (sizes' ≡ cond (admitted d.verdict) (set sizes (tail_place s) size) sizes) →
-    let reply = arrival s row handles sizes clock size u in
-    ((record { answer = verdict d.verdict; state = after } ≡ reply) × ((0 ≡ handle_in reply.answer) × (0 ≡ size_in reply.answer)))
-    × ((handles' ≡ stored s reply.answer handles handle) × (sizes' ≡ stored s reply.answer sizes size))
-unfolding arrival
-arrival-decided s row handles sizes clock handle size u checked d after handles' sizes' found e ed ea et =
-    rw (← e, found, ea, ← ed) ((refl, (refl, refl)), et)
-
--- a refused departure, and one that is not refused
-pub departure-refused : (s : State) (row handles sizes : List ℕ) (clock : ℕ) (checked : Accepted) (r : Refusal) →
-    checked ≡ No r →
-    refusal_in checked ≡ departure_refusal s row (length handles) (length sizes) clock (head_of s sizes) →
-    let reply = departure s row handles sizes clock in
-    (record { answer = refused (number_of r); state = s } ≡ reply) × ((0 ≡ handle_in reply.answer) × (0 ≡ size_in reply.answer))
-unfolding departure
-departure-refused s row handles sizes clock checked r found e = rw (← e, found, refused-reply) (refl, (refl, refl))
-
-pub departure-taken : (s : State) (row handles sizes : List ℕ) (clock : ℕ) (checked : Accepted) (after : State) →
-    checked ≡ Yes →
-    refusal_in checked ≡ departure_refusal s row (length handles) (length sizes) clock (head_of s sizes) →
-    after ≡ departed_state s clock (head_of s sizes) →
-    let reply = departure s row handles sizes clock in
-    (record { answer = departed (head_of s handles) (head_of s sizes); state = after } ≡ reply)
-    × ((head_of s handles ≡ handle_in reply.answer) × (head_of s sizes ≡ size_in reply.answer))
-unfolding departure
-departure-taken s row handles sizes clock checked after found e ea = rw (← e, found, ea) (refl, (refl, refl))
-
--- a refused tick, and one that is not refused
-pub tick-refused : (s : State) (row : List ℕ) (clock credits : ℕ) (checked : Accepted) (r : Refusal) →
-    checked ≡ No r →
-    refusal_in checked ≡ tick_refusal s row clock →
-    let reply = tick s row clock credits in
-    (record { answer = refused (number_of r); state = s } ≡ reply) × ((0 ≡ handle_in reply.answer) × (0 ≡ size_in reply.answer))
-unfolding tick
-tick-refused s row clock credits checked r found e = rw (← e, found, refused-reply) (refl, (refl, refl))
-
-pub tick-taken : (s : State) (row : List ℕ) (clock credits : ℕ) (checked : Accepted) (after : State) →
-    checked ≡ Yes →
-    refusal_in checked ≡ tick_refusal s row clock →
-    after ≡ ticked_state s clock credits →
-    let reply = tick s row clock credits in
-    (record { answer = ticked; state = after } ≡ reply) × ((0 ≡ handle_in reply.answer) × (0 ≡ size_in reply.answer))
-unfolding tick
-tick-taken s row clock credits checked after found e ea = rw (← e, found, ea) (refl, (refl, refl))
+refused_reply Settings given accepted = refl
+refused_reply Malformed given accepted = refl
+refused_reply Tables given accepted = refl
+refused_reply Clock given accepted = refl
+refused_reply TooSoon given accepted = refl
+refused_reply Empty given accepted = refl
+refused_reply Size given accepted = refl
+refused_reply Counts given accepted = refl
+refused_reply Head given accepted = refl
 
 -- an arrival that is answered with a verdict was not refused: the verdict and the state are those of the rules
 pub decided : (s : State) (row handles sizes : List ℕ) (clock size u : ℕ) (v : Verdict) →

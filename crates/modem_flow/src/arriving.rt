@@ -4,19 +4,19 @@ ghost use Rattle.pie.specs.Constants.{largest};
 ghost use Rattle.pie.specs.Verdicts.{admitted};
 ghost use Rattle.refusals.specs.Numbers.{refusal_in};
 ghost use Rattle.modem_flow.specs.State.{formed};
-ghost use Rattle.modem_flow.specs.Answer.{HandsOut, reply_in};
+ghost use Rattle.refusals.specs.Answer.{arrival_answer};
 ghost use Rattle.modem_flow.specs.Arrival.{arrival_refusal, arrived_state, decision_of, arrival, stored, tail_place};
 
-use crate::well_formed::counts_left;
-use crate::{Outcome, Replied, State};
+use crate::State;
 use docsis_pie::{Decided, DocsisPie};
 use pie::{LARGEST, LATEST, Verdict};
 use places::store;
-use refusals::{Accepted, Refusal};
+use refusals::{Refusal, counts_full};
 use units::{Bytes, Micros, Prob};
 
 impl State {
     // Refusals 2, 3, 4, 7 and 8.
+    #[tactic(auto, unfolding(crate::specs::Arrival::arrival_refusal))]
     fn check_arrival(
         self,
         row: [u64; 5],
@@ -24,39 +24,35 @@ impl State {
         sizes: u64,
         clock: Micros,
         size: Bytes,
-    ) -> Accepted
+    ) -> Result<(), Refusal>
         ensures { refusal_in result ≡ arrival_refusal self row handles sizes clock.0 size.0 }
     {
-        let left = counts_left(row);
-        let over = left == 0;
-        if over {
-            return Accepted::No(Refusal::Malformed);
-        }
-        let formed = self.formed();
-        if !formed {
-            return Accepted::No(Refusal::Malformed);
+        let good = self.well_formed(row);
+        if !good {
+            return Err(Refusal::Malformed);
         }
         let slots = self.settings.slots;
         let fit = (handles == slots) & (sizes == slots);
         if !fit {
-            return Accepted::No(Refusal::Tables);
+            return Err(Refusal::Tables);
         }
         let wrong_clock = (clock.0 < self.clock.0) | (LATEST < clock.0);
         if wrong_clock {
-            return Accepted::No(Refusal::Clock);
+            return Err(Refusal::Clock);
         }
         let wrong_size = (size.0 == 0) | (LARGEST < size.0);
         if wrong_size {
-            return Accepted::No(Refusal::Size);
+            return Err(Refusal::Size);
         }
-        let full = left == 1;
+        let full = counts_full(row);
         if full {
-            return Accepted::No(Refusal::Counts);
+            return Err(Refusal::Counts);
         }
-        Accepted::Yes
+        Ok(())
     }
 
     // Rules 1 to 15.
+    #[tactic(auto, unfolding(crate::specs::Arrival::decision_of))]
     fn decide(self, size: Bytes, u: u32) -> Decided
         requires self_value { formed self ≡ true }
         requires size_le_largest { size.0 ≤ largest }
@@ -91,6 +87,7 @@ impl State {
     }
 
     // The state after an arrival that was so decided.
+    #[tactic(auto, unfolding(crate::specs::Arrival::arrived_state))]
     fn arrived(self, clock: Micros, size: Bytes, decided: Decided) -> State
         requires self_value { formed self ≡ true }
         requires size_le_largest { size.0 ≤ largest }
@@ -136,8 +133,9 @@ impl State {
     }
 
     // A packet of `size` bytes arrives; `u` is its random number.
+    #[tactic(auto, using(crate::proofs::Replies::refused_reply), unfolding(crate::specs::Arrival::arrival))]
     pub fn arrival(
-        self,
+        &mut self,
         row: [u64; 5],
         handles: &mut [u32],
         sizes: &mut [u32],
@@ -145,39 +143,18 @@ impl State {
         handle: u32,
         size: Bytes,
         u: u32,
-    ) -> Replied
-        ensures fact { let a = arrival self row handles.old sizes.old clock.0 size.0 u in
-            (reply_in result ≡ a) × HandsOut result a.answer }
-        ensures fact_2 { let a = arrival self row handles.old sizes.old clock.0 size.0 u in
-            (handles.new ≡ stored self a.answer handles.old handle)
-            × (sizes.new ≡ stored self a.answer sizes.old size.0) }
+    ) -> Result<Verdict, Refusal>
+        ensures reply { let a = arrival self.old row handles.old sizes.old clock.0 size.0 u in
+            (arrival_answer result ≡ a.answer) × (self.new ≡ a.state) }
+        ensures tables { let a = arrival self.old row handles.old sizes.old clock.0 size.0 u in
+            (handles.new ≡ stored self.old a.answer handles.old handle)
+            × (sizes.new ≡ stored self.old a.answer sizes.old size.0) }
     {
-        let checked = self.check_arrival(
-            row,
-            handles.len() as u64,
-            sizes.len() as u64,
-            clock,
-            size,
-        );
-        match checked {
-            Accepted::No(refusal) => Replied {
-                outcome: Outcome::Refused(refusal),
-                handle: 0,
-                size: 0,
-                state: self,
-            },
-            Accepted::Yes => {
-                let decided = self.decide(size, u);
-                let v = decided.verdict;
-                self.store(handles, sizes, v, handle, size.0 as u32);
-                let state = self.arrived(clock, size, decided);
-                Replied {
-                    outcome: Outcome::Decided(v),
-                    handle: 0,
-                    size: 0,
-                    state,
-                }
-            }
-        }
+        self.check_arrival(row, handles.len() as u64, sizes.len() as u64, clock, size)?;
+        let decided = self.decide(size, u);
+        let v = decided.verdict;
+        self.store(handles, sizes, v, handle, size.0 as u32);
+        *self = self.arrived(clock, size, decided);
+        Ok(v)
     }
 }

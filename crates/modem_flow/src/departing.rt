@@ -2,53 +2,57 @@
 ghost use Rattle.std.specs.Prelude.{◌≡◌, true, ◌≤◌, ◌<◌, length};
 ghost use Rattle.refusals.specs.Numbers.{refusal_in};
 ghost use Rattle.modem_flow.specs.State.{formed};
-ghost use Rattle.modem_flow.specs.Answer.{HandsOut, reply_in};
+ghost use Rattle.refusals.specs.Answer.{departure_answer};
 ghost use Rattle.modem_flow.specs.Departure.{departed_state, departure_refusal, departure, head_of};
 
-use crate::{Outcome, Replied, State};
+use crate::State;
 use pie::LATEST;
 use places::place;
-use refusals::{Accepted, Refusal, counts_fit, wrong_head};
+use refusals::{Packet, Refusal, wrong_head};
 use units::{Bytes, Micros};
 
 impl State {
     // Refusals 2, 3, 4, 6 and 9.
-    fn check_departure(self, row: [u64; 5], handles: u64, sizes: &[u32], clock: Micros) -> Accepted
+    #[tactic(auto, unfolding(crate::specs::Departure::departure_refusal))]
+    fn check_departure(
+        self,
+        row: [u64; 5],
+        handles: u64,
+        sizes: &[u32],
+        clock: Micros,
+    ) -> Result<(), Refusal>
         ensures { refusal_in result
             ≡ departure_refusal self row handles (length sizes.now) clock.0 (head_of self sizes.now) }
     {
-        let counted = counts_fit(row);
-        if !counted {
-            return Accepted::No(Refusal::Malformed);
-        }
-        let formed = self.formed();
-        if !formed {
-            return Accepted::No(Refusal::Malformed);
+        let good = self.well_formed(row);
+        if !good {
+            return Err(Refusal::Malformed);
         }
         let slots = self.settings.slots;
         let fit = (handles == slots) & (sizes.len() as u64 == slots);
         if !fit {
-            return Accepted::No(Refusal::Tables);
+            return Err(Refusal::Tables);
         }
         let wrong_clock = (clock.0 < self.clock.0) | (LATEST < clock.0);
         if wrong_clock {
-            return Accepted::No(Refusal::Clock);
+            return Err(Refusal::Clock);
         }
         let backlog = self.backlog;
         let none = backlog.count == 0;
         if none {
-            return Accepted::No(Refusal::Empty);
+            return Err(Refusal::Empty);
         }
         let at = self.first as usize;
         let size = sizes[at] as u64;
         let wrong = wrong_head(backlog, size);
         if wrong {
-            return Accepted::No(Refusal::Head);
+            return Err(Refusal::Head);
         }
-        Accepted::Yes
+        Ok(())
     }
 
     // The state after the head, of this size, has left.
+    #[tactic(auto, unfolding(crate::specs::Departure::departed_state))]
     fn departed(self, clock: Micros, size: Bytes) -> State
         requires self_value { formed self ≡ true }
         requires count_nonzero { (0 < self.backlog.count) × (size.0 ≤ self.backlog.bytes.0) }
@@ -66,30 +70,22 @@ impl State {
     }
 
     // The head leaves. The tables are only read.
-    pub fn departure(self, row: [u64; 5], handles: &[u32], sizes: &[u32], clock: Micros) -> Replied
-        ensures { let a = departure self row handles.now sizes.now clock.0 in
-            (reply_in result ≡ a) × HandsOut result a.answer }
+    #[tactic(auto, using(crate::proofs::Replies::refused_reply), unfolding(crate::specs::Departure::departure))]
+    pub fn departure(
+        &mut self,
+        row: [u64; 5],
+        handles: &[u32],
+        sizes: &[u32],
+        clock: Micros,
+    ) -> Result<Packet, Refusal>
+        ensures { let a = departure self.old row handles.now sizes.now clock.0 in
+            (departure_answer result ≡ a.answer) × (self.new ≡ a.state) }
     {
-        let checked = self.check_departure(row, handles.len() as u64, sizes, clock);
-        match checked {
-            Accepted::No(refusal) => Replied {
-                outcome: Outcome::Refused(refusal),
-                handle: 0,
-                size: 0,
-                state: self,
-            },
-            Accepted::Yes => {
-                let at = self.first as usize;
-                let handle = handles[at];
-                let size = sizes[at];
-                let state = self.departed(clock, Bytes(size as u64));
-                Replied {
-                    outcome: Outcome::Departed,
-                    handle,
-                    size,
-                    state,
-                }
-            }
-        }
+        self.check_departure(row, handles.len() as u64, sizes, clock)?;
+        let at = self.first as usize;
+        let handle = handles[at];
+        let size = sizes[at];
+        *self = self.departed(clock, Bytes(size as u64));
+        Ok(Packet { handle, size })
     }
 }

@@ -1,9 +1,9 @@
 // A fresh flow.
 ghost use Rattle.std.specs.Prelude.{◌≡◌};
-ghost use Rattle.modem_flow.specs.Answer.{HandsOut, reply_in};
+ghost use Rattle.refusals.specs.Answer.{accepted_answer, made};
 ghost use Rattle.modem_flow.specs.Fresh.{fresh, fresh_state, zero_state};
 
-use crate::{Outcome, Replied, Settings, State};
+use crate::{Returned, Settings, State};
 use docsis_pie::{Activity, DocsisPie, Phase};
 use pie::{Backlog, LATEST};
 use refusals::Refusal;
@@ -54,22 +54,20 @@ impl State {
     }
 
     // A fresh flow; its row of the counts becomes 0 with it.
-    pub fn fresh(settings: Settings, clock: Micros) -> Replied
-        ensures { let a = fresh settings clock.0 in (reply_in result ≡ a) × HandsOut result a.answer }
+    #[tactic(auto, unfolding(crate::specs::Fresh::fresh))]
+    pub fn fresh(settings: Settings, clock: Micros) -> Returned<Refusal>
+        ensures { let a = fresh settings clock.0 in
+            (accepted_answer result.accepted made ≡ a.answer) × (result.state ≡ a.state) }
     {
         let fits = settings.in_range() & (clock.0 <= LATEST);
         if fits {
-            return Replied {
-                outcome: Outcome::Made,
-                handle: 0,
-                size: 0,
+            return Returned {
+                accepted: Ok(()),
                 state: empty(settings, clock),
             };
         }
-        Replied {
-            outcome: Outcome::Refused(Refusal::Settings),
-            handle: 0,
-            size: 0,
+        Returned {
+            accepted: Err(Refusal::Settings),
             state: State::zero(),
         }
     }

@@ -2,14 +2,12 @@
 #![tactic(auto)]
 
 use docsis_pie::DocsisPie;
-use pie::{Backlog, Verdict};
-use refusals::Refusal;
+use pie::Backlog;
 use units::{Bytes, BytesPerSecond, Micros};
 
 mod arriving;
 mod departing;
 mod fresh;
-mod refusing;
 mod ticking;
 mod well_formed;
 
@@ -35,22 +33,9 @@ pub struct State {
     pub first: u64,
 }
 
-// What a call is answered. `NoFlow`, refusal 10, comes before a flow is called: the crate `modem` gives it.
+// What a fresh call returns: a refused one the all-zero record. `R` says why it was refused.
 #[derive(Clone, Copy)]
-pub enum Outcome {
-    Refused(Refusal),
-    NoFlow,
-    Made,
-    Decided(Verdict),
-    Departed,
-    Ticked,
-}
-
-// What a call returns; handle and size are those of the packet that left, or 0 and 0.
-#[derive(Clone, Copy)]
-pub struct Replied {
-    pub outcome: Outcome,
-    pub handle: u32,
-    pub size: u32,
+pub struct Returned<R> {
+    pub accepted: Result<(), R>,
     pub state: State,
 }

@@ -2,40 +2,38 @@
 ghost use Rattle.std.specs.Prelude.{◌≡◌, true};
 ghost use Rattle.refusals.specs.Numbers.{refusal_in};
 ghost use Rattle.modem_flow.specs.State.{formed};
-ghost use Rattle.modem_flow.specs.Answer.{HandsOut, reply_in};
+ghost use Rattle.refusals.specs.Answer.{accepted_answer, ticked};
 ghost use Rattle.modem_flow.specs.Tick.{tick, tick_refusal, ticked_state};
 
-use crate::{Outcome, Replied, State};
+use crate::State;
 use docsis_pie::PERIOD;
 use pie::LATEST;
-use refusals::{Accepted, Refusal, counts_fit};
+use refusals::Refusal;
 use units::{Bytes, Micros};
 
 impl State {
     // Refusals 2, 4 and 5.
-    fn check_tick(self, row: [u64; 5], clock: Micros) -> Accepted
+    #[tactic(auto, unfolding(crate::specs::Tick::tick_refusal))]
+    fn check_tick(self, row: [u64; 5], clock: Micros) -> Result<(), Refusal>
         ensures { refusal_in result ≡ tick_refusal self row clock.0 }
     {
-        let counted = counts_fit(row);
-        if !counted {
-            return Accepted::No(Refusal::Malformed);
-        }
-        let formed = self.formed();
-        if !formed {
-            return Accepted::No(Refusal::Malformed);
+        let good = self.well_formed(row);
+        if !good {
+            return Err(Refusal::Malformed);
         }
         let wrong_clock = (clock.0 < self.clock.0) | (LATEST < clock.0);
         if wrong_clock {
-            return Accepted::No(Refusal::Clock);
+            return Err(Refusal::Clock);
         }
         let too_soon = clock.0 < self.last.0 + PERIOD;
         if too_soon {
-            return Accepted::No(Refusal::TooSoon);
+            return Err(Refusal::TooSoon);
         }
-        Accepted::Yes
+        Ok(())
     }
 
     // The state after a tick.
+    #[tactic(auto, unfolding(crate::specs::Tick::ticked_state))]
     fn ticked(self, clock: Micros, credits: Bytes) -> State
         requires { formed self ≡ true }
         ensures { result ≡ ticked_state self clock.0 credits.0 }
@@ -59,26 +57,13 @@ impl State {
     }
 
     // The periodic update, with the credits for bytes that leave at the peak rate.
-    pub fn tick(self, row: [u64; 5], clock: Micros, credits: Bytes) -> Replied
-        ensures { let a = tick self row clock.0 credits.0 in (reply_in result ≡ a) × HandsOut result a.answer }
+    #[tactic(auto, using(crate::proofs::Replies::refused_reply), unfolding(crate::specs::Tick::tick))]
+    pub fn tick(&mut self, row: [u64; 5], clock: Micros, credits: Bytes) -> Result<(), Refusal>
+        ensures { let a = tick self.old row clock.0 credits.0 in
+            (accepted_answer result ticked ≡ a.answer) × (self.new ≡ a.state) }
     {
-        let checked = self.check_tick(row, clock);
-        match checked {
-            Accepted::No(refusal) => Replied {
-                outcome: Outcome::Refused(refusal),
-                handle: 0,
-                size: 0,
-                state: self,
-            },
-            Accepted::Yes => {
-                let state = self.ticked(clock, credits);
-                Replied {
-                    outcome: Outcome::Ticked,
-                    handle: 0,
-                    size: 0,
-                    state,
-                }
-            }
-        }
+        self.check_tick(row, clock)?;
+        *self = self.ticked(clock, credits);
+        Ok(())
     }
 }

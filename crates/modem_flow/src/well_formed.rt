@@ -1,15 +1,13 @@
 // Whether a flow's record is well formed, with its row of the counts. Any values of its fields are taken.
-ghost use Rattle.std.specs.Prelude.{◌≡◌, ◌&&◌, ◌||◌, ◌+◌, ◌-◌, eqb};
+ghost use Rattle.std.specs.Prelude.{◌≡◌, ◌&&◌, ◌||◌, eqb};
 ghost use Rattle.units.specs.Kinds.{none};
-ghost use Rattle.pie.specs.Constants.{most_verdicts};
-ghost use Rattle.pie.specs.Verdicts.{total};
 ghost use Rattle.docsis_pie.specs.Constants.{active, quiescent};
 ghost use Rattle.laws.specs.Tests.{all};
 ghost use Rattle.modem_flow.specs.State.{formed, settings_conditions, well_formed};
 
 use crate::{Settings, State};
 use docsis_pie::{Activity, DocsisPie, FULL_ALLOWANCE, HIGH, MOST_PROB, RESET_TIMEOUT};
-use pie::{LARGEST, LATEST, LONGEST, MOST_VERDICTS};
+use pie::{LARGEST, LATEST, LONGEST};
 use refusals::counts_fit;
 use units::BytesPerSecond;
 
@@ -47,38 +45,10 @@ fn phase_fits(pie: DocsisPie) -> bool
     (at == Activity::ACTIVE.0) & still
 }
 
-// How far the counts are below 2^48 + 1: 0 where their sum is above 2^48, and 1 where it is 2^48.
-pub(crate) fn counts_left(counts: [u64; 5]) -> u64
-    ensures { result ≡ most_verdicts + 1 - total counts }
-{
-    let a = counts[0];
-    let b = counts[1];
-    let c = counts[2];
-    let d = counts[3];
-    let e = counts[4];
-    let all = MOST_VERDICTS + 1;
-    if all < a {
-        return 0;
-    }
-    if all - a < b {
-        return 0;
-    }
-    if all - a - b < c {
-        return 0;
-    }
-    if all - a - b - c < d {
-        return 0;
-    }
-    if all - a - b - c - d < e {
-        return 0;
-    }
-    all - a - b - c - d - e
-}
-
 impl State {
     // All that is asked of the record itself. The settings come last, so that the compiler knows no rate to be 0, and the product after the
     // tests that bound it.
-    pub(crate) fn formed(self) -> bool
+    fn formed(self) -> bool
         ensures { result ≡ formed self }
     {
         let settings = self.settings;
@@ -106,13 +76,10 @@ impl State {
         phase_fits(pie)
     }
 
+    #[tactic(auto, unfolding(crate::specs::State::well_formed))]
     pub fn well_formed(self, row: [u64; 5]) -> bool
         ensures { result ≡ well_formed self row }
     {
-        let counted = counts_fit(row);
-        if counted {
-            return self.formed();
-        }
-        false
+        counts_fit(row) && self.formed()
     }
 }

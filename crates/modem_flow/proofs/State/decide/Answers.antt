@@ -1,7 +1,5 @@
 -- `State::decide`: rules 1 and 2, then the drop decision.
 use native.Mathlib.Omega.{arith}
-use borrow.Author.Tests.{eq-eqb, le-ltb, lt-ltb, ne_eqb}
-use Rattle.modem_flow.specs.Arrival.{decision_of}
 use Rattle.modem_flow.proofs.Facts.{facts}
 use Rattle.modem_flow.proofs.State.decide.Goals as goal
 
@@ -15,15 +13,3 @@ decide-requires-clause-prob_le_most_prob c =
 pub decide-requires-clause-bytes_bound : goal.decide-requires-clause-bytes_bound
 decide-requires-clause-bytes_bound c =
     let f = facts c.args.self c.requires.self_value in (omega arith, c.requires.size_le_largest)
-
-pub returns-then-bytes_full : goal.returns-then-bytes_full
-unfolding decision_of
-returns-then-bytes_full c = rw (lt-ltb _ _ c.if-bytes_full.true)
-
-pub returns-then-slots_full : goal.returns-then-slots_full
-unfolding decision_of
-returns-then-slots_full c = rw (le-ltb _ _ c.if-bytes_full.false, eq-eqb _ _ c.if-slots_full.true)
-
-pub returns : goal.returns
-unfolding decision_of
-returns c = rw (le-ltb _ _ c.if-bytes_full.false, ne_eqb _ _ c.if-slots_full.false) c.decide.ensures

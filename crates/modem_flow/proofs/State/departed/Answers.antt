@@ -1,5 +1,4 @@
 -- `State::departed`: the head leaves, within a well-formed state's ranges.
-use Rattle.modem_flow.specs.Departure.{departed_state}
 use Rattle.modem_flow.proofs.Facts.{facts}
 use Rattle.modem_flow.proofs.State.departed.Goals as goal
 
@@ -7,9 +6,3 @@ pub place-first-requires : goal.place-first-requires
 place-first-requires c =
     let a = c.before.before in
     let f = facts a.args.self a.requires.self_value in (f.first-high, f.slots-low, f.slots-high)
-
-pub returns : goal.returns
-unfolding departed_state
-returns c =
-    let n = c.before.before.before in
-    rw (n.place-first.ensures, n.before.leave-backlog.ensures)

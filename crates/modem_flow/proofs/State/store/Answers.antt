@@ -1,5 +1,4 @@
 -- `State::store`: an admitted packet is stored at the tail.
-use mathlib.Core.Path.{refl}
 use Rattle.modem_flow.proofs.Facts.{facts}
 use Rattle.modem_flow.proofs.State.store.Goals as goal
 
@@ -12,15 +11,3 @@ pub store-requires-clause-handles_len : goal.store-requires-clause-handles_len
 store-requires-clause-handles_len c =
     let a = c.before.before.before.before.before.before in
     let f = facts a.args.self a.requires.self_value in a.requires.handles_len
-
-pub returns-then-admits : goal.returns-then-admits
-returns-then-admits c =
-    let s = c.before.before.before.before in
-    let e = s.before.before.before in
-    simp (← e.before.admits-admits.ensures, e.if-admits.true) s.store.ensures
-
-pub returns-else-admits-clause-handles_after : goal.returns-else-admits-clause-handles_after
-returns-else-admits-clause-handles_after c = simp (← c.before.admits-admits.ensures, c.if-admits.false) refl
-
-pub returns-else-admits-clause-sizes_after : goal.returns-else-admits-clause-sizes_after
-returns-else-admits-clause-sizes_after c = simp (← c.before.admits-admits.ensures, c.if-admits.false) refl

@@ -1,6 +1,5 @@
 -- `State::ticked`: the update, within a well-formed state's ranges.
 use native.Mathlib.Omega.{arith}
-use Rattle.modem_flow.specs.Tick.{ticked_state}
 use Rattle.modem_flow.proofs.Facts.{facts}
 use Rattle.modem_flow.proofs.State.ticked.Goals as goal
 
@@ -15,7 +14,3 @@ update-pie-requires-clause-target_bound c =
     let a = c.before.before.before in
     let f = facts a.args.self a.requires in
     (f.target-high, omega arith, f.peak-low, f.sustained-low)
-
-pub returns : goal.returns
-unfolding ticked_state
-returns c = rw c.before.before.update-pie.ensures

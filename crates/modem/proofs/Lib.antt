@@ -1,3 +1,0 @@
--- What the functions' proofs share.
-pub mod Rows
-pub mod Replies
