@@ -1,10 +1,11 @@
 -- Bytes that are stored one after the other.
 use mathlib.Core.Path.{◌≡◌, refl, ap, sym, ◌∙◌}
-use mathlib.Core.List.{List, [], ◌∷◌, ◌++◌}
-use Prim.Native.Nat.{ℕ, suc, ◌+◌, ◌*◌, ◌<◌, ◌/◌, ◌%◌}
+use mathlib.Core.List.{List, [], ◌∷◌, ◌++◌, append_assoc}
+use Prim.Native.Nat.{ℕ, suc, ◌+◌, ◌≤◌, ◌*◌, ◌<◌, ◌/◌, ◌%◌}
 use native.Mathlib.Omega.{arith}
-use lib.ListN.{set, length, length-append, take, drop}
-use lib.Seq.{sets}
+use lib.ListN.{set, length, length-append, length-drop, take, drop}
+use lib.Seq.{drop-drop, length-take-le, sets, sets-eq}
+use borrow.Rule.Slice.PartMut.{put_mid}
 use Rattle.log_codec.specs.Numbers.{bytes_of}
 use Rattle.log_codec.specs.Records.{encoded}
 use Rattle.log_codec.specs.Headers.{encoded_header}
@@ -12,60 +13,25 @@ use Rattle.log_codec.specs.declared.Header.{Header}
 use Rattle.log_codec.specs.declared.Record.{Record}
 use Rattle.log_codec.proofs.BytesOf.{low-bytes}
 
-module _ (at : ℕ) where
-  one : at + 1 ≡ suc at
-  one = omega arith
-
-  two : at + 2 ≡ suc (suc at)
-  two = omega arith
-
-  three : at + 3 ≡ suc (suc (suc at))
-  three = omega arith
-
 -- a byte is its own lowest byte
 pub byte : (l : List ℕ) (at x : ℕ) → x < 256 → set l at x ≡ sets l at (bytes_of 1 x)
 byte l at x h = let e : x % 256 ≡ x = omega arith in rw e
 
-pub pair : (l : List ℕ) (at x : ℕ) → set (set l at (x % 256)) (at + 1) (x / 256 % 256) ≡ sets l at (bytes_of 2 x)
-pair l at x = simp one
-
-pub four : (l : List ℕ) (at x : ℕ) →
-    set (set (set (set l at (x % 256)) (at + 1) (x / 256 % 256)) (at + 2) (x / 256 / 256 % 256)) (at + 3) (x / 256 / 256 / 256 % 256) ≡ sets l at (bytes_of 4 x)
-four l at x = simp (one, two, three)
+-- a part of a list that is written over
+pub part-stored : (l own : List ℕ) (at k : ℕ) {part : List ℕ} → at + k ≤ length l → length part ≡ length (take k (drop at l)) → part ≡ own →
+    put_mid at k l part ≡ sets l at own
+part-stored l own at k {part} h n e =
+    let long : length own ≡ k = ap length (sym e) ∙ n ∙ length-take-le k (drop at l) (simp length-drop (omega arith)) in
+    rw (e, sets-eq own l at (omega arith), long, drop-drop k at l) (sym (append_assoc (take at l) own (drop (at + k) l)))
 
 -- one run after another is one run
 pub sets-sets : (a b l : List ℕ) (at next : ℕ) → next ≡ at + length a → sets (sets l at a) next b ≡ sets l at (a ++ b)
 sets-sets [] b l at next e = let h : next ≡ at = omega arith in rw h
 sets-sets (x ∷ a) b l at next e = sets-sets a b (set l at x) (suc at) next (omega arith)
 
--- the lowest four of eight bytes, and the others
-pub halves : (x : ℕ) → bytes_of 4 (x % 4294967296) ++ bytes_of 4 (x / 4294967296) ≡ bytes_of 8 x
-halves x =
-    simp (b0, b1, b2, b3, b4)
-  where
-    b0 : x % 4294967296 % 256 ≡ x % 256
-    b0 = omega arith
-
-    b1 : x % 4294967296 / 256 % 256 ≡ x / 256 % 256
-    b1 = omega arith
-
-    b2 : x % 4294967296 / 256 / 256 % 256 ≡ x / 256 / 256 % 256
-    b2 = omega arith
-
-    b3 : x % 4294967296 / 256 / 256 / 256 % 256 ≡ x / 256 / 256 / 256 % 256
-    b3 = omega arith
-
-    b4 : x / 4294967296 ≡ x / 256 / 256 / 256 / 256
-    b4 = omega arith
-
 -- a run that was stored, and another after it
 pub after : (l : List ℕ) (at : ℕ) (a b : List ℕ) (next : ℕ) {m n : List ℕ} → next ≡ at + length a → m ≡ sets l at a → n ≡ sets m next b → n ≡ sets l at (a ++ b)
 after l at a b next h e f = f ∙ ap (λ (m : List ℕ). sets m next b) e ∙ sets-sets a b l at next h
-
-pub eight : (l : List ℕ) (at x : ℕ) {low high : List ℕ} → low ≡ sets l at (bytes_of 4 (x % 4294967296)) →
-    high ≡ sets low (at + 4) (bytes_of 4 (x / 4294967296)) → high ≡ sets l at (bytes_of 8 x)
-eight l at x e f =
-    after l at (bytes_of 4 (x % 4294967296)) (bytes_of 4 (x / 4294967296)) (at + 4) refl e f ∙ ap (λ (b : List ℕ). sets l at b) (halves x)
 
 -- five runs, each where the last ended
 five : (l : List ℕ) (at : ℕ) (a b c d e : List ℕ) {l1 l2 l3 l4 l5 : List ℕ} → l1 ≡ sets l at a → l2 ≡ sets l1 (at + length a) b →

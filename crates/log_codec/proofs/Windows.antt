@@ -1,7 +1,7 @@
 -- Bytes that are read one after the other.
 use mathlib.Core.Path.{◌≡◌, refl, ap, ◌∙◌}
 use mathlib.Core.List.{List, [], ◌∷◌}
-use Prim.Native.Nat.{ℕ, zero, suc, ◌+◌, ◌*◌, ◌/◌, ◌≤◌}
+use Prim.Native.Nat.{ℕ, zero, suc, ◌+◌, ◌/◌, ◌≤◌}
 use native.Mathlib.Nat.{add-zero, add-suc, add_assoc}
 use native.Mathlib.Omega.{arith}
 use lib.ListN.{get_or, take, drop, length}
@@ -23,21 +23,6 @@ window l at k (suc n) h =
 module _ (l : List ℕ) (at : ℕ) where
   pub byte : at + 1 ≤ length l → number_of (take 1 (drop at l)) ≡ get_or l at 0
   byte h = let e = simp add-zero at (window l at 0 1 (omega arith)) in rw e (omega arith)
-
-  pub pair : at + 2 ≤ length l → {b0 b1 : ℕ} → b0 ≡ get_or l at 0 → b1 ≡ get_or l (at + 1) 0 → b0 + 256 * b1 ≡ number_of (take 2 (drop at l))
-  pair h e0 e1 = let e = simp add-zero at (window l at 0 2 (omega arith)) in rw e (omega arith)
-
-  pub four : at + 4 ≤ length l → {b0 b1 b2 b3 : ℕ} → b0 ≡ get_or l at 0 → b1 ≡ get_or l (at + 1) 0 → b2 ≡ get_or l (at + 2) 0 → b3 ≡ get_or l (at + 3) 0 →
-      b0 + 256 * (b1 + 256 * (b2 + 256 * b3)) ≡ number_of (take 4 (drop at l))
-  four h e0 e1 e2 e3 = let e = simp add-zero at (window l at 0 4 (omega arith)) in rw e (omega arith)
-
-  pub eight : at + 8 ≤ length l → {low high : ℕ} → low ≡ number_of (take 4 (drop at l)) → high ≡ number_of (take 4 (drop (at + 4) l)) →
-      low + 4294967296 * high ≡ number_of (take 8 (drop at l))
-  eight h e f =
-      let w = simp add-zero at (window l at 0 8 (omega arith)) in
-      let v = simp add-zero at (window l at 0 4 (omega arith)) in
-      let u = window l at 4 4 (omega arith) in
-      rw w (omega (arith, e ∙ ap number_of v, f ∙ ap number_of u))
 
   -- of eight bytes those after the first
   pub seven : at + 8 ≤ length l → {n : ℕ} → number_of (take 1 (drop at l)) ≤ 255 → n ≡ number_of (take 8 (drop at l)) → n / 256 ≡ number_of (take 7 (drop (at + 1) l))

@@ -4,7 +4,7 @@ ghost use Rattle.std.proofs.lemmas.List.Edits.{sets};
 ghost use Rattle.log_codec.specs.Headers.{encoded_header, decoded_header};
 
 use crate::Header;
-use crate::numbers::{get1, get4, get8, put4, put8};
+use crate::numbers::{get4, get8, put4, put8};
 
 pub fn put_header(h: Header, bytes: &mut [u8], at: usize)
     requires { at + 32 ≤ length bytes.old }
@@ -29,7 +29,7 @@ pub fn get_header(bytes: &[u8], at: usize) -> Header
     let buffer = get4(bytes, at + 8);
     let slots = get4(bytes, at + 12);
     let clock = get8(bytes, at + 16);
-    let profile = get1(bytes, at + 24);
+    let profile = bytes[at + 24];
     let unused = get8(bytes, at + 24) / 256;
     Header {
         target,

@@ -10,7 +10,7 @@ pub use numbers::{get4, get8, put4, put8};
 pub use records::{get, put};
 
 // The settings, with the start clock.
-#[derive(Clone, Copy)]
+#[derive(Clone, Copy, PartialEq, Eq)]
 pub struct Header {
     pub target: u64,
     pub buffer: u32,
@@ -22,7 +22,7 @@ pub struct Header {
 }
 
 // One accepted call, its verdict, and bytes and probability after it.
-#[derive(Clone, Copy)]
+#[derive(Clone, Copy, PartialEq, Eq)]
 pub struct Record {
     // The script's letter.
     pub kind: u8,

@@ -4,15 +4,15 @@ ghost use Rattle.std.proofs.lemmas.List.Edits.{sets};
 ghost use Rattle.log_codec.specs.Records.{encoded, decoded};
 
 use crate::Record;
-use crate::numbers::{get2, get4, get8, put1, put2, put4, put8};
+use crate::numbers::{get2, get4, get8, put2, put4, put8};
 
 // The first 16 bytes: kind, flag, handle and clock.
 fn put_head(r: Record, bytes: &mut [u8], at: usize)
     requires { at + 16 ≤ length bytes.old }
     ensures { bytes.new ≡ sets bytes.old at (take 16 (encoded r)) }
 {
-    put1(r.kind, bytes, at);
-    put1(r.ecn, bytes, at + 1);
+    bytes[at] = r.kind;
+    bytes[at + 1] = r.ecn;
     put2(r.unused, bytes, at + 2);
     put4(r.handle, bytes, at + 4);
     put8(r.clock, bytes, at + 8);

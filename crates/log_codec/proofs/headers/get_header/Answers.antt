@@ -1,9 +1,12 @@
 -- `get_header` meets its contract.
-use Rattle.log_codec.proofs.Windows.{settings}
+use mathlib.Core.Path.{sym}
+use Prim.Native.Nat.{◌+◌}
+use native.Mathlib.Omega.{arith}
+use Rattle.log_codec.proofs.Windows.{byte, settings}
 use Rattle.log_codec.proofs.headers.get_header.Goals as goal
 
 pub returns : goal.returns
 returns c =
-    let s = c.before.before.before.before.before.before.before in
-    settings s.args.bytes.now s.args.at s.requires c.before.before.before.before.before.get8-target.ensures c.before.before.before.before.get4-buffer.ensures c.before.before.before.get4-slots.ensures c.before.before.get8-clock.ensures
-    c.before.get1-profile.ensures.0 c.before.get1-profile.ensures.1 c.get8-unused.ensures
+    let s = c.args in
+    settings s.bytes.now s.at c.requires c.get8-target.ensures c.get4-buffer.ensures c.get4-slots.ensures c.get8-clock.ensures
+    (sym (byte s.bytes.now (s.at + 24) (omega arith))) (omega (arith, c.type_inv.bytes (s.at + 24))) c.get8-unused.ensures

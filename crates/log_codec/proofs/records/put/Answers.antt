@@ -4,5 +4,4 @@ use Rattle.log_codec.proofs.records.put.Goals as goal
 
 pub returns : goal.returns
 returns c =
-    let s = c.before.before.before.before.before.before.before.before.before in
-    whole s.args.bytes.now s.args.at s.args.r c.before.before.before.before.before.before.put_head.ensures c.before.before.put_tail.ensures
+    let s = c.args in whole s.bytes.now s.at s.r c.put_head.ensures c.put_tail.ensures

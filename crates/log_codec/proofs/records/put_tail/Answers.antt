@@ -4,5 +4,4 @@ use Rattle.log_codec.proofs.records.put_tail.Goals as goal
 
 pub returns : goal.returns
 returns c =
-    let s = c.before.before.before.before.before.before.before.before.before.before.before.before.before.before.before.before.before.before.before.before.before in
-    tail s.args.bytes.now s.args.at s.args.r c.before.before.before.before.before.before.before.before.before.before.before.before.before.before.before.before.before.before.put4.ensures c.before.before.before.before.before.before.before.before.before.before.before.before.before.before.put4-2.ensures c.before.before.before.before.before.before.before.before.before.before.put4-3.ensures c.before.before.before.before.before.before.put4-4.ensures c.before.before.put8.ensures
+    let s = c.args in tail s.bytes.now s.at s.r c.put4.ensures c.put4-2.ensures c.put4-3.ensures c.put4-4.ensures c.put8.ensures
