@@ -3,7 +3,9 @@
 #![tactic(auto)]
 
 mod numbers;
+mod queue;
 mod room;
 
 pub use numbers::{clock_of, wide, word};
+pub use queue::{Queue, answer_each};
 pub use room::has_room;

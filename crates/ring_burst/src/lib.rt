@@ -1,7 +1,7 @@
 // One entry for a list of calls: the state record is tested once, and each call is answered as the single entries would.
 #![tactic(auto)]
 
-ghost use Rattle.std.specs.Prelude.{◌≡◌, cond, true, ◌+◌, ◌*◌, ◌≤◌, ◌<◌, length};
+ghost use Rattle.std.specs.Prelude.{◌≡◌, cond, true, ℕ, ◌+◌, ◌*◌, ◌≤◌, ◌<◌, length};
 ghost use Rattle.pie.specs.Constants.{most_verdicts};
 ghost use Rattle.pie.specs.Verdicts.{total};
 ghost use Rattle.bursts.specs.Burst.{burst, done, fits, outcome};
@@ -13,7 +13,7 @@ ghost use Rattle.ring_words.specs.Lent.{lent};
 ghost use Rattle.ring_steps.specs.Fitting.{Ready};
 ghost use Rattle.ring_burst.specs.Burst.{after, answer_to, ring_bursts};
 
-use bursts::{clock_of, has_room, wide, word};
+use bursts::{Queue, answer_each, clock_of, has_room, wide, word};
 use ring_c::{obikuteru_arrival, obikuteru_departure, obikuteru_tick, obikuteru_well_formed};
 use ring_steps::{arrive, depart, tick};
 use ring_words::{DROPPED_BYTES, DROPPED_EARLY, DROPPED_SLOTS, ENQUEUED, MARKED, SLOTS};
@@ -135,46 +135,43 @@ fn ready(w: &[u64; 23], handles: u64, sizes: u64, n: u64) -> bool
     )
 }
 
-// All calls, of a queue that is ready for so many arrivals.
-fn all_known(
-    words: &mut [u64; 23],
-    handles: &mut [u32],
-    sizes: &mut [u32],
-    calls: &[u32],
-    answers: &mut [u64],
-)
-    requires ready { Ready (lent words.old handles.old sizes.old) (length answers.old) }
-    requires calls_len { length calls.now ≡ 6 * length answers.old }
-    ensures { done ring_bursts (lent words.new handles.new sizes.new) answers.new
-        ≡ burst ring_bursts (lent words.old handles.old sizes.old)
-        calls.now answers.old (length answers.old) }
-{
-    let mut i: usize = 0;
-    while i < answers.len() {
-        let answer = known(words, handles, sizes, calls, 6 * i);
-        answers[i] = answer;
-        i += 1;
+// A queue as it is lent. Where `TESTED`, it is ready for the calls.
+#[derive(Drop)]
+struct Lent<'a, const TESTED: bool> {
+    words: &'a mut [u64; 23],
+    handles: &'a mut [u32],
+    sizes: &'a mut [u32],
+}
+
+impl Queue for Lent<'_, true> {
+    ghost kind = { ring_bursts };
+
+    ghost state = { λ q. lent q.words.now q.handles.now q.sizes.now };
+
+    ghost ready = { λ q n. Ready (lent q.words.now q.handles.now q.sizes.now) n };
+
+    ghost Names = { ℕ × ℕ × ℕ };
+
+    ghost names = { λ q. (q.words.ghost_name, q.handles.ghost_name, q.sizes.ghost_name) };
+
+    fn answer(&mut self, calls: &[u32], i: usize) -> u64 {
+        known(self.words, self.handles, self.sizes, calls, 6 * i)
     }
 }
 
-// All calls, by the single entries.
-fn all_single(
-    words: &mut [u64; 23],
-    handles: &mut [u32],
-    sizes: &mut [u32],
-    calls: &[u32],
-    answers: &mut [u64],
-)
-    requires { length calls.now ≡ 6 * length answers.old }
-    ensures { done ring_bursts (lent words.new handles.new sizes.new) answers.new
-        ≡ burst ring_bursts (lent words.old handles.old sizes.old)
-        calls.now answers.old (length answers.old) }
-{
-    let mut i: usize = 0;
-    while i < answers.len() {
-        let answer = single(words, handles, sizes, calls, 6 * i);
-        answers[i] = answer;
-        i += 1;
+impl Queue for Lent<'_, false> {
+    ghost kind = { ring_bursts };
+
+    ghost state = { λ q. lent q.words.now q.handles.now q.sizes.now };
+
+    ghost ready = { λ q n. Unit {0} };
+
+    ghost Names = { ℕ × ℕ × ℕ };
+
+    ghost names = { λ q. (q.words.ghost_name, q.handles.ghost_name, q.sizes.ghost_name) };
+
+    fn answer(&mut self, calls: &[u32], i: usize) -> u64 {
+        single(self.words, self.handles, self.sizes, calls, 6 * i)
     }
 }
 
@@ -199,9 +196,25 @@ pub extern "C" fn obikuteru_calls(
     }
     let ahead = ready(words, handles.len() as u64, sizes.len() as u64, n as u64);
     if ahead {
-        all_known(words, handles, sizes, calls, answers);
+        answer_each(
+            &mut Lent::<true> {
+                words,
+                handles,
+                sizes,
+            },
+            calls,
+            answers,
+        );
         return 0;
     }
-    all_single(words, handles, sizes, calls, answers);
+    answer_each(
+        &mut Lent::<false> {
+            words,
+            handles,
+            sizes,
+        },
+        calls,
+        answers,
+    );
     0
 }
