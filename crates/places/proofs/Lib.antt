@@ -1,0 +1,2 @@
+-- Laws about places of the ring, for the functions' proofs.
+pub mod Places
