@@ -31,16 +31,7 @@ pub fn spares(w: &[u64], k: usize, target: Micros) -> bool
     requires k_bound { (get_or w.now k 0 ≤ whole) × (get_or w.now (k + 1) 0 ≤ longest) }
     ensures { result ≡ spared (pie_at w.now k) target.0 (get_or w.now (k + 9) 0) }
 {
-    let burst = in_allowance(Micros(w[k + ALLOWANCE]));
-    if burst {
-        return true;
-    }
-    let soon = short(Micros(w[k + OLD]), target);
-    if soon {
-        let rare = light(Prob(w[k]));
-        if rare {
-            return true;
-        }
-    }
-    small(Bytes(w[k + BYTES]))
+    in_allowance(Micros(w[k + ALLOWANCE]))
+        || (short(Micros(w[k + OLD]), target) && light(Prob(w[k])))
+        || small(Bytes(w[k + BYTES]))
 }

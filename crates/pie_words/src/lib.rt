@@ -20,12 +20,5 @@ pub use updating::update;
 pub fn flag(word: u64, said: bool) -> u64
     ensures { result ≡ flag_word word said }
 {
-    let set = word != 0;
-    if set {
-        if said {
-            return word;
-        }
-        return 0;
-    }
-    said as u64
+    if said { word.max(1) } else { 0 }
 }

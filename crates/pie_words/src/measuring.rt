@@ -30,13 +30,12 @@ fn write_rate(w: &mut [u64], k: usize, ran: bool, next: Rate)
     w[k + AVERAGE] = next.average.0;
     w[k + START] = next.start.0;
     w[k + COUNTED] = next.counted.0;
-    let runs = next.measuring;
-    if !runs {
+    if next.measuring {
+        if !ran {
+            w[k + MEASURING] = 1;
+        }
+    } else {
         w[k + MEASURING] = 0;
-        return;
-    }
-    if !ran {
-        w[k + MEASURING] = 1;
     }
 }
 
@@ -50,11 +49,9 @@ pub fn measure(w: &mut [u64], k: usize, clock: Micros, size: Bytes, left: Backlo
         (rate_after (rate_at w.old k) clock.0 size.0 left.count left.bytes.0) }
 {
     let rate = rate_at(w, k);
-    let ran = rate.measuring;
-    if ran {
+    if rate.measuring {
         let counted = rate.count(clock, size, left.count);
-        let goes_on = counted.measuring;
-        if goes_on {
+        if counted.measuring {
             w[k + COUNTED] = counted.counted.0;
             return;
         }
@@ -63,8 +60,7 @@ pub fn measure(w: &mut [u64], k: usize, clock: Micros, size: Bytes, left: Backlo
         return;
     }
     let next = rate.begin(clock, left.bytes);
-    let starts = next.measuring;
-    if starts {
+    if next.measuring {
         write_rate(w, k, false, next);
     }
 }

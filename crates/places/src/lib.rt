@@ -9,10 +9,7 @@ pub fn place(first: u64, i: u64, slots: u64) -> u64
     ensures { result ≡ (first + i) % slots }
 {
     let at = first + i;
-    if at < slots {
-        return at;
-    }
-    at - slots
+    if at < slots { at } else { at - slots }
 }
 
 // The same where `i` is the count, told by the slots left: without a jump in an innermost loop (docs/PERFORMANCE.md).
@@ -22,9 +19,10 @@ pub fn tail_place(first: u64, count: u64, slots: u64) -> u64
 {
     let left = slots - count;
     if first < left {
-        return first + count;
+        first + count
+    } else {
+        first - left
     }
-    first - left
 }
 
 // The place after `first`, without a jump in an innermost loop.
@@ -33,10 +31,7 @@ pub fn following(first: u64, slots: u64) -> u64
     ensures { result ≡ (first + 1) % slots }
 {
     let last = slots - 1;
-    if first < last {
-        return first + 1;
-    }
-    0
+    if first < last { first + 1 } else { 0 }
 }
 
 // Writes a packet behind the `count` from `first` on: one element of each table.

@@ -28,5 +28,9 @@ pub fn counts_full(counts: [u64; 5]) -> bool
     requires { total counts ≤ most_verdicts }
     ensures { result ≡ eqb (total counts) most_verdicts }
 {
-    room_left(counts) == Some(0)
+    let mut sum = 0;
+    for count in counts {
+        sum += count;
+    }
+    sum == MOST_VERDICTS
 }

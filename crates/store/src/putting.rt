@@ -10,11 +10,11 @@ impl Store {
     pub fn free_place(self) -> u64
         ensures { result ≡ free_place self }
     {
-        let some = 1 <= self.spare;
-        if some {
-            return self.freed;
+        if 1 <= self.spare {
+            self.freed
+        } else {
+            self.used
         }
-        self.used
     }
 
     // The store without that place.
@@ -23,19 +23,18 @@ impl Store {
         requires { (self.freed < length sizes.now) × (self.freed < 65536) × (self.used ≤ 65536) }
         ensures { result ≡ store_after_put self sizes.now }
     {
-        let some = 1 <= self.spare;
-        if some {
+        if 1 <= self.spare {
             let freed = follow(sizes, self.freed, self.spare);
-            return Store {
-                used: self.used,
+            Store {
                 freed,
                 spare: self.spare - 1,
-            };
-        }
-        Store {
-            used: self.used + 1,
-            freed: self.freed,
-            spare: self.spare,
+                ..self
+            }
+        } else {
+            Store {
+                used: self.used + 1,
+                ..self
+            }
         }
     }
 }
@@ -46,17 +45,8 @@ impl Ends {
     pub fn put(self, count: u64, place: u64) -> Ends
         ensures { result ≡ ends_after_put self count place }
     {
-        let empty = count == 0;
-        if empty {
-            return Ends {
-                head: place,
-                tail: place,
-            };
-        }
-        Ends {
-            head: self.head,
-            tail: place,
-        }
+        let head = if count == 0 { place } else { self.head };
+        Ends { head, tail: place }
     }
 }
 
@@ -65,11 +55,9 @@ fn link(sizes: &mut [u32], ends: Ends, count: u64, place: u64)
     requires { (ends.tail < length sizes.old) × (ends.tail < 65536) × (place < 65536) }
     ensures { sizes.new ≡ linked ends count sizes.old place }
 {
-    let some = 1 <= count;
-    if some {
+    if 1 <= count {
         let last = ends.tail as usize;
-        let word = sizes[last];
-        sizes[last] = word % 65_536 + 65_536 * place as u32;
+        sizes[last] = sizes[last] % 65_536 + 65_536 * place as u32;
     }
 }
 

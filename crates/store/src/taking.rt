@@ -12,9 +12,9 @@ impl Store {
         ensures { result ≡ store_after_take self place }
     {
         Store {
-            used: self.used,
             freed: place,
             spare: self.spare + 1,
+            ..self
         }
     }
 }
@@ -26,10 +26,7 @@ impl Ends {
         ensures { result ≡ ends_after_take self count sizes.now }
     {
         let head = follow(sizes, self.head, count);
-        Ends {
-            head,
-            tail: self.tail,
-        }
+        Ends { head, ..self }
     }
 }
 
