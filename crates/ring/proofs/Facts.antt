@@ -1,12 +1,12 @@
 -- What a well-formed state's numbers are, as facts that `omega` reads.
-use mathlib.Core.Path.{◌≡◌, sym, ◌∙◌}
-use mathlib.Core.Bool.{Bool, true, false, not, ◌&&◌, ◌||◌, false≢true}
+use mathlib.Core.Path.{◌≡◌}
+use mathlib.Core.Bool.{true, not, ◌&&◌, ◌||◌}
 use mathlib.Core.List.{◌++◌}
 use Prim.Native.Nat.{ℕ, ◌*◌, ◌≤◌, ◌<◌}
-use lib.Dec.{eqb, leb}
+use lib.Dec.{eqb}
 use lib.ListN.{get_or}
-use borrow.Author.Tests.{le-leb, leb-true, lt-ltb, ltb-true, not-false, not-true}
-use Rattle.laws.proofs.TestLists.{all-at, false_of}
+use borrow.Author.Tests.{le-leb, leb-true, lt-ltb, ltb-true}
+use Rattle.laws.proofs.TestLists.{all-at}
 use Rattle.units.specs.Kinds.{whole}
 use Rattle.pie.specs.Constants.{full_allowance, largest, latest, longest, most_accumulated, most_verdicts, threshold}
 use Rattle.pie.specs.Verdicts.{total}

@@ -29,11 +29,7 @@ impl State {
         requires { well_formed self ≡ true }
         ensures { result ≡ turns_active self }
     {
-        let active = self.active;
-        if active {
-            return false;
-        }
-        self.above_third()
+        !self.active && self.above_third()
     }
 
     // Whether a tick that leaves this makes the queue inactive.

@@ -78,12 +78,10 @@ impl State {
         requires size_le_largest { size.0 ≤ largest }
         ensures { result ≡ cond (admitted v) (entered self.backlog size.0) self.backlog }
     {
-        let queued = self.backlog;
-        let admits = v.admits();
-        if admits {
-            return queued.enter(size);
+        if v.admits() {
+            return self.backlog.enter(size);
         }
-        queued
+        self.backlog
     }
 
     // The state after an arrival with this verdict. A queue that turns active begins the algorithm anew.
@@ -93,11 +91,9 @@ impl State {
         requires accumulated_value { accumulated ≡ (arrived_pie self v).accumulated }
         ensures { result ≡ arrived_state (begun self) clock.0 size.0 v }
     {
-        let counts = self.verdicts;
-        let verdicts = raise(counts, v);
+        let verdicts = raise(self.verdicts, v);
         let backlog = self.entered(size, v);
-        let turns = self.turns_active();
-        if turns {
+        if self.turns_active() {
             return State {
                 clock,
                 pie: Pie::restarted(),
@@ -107,10 +103,9 @@ impl State {
                 ..self
             };
         }
-        let before = self.pie;
         let pie = Pie {
             accumulated,
-            ..before
+            ..self.pie
         };
         State {
             clock,
@@ -130,8 +125,7 @@ impl State {
         ensures sizes_after { sizes.new
             ≡ cond (admitted v) (set sizes.old (tail_place self) size) sizes.old }
     {
-        let admits = v.admits();
-        if admits {
+        if v.admits() {
             store(
                 handles,
                 sizes,

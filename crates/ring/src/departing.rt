@@ -44,12 +44,9 @@ impl State {
             × (size.0 ≤ self.backlog.bytes.0) × (size.0 ≤ largest) }
         ensures { result ≡ departed_state self clock.0 size.0 }
     {
-        let queued = self.backlog;
-        let backlog = queued.leave(size);
-        let before = self.pie;
-        let measured = before.rate;
-        let rate = measured.depart(clock, size, backlog);
-        let pie = Pie { rate, ..before };
+        let backlog = self.backlog.leave(size);
+        let rate = self.pie.rate.depart(clock, size, backlog);
+        let pie = Pie { rate, ..self.pie };
         let first = place(self.first, 1, self.settings.slots);
         State {
             clock,

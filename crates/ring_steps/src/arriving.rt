@@ -15,11 +15,12 @@ ghost use Rattle.ring_words.specs.Lent.{lent};
 ghost use Rattle.ring_steps.specs.Fitting.{Ready};
 ghost use Rattle.ring_steps.specs.Words.{decided_words, drawn_words};
 
-use crate::codes::{REFUSED_CLOCK, REFUSED_SIZE};
+use crate::codes::refused;
 use bursts::wide;
 use pie::{LARGEST, LATEST, Verdict};
 use pie_words::{pie_at, spares};
 use places::tail_place;
+use refusals::Refusal;
 use ring_words::{
     ACCUMULATED, ACTIVE, BUFFER, BYTES, CLOCK, COUNT, FIRST, PIE, SLOTS, TARGET, VERDICTS,
     write_restart,
@@ -149,12 +150,12 @@ pub fn arrive(
 {
     let wrong_clock = (clock < w[CLOCK]) | (LATEST < clock);
     if wrong_clock {
-        return REFUSED_CLOCK;
+        return refused(Refusal::Clock);
     }
     let bytes = wide(size);
     let wrong_size = (bytes == 0) | (LARGEST < bytes);
     if wrong_size {
-        return REFUSED_SIZE;
+        return refused(Refusal::Size);
     }
     let found = w[BYTES];
     let v = take(w, handles, sizes, clock, handle, size, ecn, u);

@@ -1,10 +1,11 @@
-// The numbers of the refusals that a step gives, as the words of its answer.
-pub(crate) const REFUSED_CLOCK: u64 = ring_words::REFUSED_CLOCK as u64;
+// A refusal's number as the word of a step's answer.
+ghost use Rattle.std.specs.Prelude.{◌≡◌, ◌+◌};
+ghost use Rattle.refusals.specs.Numbers.{number_of};
 
-pub(crate) const REFUSED_TOO_SOON: u64 = ring_words::REFUSED_TOO_SOON as u64;
+use refusals::Refusal;
 
-pub(crate) const REFUSED_EMPTY: u64 = ring_words::REFUSED_EMPTY as u64;
-
-pub(crate) const REFUSED_SIZE: u64 = ring_words::REFUSED_SIZE as u64;
-
-pub(crate) const REFUSED_HEAD: u64 = ring_words::REFUSED_HEAD as u64;
+pub(crate) fn refused(refusal: Refusal) -> u64
+    ensures { result ≡ 100 + number_of refusal }
+{
+    refusals::refused(refusal) as u64
+}

@@ -7,12 +7,12 @@ ghost use Rattle.bursts.specs.Answers.{answer_word};
 ghost use Rattle.ring_words.specs.Lent.{lent};
 ghost use Rattle.ring_steps.specs.Fitting.{Fitting};
 
-use crate::codes::{REFUSED_CLOCK, REFUSED_EMPTY, REFUSED_HEAD};
+use crate::codes::refused;
 use bursts::{wide, word};
 use pie::{Backlog, LATEST};
 use pie_words::measure;
 use places::following;
-use refusals::wrong_head;
+use refusals::{Refusal, wrong_head};
 use ring_words::{BYTES, CLOCK, COUNT, FIRST, PIE, SLOTS};
 use units::{Bytes, Micros};
 
@@ -24,13 +24,13 @@ pub fn depart(w: &mut [u64; 23], handles: &[u32], sizes: &[u32], clock: u64) -> 
 {
     let wrong_clock = (clock < w[CLOCK]) | (LATEST < clock);
     if wrong_clock {
-        return REFUSED_CLOCK;
+        return refused(Refusal::Clock);
     }
     let count = w[COUNT];
     let bytes = w[BYTES];
     let empty = count == 0;
     if empty {
-        return REFUSED_EMPTY;
+        return refused(Refusal::Empty);
     }
     let first = w[FIRST];
     let at = first as usize;
@@ -42,7 +42,7 @@ pub fn depart(w: &mut [u64; 23], handles: &[u32], sizes: &[u32], clock: u64) -> 
     };
     let wrong = wrong_head(backlog, size);
     if wrong {
-        return REFUSED_HEAD;
+        return refused(Refusal::Head);
     }
     let handle = handles[at];
     let rest = backlog.leave(Bytes(size));

@@ -7,9 +7,10 @@ ghost use Rattle.refusals.specs.Codes.{code_of};
 ghost use Rattle.ring_words.specs.Codes.{words_after};
 ghost use Rattle.ring_words.specs.Words.{state_of, state_words};
 
-use crate::codes::{REFUSED_CLOCK, REFUSED_TOO_SOON};
+use crate::codes::refused;
 use pie::{LATEST, PERIOD, refills};
 use pie_words::update;
+use refusals::Refusal;
 use ring_words::{ACTIVE, BUFFER, BYTES, CLOCK, LAST, OLD, PIE, PROFILE, TARGET};
 use units::Micros;
 
@@ -46,11 +47,11 @@ pub fn tick(w: &mut [u64; 23], clock: u64) -> u64
 {
     let wrong_clock = (clock < w[CLOCK]) | (LATEST < clock);
     if wrong_clock {
-        return REFUSED_CLOCK;
+        return refused(Refusal::Clock);
     }
     let too_soon = clock < w[LAST] + PERIOD;
     if too_soon {
-        return REFUSED_TOO_SOON;
+        return refused(Refusal::TooSoon);
     }
     let calm = w[PROFILE] == 1;
     if calm {

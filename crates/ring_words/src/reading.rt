@@ -2,16 +2,13 @@
 ghost use Rattle.std.specs.Prelude.{◌≡◌, length};
 ghost use Rattle.ring_words.specs.Words.{state_of};
 
-use crate::layout::{
-    ACTIVE, BUFFER, BYTES, CLOCK, COUNT, DROPPED_BYTES, DROPPED_EARLY, DROPPED_SLOTS, ENQUEUED,
-    FIRST, LAST, MARKED, PIE, PROFILE, SLOTS, TARGET,
-};
-use pie::Backlog;
-use pie_words::pie_at;
+use crate::layout::{ACTIVE, BUFFER, CLOCK, FIRST, LAST, PIE, PROFILE, SLOTS, TARGET, VERDICTS};
+use pie_words::{backlog_at, counts_at, pie_at};
 use ring::{Settings, State};
 use units::{Bytes, Micros};
 
 // The state that the words hold, and that they are twenty-three.
+#[tactic(auto, unfolding(crate::specs::Words::state_of))]
 pub fn decode(w: [u64; 23]) -> State
     ensures { (result ≡ state_of w) × (length w ≡ 23) }
 {
@@ -21,26 +18,14 @@ pub fn decode(w: [u64; 23]) -> State
         slots: w[SLOTS],
         profile: w[PROFILE],
     };
-    let pie = pie_at(&w, PIE);
-    let backlog = Backlog {
-        count: w[COUNT],
-        bytes: Bytes(w[BYTES]),
-    };
-    let verdicts = [
-        w[ENQUEUED],
-        w[MARKED],
-        w[DROPPED_BYTES],
-        w[DROPPED_SLOTS],
-        w[DROPPED_EARLY],
-    ];
     State {
         settings,
         clock: Micros(w[CLOCK]),
         last: Micros(w[LAST]),
-        pie,
-        backlog,
+        pie: pie_at(&w, PIE),
+        backlog: backlog_at(&w, PIE),
         first: w[FIRST],
-        verdicts,
+        verdicts: counts_at(&w, VERDICTS),
         active: w[ACTIVE] != 0,
     }
 }

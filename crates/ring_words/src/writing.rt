@@ -14,14 +14,11 @@ use pie_words::flag;
 use ring::State;
 
 // The words of a state.
+#[tactic(auto, unfolding(crate::specs::Words::state_words))]
 pub fn encode(w: &mut [u64; 23], s: State)
     ensures { w.new ≡ state_words w.old s }
 {
-    let v0 = s.verdicts[0];
-    let v1 = s.verdicts[1];
-    let v2 = s.verdicts[2];
-    let v3 = s.verdicts[3];
-    let v4 = s.verdicts[4];
+    let [enqueued, marked, bytes, slots, early] = s.verdicts;
     let runs = flag(w[MEASURING], s.pie.rate.measuring);
     let active = flag(w[ACTIVE], s.active);
     *w = [
@@ -41,11 +38,11 @@ pub fn encode(w: &mut [u64; 23], s: State)
         s.backlog.count,
         s.backlog.bytes.0,
         s.first,
-        v0,
-        v1,
-        v2,
-        v3,
-        v4,
+        enqueued,
+        marked,
+        bytes,
+        slots,
+        early,
         s.settings.profile,
         active,
     ];

@@ -56,18 +56,11 @@ module _ (s : State) (clock size : ℕ) (v : Verdict) (b : Backlog) (counts : Li
   unfolding arrived_state
   alike sum t e = rw (begun-same s t, eb, ec, e)
 
-pub returns-then-turns : goal.returns-then-turns
-returns-then-turns c =
-    let r = c.before.before in
-    let t = r.before.before in
-    let n = t.before in
-    let turns = sym t.turns_active-turns.ensures ∙ r.before.if-turns.true in
-    anew _ _ _ _ _ _ n.entered-backlog.ensures n.before.raise-verdicts.ensures _ turns r.restarted.ensures
+pub returns-then-turns_active : goal.returns-then-turns_active
+returns-then-turns_active c =
+    anew _ _ _ _ _ _ c.entered-backlog.ensures c.raise-verdicts.ensures _ (sym c.turns_active.ensures ∙ c.if-turns_active.true) c.restarted.ensures
 
 pub returns : goal.returns
 returns c =
-    let e = c.before.before.before.before.before.before.before in
-    let t = e.before in
-    let n = t.before in
-    let stays = sym t.turns_active-turns.ensures ∙ e.if-turns.false in
-    alike _ _ _ _ _ _ n.entered-backlog.ensures n.before.raise-verdicts.ensures _ stays n.before.before.before.requires.accumulated_value
+    alike _ _ _ _ _ _ c.entered-backlog.ensures c.raise-verdicts.ensures _ (sym c.turns_active.ensures ∙ c.if-turns_active.false)
+    c.requires.accumulated_value

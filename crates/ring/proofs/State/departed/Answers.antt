@@ -38,22 +38,12 @@ unfolding departed_state
 departed-is s clock size b r first eb er ef = rw (er, eb, ef)
 
 pub depart-rate-requires : goal.depart-rate-requires
-depart-rate-requires c =
-    let a = c.before.before.before.before in
-    let f = facts a.args.self a.requires.self_value in omega arith
+depart-rate-requires c = let f = facts c.args.self c.requires.self_value in omega arith
 
 pub place-first-requires : goal.place-first-requires
 place-first-requires c =
-    let a = c.before.before.before.before.before.before.before.before.before in
-    let f = facts a.args.self a.requires.self_value in (f.first-high, omega arith, f.slots-high)
+    let f = facts c.args.self c.requires.self_value in (f.first-high, omega arith, f.slots-high)
 
 pub returns : goal.returns
 returns c =
-    let n = c.before.before.before in
-    let d = n.before.before.before.before.before in
-    let l = d.before.before.before in
-    let a = l.before.before.args in
-    departed-is a.self a.clock.0 a.size.0 l.leave-backlog.result d.depart-rate.result n.place-first.result
-    l.leave-backlog.ensures
-    d.depart-rate.ensures
-    n.place-first.ensures
+    departed-is c.args.self c.args.clock.0 c.args.size.0 _ _ _ c.leave-backlog.ensures c.depart-rate.ensures c.place-first.ensures

@@ -1,17 +1,7 @@
--- `State::entered`: an admitted packet enters the backlog.
+-- `State::entered`: a well-formed state's count leaves room for one more.
 use native.Mathlib.Omega.{arith}
 use Rattle.ring.proofs.Facts.{facts}
 use Rattle.ring.proofs.State.entered.Goals as goal
 
 pub enter-requires : goal.enter-requires
-enter-requires c =
-    let a = c.before.before.before in
-    let f = facts a.args.self a.requires.self_value in omega arith
-
-pub returns-then-admits : goal.returns-then-admits
-returns-then-admits c =
-    let e = c.before in
-    simp (c.enter.ensures, ← e.before.admits-admits.ensures, e.if-admits.true)
-
-pub returns : goal.returns
-returns c = simp (← c.before.admits-admits.ensures, c.if-admits.false)
+enter-requires c = let f = facts c.args.self c.requires.self_value in omega arith

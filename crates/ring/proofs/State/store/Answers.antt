@@ -1,26 +1,7 @@
 -- `State::store`: an admitted packet is stored at the tail.
-use mathlib.Core.Path.{refl}
 use Rattle.ring.proofs.Facts.{facts}
 use Rattle.ring.proofs.State.store.Goals as goal
 
 pub store-requires-clause-first_lt_slots : goal.store-requires-clause-first_lt_slots
 store-requires-clause-first_lt_slots c =
-    let a = c.before.before.before.before.before.before in
-    let f = facts a.args.self a.requires.self_value in (f.first-high, f.count-high, f.slots-high)
-
-pub store-requires-clause-handles_len : goal.store-requires-clause-handles_len
-store-requires-clause-handles_len c =
-    let a = c.before.before.before.before.before.before in
-    let f = facts a.args.self a.requires.self_value in a.requires.handles_len
-
-pub returns-then-admits : goal.returns-then-admits
-returns-then-admits c =
-    let s = c.before.before.before.before in
-    let e = s.before.before.before in
-    simp (← e.before.admits-admits.ensures, e.if-admits.true) s.store.ensures
-
-pub returns-else-admits-clause-handles_after : goal.returns-else-admits-clause-handles_after
-returns-else-admits-clause-handles_after c = simp (← c.before.admits-admits.ensures, c.if-admits.false) refl
-
-pub returns-else-admits-clause-sizes_after : goal.returns-else-admits-clause-sizes_after
-returns-else-admits-clause-sizes_after c = simp (← c.before.admits-admits.ensures, c.if-admits.false) refl
+    let f = facts c.args.self c.requires.self_value in (f.first-high, f.count-high, f.slots-high)

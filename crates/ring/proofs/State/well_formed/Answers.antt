@@ -1,5 +1,4 @@
 -- `State::well_formed`: the counts, then the rest.
-use mathlib.Core.Path.{sym}
 use Rattle.ring.proofs.Tests.{uncounted}
 use Rattle.ring.proofs.State.well_formed.Goals as goal
 

@@ -58,13 +58,13 @@ pub returns-then-wrong_clock : goal.returns-then-wrong_clock
 unfolding state_of
 returns-then-wrong_clock c =
     let q = c.requires.0 in
-    rw (arrival-late _ _ _ _ q.1 q.2 q.3 _ _ _ c.if-wrong_clock.true) (refl, refl, refl, refl)
+    rw (arrival-late _ _ _ _ q.1 q.2 q.3 _ _ _ c.if-wrong_clock.true, c.refused.ensures) (refl, refl, refl, refl)
 
 pub returns-then-wrong_size : goal.returns-then-wrong_size
 unfolding state_of
 returns-then-wrong_size c =
     let q = c.requires.0 in
-    rw (arrival-wrong _ _ _ _ q.1 q.2 q.3 _ _ _ c.if-wrong_clock.false (rw c.wide-bytes.ensures at c.if-wrong_size.true))
+    rw (arrival-wrong _ _ _ _ q.1 q.2 q.3 _ _ _ c.if-wrong_clock.false (rw c.wide-bytes.ensures at c.if-wrong_size.true), c.refused-then-wrong_size.ensures)
     (refl, refl, refl, refl)
 
 pub take-v-requires-clause-ready : goal.take-v-requires-clause-ready

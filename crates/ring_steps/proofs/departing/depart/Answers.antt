@@ -19,13 +19,13 @@ pub returns-then-wrong_clock : goal.returns-then-wrong_clock
 unfolding state_of
 returns-then-wrong_clock c =
     let q = c.requires in
-    rw (departure-late _ _ _ _ q.1 q.2 q.3 c.if-wrong_clock.true) (refl, refl)
+    rw (departure-late _ _ _ _ q.1 q.2 q.3 c.if-wrong_clock.true, c.refused.ensures) (refl, refl)
 
 pub returns-then-empty : goal.returns-then-empty
 unfolding state_of
 returns-then-empty c =
     let q = c.requires in
-    rw (departure-empty _ _ _ _ q.1 q.2 q.3 c.if-wrong_clock.false (eq-eqb _ _ c.if-empty.true)) (refl, refl)
+    rw (departure-empty _ _ _ _ q.1 q.2 q.3 c.if-wrong_clock.false (eq-eqb _ _ c.if-empty.true), c.refused-then-empty.ensures) (refl, refl)
 
 pub offset_bounds-sizes-at : goal.offset_bounds-sizes-at
 unfolding state_of
@@ -46,7 +46,7 @@ unfolding state_of
 returns-then-wrong c =
     let q = c.requires in
     let wrong = sym (rw c.wide-size.ensures at c.wrong_head-wrong.ensures) ∙ c.if-wrong.true in
-    rw (departure-wrong _ _ _ _ q.1 q.2 q.3 c.if-wrong_clock.false (ne_eqb _ _ c.if-empty.false) wrong) (refl, refl)
+    rw (departure-wrong _ _ _ _ q.1 q.2 q.3 c.if-wrong_clock.false (ne_eqb _ _ c.if-empty.false) wrong, c.refused-then-wrong.ensures) (refl, refl)
 
 pub offset_bounds-handles-at : goal.offset_bounds-handles-at
 unfolding state_of

@@ -15,7 +15,7 @@ use Rattle.ring_steps.proofs.Words.{clocked_words, ticked-words}
 
 pub returns-then-wrong_clock : goal.returns-then-wrong_clock
 unfolding state_of
-returns-then-wrong_clock c = rw (tick-late _ _ c.requires.1 c.if-wrong_clock.true) (refl, refl)
+returns-then-wrong_clock c = rw (tick-late _ _ c.requires.1 c.if-wrong_clock.true, c.refused.ensures) (refl, refl)
 
 pub overflow_add-too_soon : goal.overflow_add-too_soon
 unfolding state_of
@@ -35,7 +35,7 @@ update-requires-clause-k_bound c =
 
 pub returns-then-too_soon : goal.returns-then-too_soon
 unfolding state_of
-returns-then-too_soon c = rw (tick-early _ _ c.requires.1 c.if-wrong_clock.false (lt-ltb _ _ c.if-too_soon.true)) (refl, refl)
+returns-then-too_soon c = rw (tick-early _ _ c.requires.1 c.if-wrong_clock.false (lt-ltb _ _ c.if-too_soon.true), c.refused-then-too_soon.ensures) (refl, refl)
 
 pub tick_calm-requires : goal.tick_calm-requires
 unfolding state_of

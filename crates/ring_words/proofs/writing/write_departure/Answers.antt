@@ -1,5 +1,4 @@
 -- `write_departure`: its words, with all of the rate's or with the counted bytes alone.
-use mathlib.Core.Path.{refl}
 use Rattle.ring_words.proofs.Departures.{counted_words, rate-words}
 use Rattle.ring_words.proofs.writing.write_departure.Goals as goal
 use Rattle.ring_words.proofs.writing.write_departure.Goals.{then-rate-eq0, else-rate-eq0}
@@ -11,6 +10,3 @@ returns-clause-w_after c =
       | then-rate-eq0 w ↦ rw (w.w-is, w.flag.ensures) (rate-words _ s.clock.0 c.args.size s c.requires.0 c.requires.1)
       | else-rate-eq0 w ↦ rw w.w-is (counted_words _ s.clock.0 c.args.size s c.requires.0 c.requires.1 w.if-rate-eq0.false)
     ]
-
-pub returns-clause-packet_after : goal.returns-clause-packet_after
-returns-clause-packet_after c = refl
