@@ -16,7 +16,7 @@ use units::{Bytes, Micros};
 const LAST_FLOW: u64 = 15;
 
 // The place of a flow's row in the table; refusal 10 where there is none.
-fn row_of(flow: u64) -> Result<usize, FlowRefusal>
+pub fn row_of(flow: u64) -> Result<usize, FlowRefusal>
     ensures known { IfOk result (λ row. (row ≡ flow) × (flow_refused flow ≡ false)) }
     ensures unknown { IfErr result (λ r. (r ≡ NoFlow) × (flow_refused flow ≡ true)) }
 {
