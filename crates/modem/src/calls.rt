@@ -8,7 +8,7 @@ ghost use Rattle.modem.specs.declared.FlowRefusal.TheVariants.{NoFlow};
 
 use crate::FlowRefusal;
 use modem_flow::{Returned, Settings, State};
-use pie::{Verdict, raise};
+use pie::Verdict;
 use refusals::Packet;
 use units::{Bytes, Micros};
 
@@ -59,7 +59,7 @@ pub fn fresh(
 }
 
 // A packet of `size` bytes arrives at a flow; `u` is its random number.
-#[tactic(auto, unfolding(crate::specs::Calls::arrival, crate::specs::Calls::for_flow, crate::specs::Counts::counts_after))]
+#[tactic(auto, unfolding(crate::specs::Calls::arrival, crate::specs::Calls::for_flow, crate::specs::Counts::counts_after, pie::specs::Verdicts::raised))]
 pub fn arrival(
     state: &mut State,
     counts: &mut [[u64; 5]; 16],
@@ -79,7 +79,7 @@ pub fn arrival(
 {
     let row = row_of(flow)?;
     let v = state.arrival(counts[row], handles, sizes, clock, handle, size, u)?;
-    counts[row] = raise(counts[row], v);
+    counts[row][v.place()] += 1;
     Ok(v)
 }
 
