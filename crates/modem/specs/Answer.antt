@@ -1,5 +1,5 @@
 -- What a call returns: the answer, the flow's state, and the counts of all sixteen flows.
-use Rattle.std.specs.Prelude.{List, ℕ, ◌+◌, Result, Ok, Err, ⊤}
+use Rattle.std.specs.Prelude.{List, ℕ, Result, Ok, Err, ⊤}
 use Rattle.pie.specs.declared.Verdict.{Verdict}
 use Rattle.refusals.specs.Answer.{Answer, departed, refused, verdict}
 use Rattle.refusals.specs.Numbers as one-flow
@@ -34,8 +34,3 @@ arrival_answer r = answer_by verdict r
 
 abbrev pub departure_answer : Result Packet FlowRefusal → Answer
 departure_answer r = answer_by (λ p. departed p.handle p.size) r
-
--- what a C caller gets: a number where the call is accepted, 100 and a refusal's number where it is not
-abbrev pub code_in : Result ℕ FlowRefusal → ℕ
-code_in (Ok number) = number
-code_in (Err r) = 100 + number_of r

@@ -8,7 +8,7 @@ ghost use Rattle.modem.specs.declared.FlowRefusal.TheVariants.{NoFlow};
 
 use crate::FlowRefusal;
 use modem_flow::{Returned, Settings, State};
-use pie::{Verdict, raise};
+use pie::Verdict;
 use refusals::Packet;
 use units::{Bytes, Micros};
 
@@ -16,7 +16,7 @@ use units::{Bytes, Micros};
 const LAST_FLOW: u64 = 15;
 
 // The place of a flow's row in the table; refusal 10 where there is none.
-fn row_of(flow: u64) -> Result<usize, FlowRefusal>
+pub fn row_of(flow: u64) -> Result<usize, FlowRefusal>
     ensures known { IfOk result (λ row. (row ≡ flow) × (flow_refused flow ≡ false)) }
     ensures unknown { IfErr result (λ r. (r ≡ NoFlow) × (flow_refused flow ≡ true)) }
 {
@@ -59,7 +59,7 @@ pub fn fresh(
 }
 
 // A packet of `size` bytes arrives at a flow; `u` is its random number.
-#[tactic(auto, unfolding(crate::specs::Calls::arrival, crate::specs::Calls::for_flow, crate::specs::Counts::counts_after))]
+#[tactic(auto, unfolding(crate::specs::Calls::arrival, crate::specs::Calls::for_flow, crate::specs::Counts::counts_after, pie::specs::Verdicts::raised))]
 pub fn arrival(
     state: &mut State,
     counts: &mut [[u64; 5]; 16],
@@ -79,7 +79,7 @@ pub fn arrival(
 {
     let row = row_of(flow)?;
     let v = state.arrival(counts[row], handles, sizes, clock, handle, size, u)?;
-    counts[row] = raise(counts[row], v);
+    counts[row][v.place()] += 1;
     Ok(v)
 }
 

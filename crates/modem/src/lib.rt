@@ -13,5 +13,4 @@ pub enum FlowRefusal {
     Call(Refusal),
 }
 
-pub use calls::{arrival, departure, fresh, tick};
-pub use numbering::code;
+pub use calls::{arrival, departure, fresh, row_of, tick};

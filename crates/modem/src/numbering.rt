@@ -1,6 +1,6 @@
 // The numbers of the refusals: 10, and the flow's own.
 ghost use Rattle.std.specs.Prelude.{◌≡◌, ◌+◌, ◌≤◌};
-ghost use Rattle.modem.specs.Answer.{code_in, number_of};
+ghost use Rattle.modem.specs.Answer.{number_of};
 ghost use Rattle.modem.specs.declared.FlowRefusal.TheVariants.{Call};
 
 use crate::FlowRefusal;
@@ -15,6 +15,13 @@ impl FlowRefusal {
             FlowRefusal::Call(refusal) => refusal.number(),
         }
     }
+
+    // The number that a C caller gets for it.
+    pub fn code(self) -> u32
+        ensures { result ≡ 100 + number_of self }
+    {
+        100 + self.number()
+    }
 }
 
 impl From<Refusal> for FlowRefusal {
@@ -22,15 +29,5 @@ impl From<Refusal> for FlowRefusal {
 
     fn from(refusal: Refusal) -> FlowRefusal {
         FlowRefusal::Call(refusal)
-    }
-}
-
-// The number that a C caller gets for a call that gives this number where it is accepted: a refusal's own, with 100.
-pub fn code(answer: Result<u32, FlowRefusal>) -> u32
-    ensures { result ≡ code_in answer }
-{
-    match answer {
-        Ok(number) => number,
-        Err(refusal) => 100 + refusal.number(),
     }
 }

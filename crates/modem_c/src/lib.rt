@@ -10,9 +10,10 @@ ghost use Rattle.modem.specs.Counts.{row_of};
 ghost use Rattle.refusals.specs.Codes.{code_of, packet_of};
 ghost use Rattle.modem_words.specs.Words.{state_of, state_words};
 
-use modem_flow::{Settings, State};
+use modem::fresh;
+use modem_flow::Settings;
 use modem_steps::{lent_arrival, lent_departure, lent_tick};
-use modem_words::{Code, LAST_FLOW, clear, encode, record_fits};
+use modem_words::{encode, record_fits};
 use units::{Bytes, BytesPerSecond, Micros};
 
 #[unsafe(no_mangle)]
@@ -30,11 +31,6 @@ pub extern "C" fn obikuteru_modem_fresh(
     ensures { let a = fresh counts.old flow (settings_of target buffer slots peak sustained) clock in
         (result ≡ code_of a.answer) × (words.new ≡ state_words a.state) × (counts.new ≡ a.counts) }
 {
-    let unknown = LAST_FLOW < flow;
-    if unknown {
-        encode(words, State::zero());
-        return Code::NO_FLOW;
-    }
     let settings = Settings {
         target: Micros(target),
         buffer: Bytes(buffer),
@@ -42,17 +38,12 @@ pub extern "C" fn obikuteru_modem_fresh(
         peak: BytesPerSecond(peak),
         sustained: BytesPerSecond(sustained),
     };
-    let r = State::fresh(settings, Micros(clock));
-    let state = r.state;
-    let outcome = r.outcome;
-    encode(words, state);
-    let refusal = outcome.refusal();
-    let refused = 0 < refusal;
-    if refused {
-        return Code::REFUSED + refusal;
+    let made = fresh(counts, flow as u64, settings, Micros(clock));
+    encode(words, made.state);
+    match made.accepted {
+        Ok(()) => 0,
+        Err(refusal) => refusal.code(),
     }
-    clear(counts, flow);
-    0
 }
 
 #[unsafe(no_mangle)]

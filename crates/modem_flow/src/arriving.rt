@@ -8,15 +8,16 @@ ghost use Rattle.refusals.specs.Answer.{arrival_answer};
 ghost use Rattle.modem_flow.specs.Arrival.{arrival_refusal, arrived_state, decision_of, arrival, stored, tail_place};
 
 use crate::State;
+use crate::well_formed::counts_left;
 use docsis_pie::{Decided, DocsisPie};
 use pie::{LARGEST, LATEST, Verdict};
 use places::store;
-use refusals::{Refusal, counts_full};
+use refusals::Refusal;
 use units::{Bytes, Micros, Prob};
 
 impl State {
     // Refusals 2, 3, 4, 7 and 8.
-    #[tactic(auto, unfolding(crate::specs::Arrival::arrival_refusal))]
+    #[tactic(auto, unfolding(crate::specs::Arrival::arrival_refusal, crate::specs::State::well_formed))]
     fn check_arrival(
         self,
         row: [u64; 5],
@@ -27,8 +28,12 @@ impl State {
     ) -> Result<(), Refusal>
         ensures { refusal_in result ≡ arrival_refusal self row handles sizes clock.0 size.0 }
     {
-        let good = self.well_formed(row);
-        if !good {
+        let left = counts_left(row);
+        if left == 0 {
+            return Err(Refusal::Malformed);
+        }
+        let formed = self.formed();
+        if !formed {
             return Err(Refusal::Malformed);
         }
         let slots = self.settings.slots;
@@ -44,7 +49,7 @@ impl State {
         if wrong_size {
             return Err(Refusal::Size);
         }
-        let full = counts_full(row);
+        let full = left == 1;
         if full {
             return Err(Refusal::Counts);
         }

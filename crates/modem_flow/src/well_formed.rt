@@ -1,13 +1,15 @@
 // Whether a flow's record is well formed, with its row of the counts. Any values of its fields are taken.
-ghost use Rattle.std.specs.Prelude.{◌≡◌, ◌&&◌, ◌||◌, eqb};
+ghost use Rattle.std.specs.Prelude.{◌≡◌, ◌&&◌, ◌||◌, ◌+◌, ◌-◌, eqb};
 ghost use Rattle.units.specs.Kinds.{none};
+ghost use Rattle.pie.specs.Constants.{most_verdicts};
+ghost use Rattle.pie.specs.Verdicts.{total};
 ghost use Rattle.docsis_pie.specs.Constants.{active, quiescent};
 ghost use Rattle.laws.specs.Tests.{all};
 ghost use Rattle.modem_flow.specs.State.{formed, settings_conditions, well_formed};
 
 use crate::{Settings, State};
 use docsis_pie::{Activity, DocsisPie, FULL_ALLOWANCE, HIGH, MOST_PROB, RESET_TIMEOUT};
-use pie::{LARGEST, LATEST, LONGEST};
+use pie::{LARGEST, LATEST, LONGEST, MOST_VERDICTS};
 use refusals::counts_fit;
 use units::BytesPerSecond;
 
@@ -45,10 +47,24 @@ fn phase_fits(pie: DocsisPie) -> bool
     (at == Activity::ACTIVE.0) & still
 }
 
+// How far the counts are below 2^48 + 1: 0 where their sum is above 2^48, and 1 where it is 2^48. An arrival asks for both: by `counts_fit`
+// and `counts_full` it takes 251.1 instructions in place of 233.6.
+pub(crate) fn counts_left(counts: [u64; 5]) -> u64
+    ensures { result ≡ most_verdicts + 1 - total counts }
+{
+    let [a, b, c, d, e] = counts;
+    (MOST_VERDICTS + 1)
+        .saturating_sub(a)
+        .saturating_sub(b)
+        .saturating_sub(c)
+        .saturating_sub(d)
+        .saturating_sub(e)
+}
+
 impl State {
     // All that is asked of the record itself. The settings come last, so that the compiler knows no rate to be 0, and the product after the
     // tests that bound it.
-    fn formed(self) -> bool
+    pub(crate) fn formed(self) -> bool
         ensures { result ≡ formed self }
     {
         let settings = self.settings;
@@ -76,6 +92,8 @@ impl State {
         phase_fits(pie)
     }
 
+    // Called, and not put into its callers, it takes 42 to 72 instructions more of a call.
+    #[inline(always)]
     #[tactic(auto, unfolding(crate::specs::State::well_formed))]
     pub fn well_formed(self, row: [u64; 5]) -> bool
         ensures { result ≡ well_formed self row }

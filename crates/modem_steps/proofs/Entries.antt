@@ -1,158 +1,99 @@
--- What an entry gives, by what the flow replied.
-use mathlib.Core.Path.{◌≡◌, refl, ap, sym, ◌∙◌}
-use mathlib.Core.Bool.{true, false}
-use mathlib.Core.List.{List, [], ◌∷◌}
-use Prim.Native.Nat.{ℕ, zero, suc, ◌+◌}
+-- What a call of one of the sixteen flows is known to leave, by its answer.
+use mathlib.Core.Path.{◌≡◌, refl, sym, ◌∙◌}
+use mathlib.Core.List.{List}
+use Prim.Native.Nat.{ℕ, zero, suc}
 use native.Mathlib.Omega.{arith}
-use lib.Dec.{ltb}
-use borrow.Author.Tests.{ltb-false, ltb-true}
+use lib.ListN.{length}
 use Rattle.laws.proofs.Choice.{at-cond}
-use Rattle.refusals.specs.Answer.{Answer, departed, made, refused, ticked, verdict}
-use Rattle.modem_flow.specs.Answer.{HandsOut, Reply, answer_in, answer_of, refusal_of, reply_in, unless_refused}
-use Rattle.modem_flow.specs.Fresh.{fresh}
-use Rattle.modem_flow.specs.Refusals.{settings_refused}
-use Rattle.modem_flow.specs.declared.Outcome.{Outcome}
-use Rattle.modem_flow.specs.declared.Outcome.TheVariants.{Refused, NoFlow, Made, Decided, Departed, Ticked}
-use Rattle.modem_flow.specs.declared.Replied.{Replied}
-use Rattle.modem_flow.specs.declared.Settings.{Settings}
+use Rattle.pie.specs.declared.Verdict.{Verdict}
+use Rattle.refusals.specs.Answer.{Answer, departed, refused, ticked, verdict}
+use Rattle.modem_flow.specs.Answer.{Reply, unless_refused}
+use Rattle.modem_flow.specs.Arrival.{arrival_refusal, arrived_state, decision_of}
+use Rattle.modem_flow.specs.Arrival as flow-arrival
+use Rattle.modem_flow.specs.Departure.{departed_state, departure_refusal, head_of}
+use Rattle.modem_flow.specs.Departure as flow-departure
+use Rattle.modem_flow.specs.Tick.{tick_refusal, ticked_state}
+use Rattle.modem_flow.specs.Tick as flow-tick
 use Rattle.modem_flow.specs.declared.State.{State}
 use Rattle.modem.specs.Answer.{ModemReply}
-use Rattle.modem.specs.Calls.{flow_refused, for_flow}
-use Rattle.modem.specs.Counts.{counts_after}
-use Rattle.refusals.specs.Codes.{code_of, packet_of}
-use Rattle.modem_words.specs.Words.{state_words}
+use Rattle.modem.specs.Calls.{arrival, departure, flow_refused, for_flow, tick}
+use Rattle.modem.specs.Counts.{row_of}
+use Rattle.modem_words.specs.Words.{arrival_words, departure_words, state_of, state_words}
+use Rattle.modem_words.proofs.Changed.{arrival-words, departure-words, kept, words-taken}
 
--- the number, the words and the counts that say the reply
-abbrev pub Gives : ModemReply → (code : ℕ) (words : List ℕ) (counts : List (List ℕ)) → Type 0
-Gives q code words counts = (code ≡ code_of q.answer) × (words ≡ state_words q.state) × (counts ≡ q.counts)
+-- an answer that is no refusal
+abbrev Accepts : Answer → Type 0
+Accepts a = (n : ℕ) → a ≡ refused n → ⊥
 
--- refusal 10
-pub gives-10 : (flow : ℕ) (s : State) (counts : List (List ℕ)) (reply : Reply) (w : List ℕ) →
-    flow_refused flow ≡ true → w ≡ state_words s → Gives (for_flow flow s counts reply) 110 w counts
-unfolding for_flow
-gives-10 flow s counts reply w e h = rw e (refl, h, refl)
+-- whatever the flow is asked: a refused call returns the state that was given, and any other the accepted one
+module _ (flow : ℕ) (s : State) (counts : List (List ℕ)) (accepted : Reply) where
+  keeps : Accepts accepted.answer → (k n : ℕ) →
+      (for_flow flow s counts (unless_refused k s accepted)).answer ≡ refused n → (for_flow flow s counts (unless_refused k s accepted)).state ≡ s
+  unfolding for_flow
+  keeps clash k n = at-cond (λ (r : ModemReply). r.answer ≡ refused n → r.state ≡ s) (flow_refused flow) (λ b h. refl) (λ b. go k)
+    where
+      go : (k : ℕ) → (unless_refused k s accepted).answer ≡ refused n → (unless_refused k s accepted).state ≡ s
+      go zero h = absurd (clash n h)
+      go (suc m) h = refl
 
--- any other call
-known : (flow : ℕ) (s : State) (counts next : List (List ℕ)) (reply : Reply) (code : ℕ) (w : List ℕ) → flow_refused flow ≡ false →
-    code ≡ code_of reply.answer → w ≡ state_words reply.state → next ≡ counts_after counts flow reply.answer →
-    Gives (for_flow flow s counts reply) code w next
-unfolding for_flow
-known flow s counts next reply code w e a b c = rw e (a, b, c)
+  takes : (a : Answer) → Accepts a → (k : ℕ) →
+      (for_flow flow s counts (unless_refused k s accepted)).answer ≡ a → (for_flow flow s counts (unless_refused k s accepted)).state ≡ accepted.state
+  unfolding for_flow
+  takes a clash k = at-cond (λ (r : ModemReply). r.answer ≡ a → r.state ≡ accepted.state) (flow_refused flow) (λ b h. absurd (clash 10 (sym h))) (λ b. go k)
+    where
+      go : (k : ℕ) → (unless_refused k s accepted).answer ≡ a → (unless_refused k s accepted).state ≡ accepted.state
+      go zero h = refl
+      go (suc m) h = absurd (clash (suc m) (sym h))
 
--- ── the number of a refusal, from the answer ──
+verdict-accepts : (v : Verdict) → Accepts (verdict v)
+verdict-accepts v n e = let z : ◌≡◌ {A = ℕ} 0 1 = cc in omega arith
 
-abbrev pub number_in : Answer → ℕ
-number_in (refused number) = number
-number_in made = 0
-number_in (verdict v) = 0
-number_in (departed handle size) = 0
-number_in ticked = 0
+departed-accepts : (handle size : ℕ) → Accepts (departed handle size)
+departed-accepts handle size n e = let z : ◌≡◌ {A = ℕ} 0 1 = cc in omega arith
 
-number_of : (o : Outcome) (handle size : ℕ) → refusal_of o ≡ number_in (answer_of o handle size)
-number_of (Refused r) handle size = refl
-number_of NoFlow handle size = refl
-number_of Made handle size = refl
-number_of (Decided v) handle size = refl
-number_of Departed handle size = refl
-number_of Ticked handle size = refl
+-- ── the words, where a call is refused and where it is not ──
 
-pub number-in : (r : Replied) (reply : Reply) (n : ℕ) → reply_in r ≡ reply → n ≡ refusal_of r.outcome → n ≡ number_in reply.answer
-number-in r reply n e h = h ∙ number_of r.outcome r.handle r.size ∙ ap (λ (q : Reply). number_in q.answer) e
+module _ (w : List ℕ) (s : State) (decoded : (s ≡ state_of w) × (length w ≡ 16)) where
+  pub arrival-keeps : (counts : List (List ℕ)) (flow : ℕ) (handles sizes : List ℕ) (clock size u n : ℕ) →
+      refused n ≡ (arrival s counts flow handles sizes clock size u).answer → w ≡ state_words (arrival s counts flow handles sizes clock size u).state
+  unfolding arrival flow-arrival.arrival
+  arrival-keeps counts flow handles sizes clock size u n e =
+      let d = decision_of s size u in
+      let accepted : Reply = record { answer = verdict d.verdict; state = arrived_state s clock size d } in
+      rw (keeps flow s counts accepted (verdict-accepts d.verdict) (arrival_refusal s (row_of counts flow) (length handles) (length sizes) clock size) n (sym e))
+      (kept w s decoded)
 
-code-refused : (a : Answer) → ltb 0 (number_in a) ≡ true → 100 + number_in a ≡ code_of a
-code-refused (refused number) h = refl
-code-refused made h = absurd (omega (arith, ltb-true 0 0 h))
-code-refused (verdict v) h = absurd (omega (arith, ltb-true 0 0 h))
-code-refused (departed handle size) h = absurd (omega (arith, ltb-true 0 0 h))
-code-refused ticked h = absurd (omega (arith, ltb-true 0 0 h))
+  pub arrival-writes : (counts : List (List ℕ)) (flow : ℕ) (handles sizes : List ℕ) (clock size u : ℕ) (v : Verdict) (after : State) (next : List ℕ) →
+      verdict v ≡ (arrival s counts flow handles sizes clock size u).answer → after ≡ (arrival s counts flow handles sizes clock size u).state →
+      next ≡ arrival_words w after → next ≡ state_words (arrival s counts flow handles sizes clock size u).state
+  unfolding arrival flow-arrival.arrival
+  arrival-writes counts flow handles sizes clock size u v after next e f g =
+      let d = decision_of s size u in
+      let accepted : Reply = record { answer = verdict d.verdict; state = arrived_state s clock size d } in
+      let is = takes flow s counts accepted (verdict v) (verdict-accepts v) (arrival_refusal s (row_of counts flow) (length handles) (length sizes) clock size) (sym e) in
+      rw is (words-taken w next after accepted.state g (f ∙ is) (arrival-words w s clock size u decoded))
 
-counts-refused : (counts : List (List ℕ)) (flow : ℕ) (a : Answer) → ltb 0 (number_in a) ≡ true → counts ≡ counts_after counts flow a
-unfolding counts_after
-counts-refused counts flow (refused number) h = refl
-counts-refused counts flow made h = absurd (omega (arith, ltb-true 0 0 h))
-counts-refused counts flow (verdict v) h = absurd (omega (arith, ltb-true 0 0 h))
-counts-refused counts flow (departed handle size) h = refl
-counts-refused counts flow ticked h = refl
+  pub departure-keeps : (counts : List (List ℕ)) (flow : ℕ) (handles sizes : List ℕ) (clock n : ℕ) →
+      refused n ≡ (departure s counts flow handles sizes clock).answer → w ≡ state_words (departure s counts flow handles sizes clock).state
+  unfolding departure flow-departure.departure
+  departure-keeps counts flow handles sizes clock n e =
+      let accepted : Reply = record { answer = departed (head_of s handles) (head_of s sizes); state = departed_state s clock (head_of s sizes) } in
+      let k = departure_refusal s (row_of counts flow) (length handles) (length sizes) clock (head_of s sizes) in
+      rw (keeps flow s counts accepted (departed-accepts (head_of s handles) (head_of s sizes)) k n (sym e)) (kept w s decoded)
 
--- ── a call that its state may refuse ──
+  pub departure-writes : (counts : List (List ℕ)) (flow : ℕ) (handles sizes : List ℕ) (clock handle size : ℕ) (after : State) (next : List ℕ) →
+      departed handle size ≡ (departure s counts flow handles sizes clock).answer → after ≡ (departure s counts flow handles sizes clock).state →
+      next ≡ departure_words w after → next ≡ state_words (departure s counts flow handles sizes clock).state
+  unfolding departure flow-departure.departure
+  departure-writes counts flow handles sizes clock handle size after next e f g =
+      let accepted : Reply = record { answer = departed (head_of s handles) (head_of s sizes); state = departed_state s clock (head_of s sizes) } in
+      let k = departure_refusal s (row_of counts flow) (length handles) (length sizes) clock (head_of s sizes) in
+      let is = takes flow s counts accepted (departed handle size) (departed-accepts handle size) k (sym e) in
+      rw is (departure-words w next s after clock (head_of s sizes) decoded g (f ∙ is))
 
-module _ (s : State) (accepted : Reply) where
-  -- a refused one returns the state that was given
-  state-refused : (k : ℕ) → number_in accepted.answer ≡ 0 → ltb 0 (number_in (unless_refused k s accepted).answer) ≡ true →
-      (unless_refused k s accepted).state ≡ s
-  state-refused zero e h = absurd (omega (arith, ltb-true 0 (number_in accepted.answer) h, e))
-  state-refused (suc k) e h = refl
-
-  pub not-refused : (k : ℕ) → ltb 0 (number_in (unless_refused k s accepted).answer) ≡ false → k ≡ 0
-  not-refused zero h = refl
-  not-refused (suc k) h = absurd (omega (arith, ltb-false 0 (suc k) h))
-
-  module _ (k : ℕ) (r : Replied) (n : ℕ) (er : reply_in r ≡ unless_refused k s accepted) (en : n ≡ refusal_of r.outcome) where
-    -- no refusal: the answer and the state that were returned are those of the accepted call
-    pub taken : ltb 0 n ≡ false → k ≡ 0
-    taken h = let m = number-in r (unless_refused k s accepted) n er en in not-refused k (rw m at h)
-
-    pub state-taken : ltb 0 n ≡ false → r.state ≡ accepted.state
-    state-taken h = let e = rw (taken h) at er in ap (λ (q : Reply). q.state) e
-
-    pub answer-taken : ltb 0 n ≡ false → answer_in r ≡ accepted.answer
-    answer-taken h = let e = rw (taken h) at er in ap (λ (q : Reply). q.answer) e
-
-    module _ (flow : ℕ) (counts : List (List ℕ)) (e : flow_refused flow ≡ false) where
-      pub gives-refused : (w : List ℕ) → number_in accepted.answer ≡ 0 → ltb 0 n ≡ true → w ≡ state_words s →
-          Gives (for_flow flow s counts (unless_refused k s accepted)) (100 + n) w counts
-      gives-refused w a h ew =
-          let m = number-in r (unless_refused k s accepted) n er en in
-          let h' = rw m at h in
-          known flow s counts counts (unless_refused k s accepted) (100 + n) w e
-          (ap (λ (i : ℕ). 100 + i) m ∙ code-refused (unless_refused k s accepted).answer h')
-          (ew ∙ ap state_words (sym (state-refused k a h')))
-          (counts-refused counts flow (unless_refused k s accepted).answer h')
-
-      pub gives-accepted : (next : List (List ℕ)) (code : ℕ) (w : List ℕ) → ltb 0 n ≡ false →
-          code ≡ code_of accepted.answer → w ≡ state_words accepted.state → next ≡ counts_after counts flow accepted.answer →
-          Gives (for_flow flow s counts (unless_refused k s accepted)) code w next
-      gives-accepted next code w h a b c = rw (taken h) (known flow s counts next accepted code w e a b c)
-
--- ── the packet of a departure ──
-
-pub packet-10 : (flow : ℕ) (s : State) (counts : List (List ℕ)) (reply : Reply) → flow_refused flow ≡ true →
-    (0 ∷ 0 ∷ []) ≡ packet_of (for_flow flow s counts reply).answer
-unfolding for_flow
-packet-10 flow s counts reply e = rw e
-
-pub packet-known : (flow : ℕ) (s : State) (counts : List (List ℕ)) (reply : Reply) (r : Replied) → flow_refused flow ≡ false →
-    HandsOut r reply.answer → (r.handle ∷ r.size ∷ []) ≡ packet_of (for_flow flow s counts reply).answer
-unfolding for_flow
-packet-known flow s counts reply r e h = rw (e, h.0, h.1)
-
--- ── a fresh call ──
-
-fresh-made : (settings : Settings) (clock : ℕ) → ltb 0 (number_in (fresh settings clock).answer) ≡ false → (fresh settings clock).answer ≡ made
-unfolding fresh
-fresh-made settings clock =
-    at-cond (λ (r : Reply). ltb 0 (number_in r.answer) ≡ false → r.answer ≡ made) (settings_refused settings clock)
-    (λ b h. absurd (omega (arith, ltb-false 0 1 h)))
-    (λ b h. refl)
-
-module _ (settings : Settings) (clock flow : ℕ) (s : State) (counts : List (List ℕ)) (r : Replied) (n : ℕ) (w : List ℕ) where
-  pub gives-not-made : reply_in r ≡ fresh settings clock → n ≡ refusal_of r.outcome → ltb 0 n ≡ true → flow_refused flow ≡ false →
-      w ≡ state_words r.state → Gives (for_flow flow s counts (fresh settings clock)) (100 + n) w counts
-  gives-not-made er en h e ew =
-      let m = number-in r (fresh settings clock) n er en in
-      let h' = rw m at h in
-      known flow s counts counts (fresh settings clock) (100 + n) w e
-      (ap (λ (i : ℕ). 100 + i) m ∙ code-refused (fresh settings clock).answer h')
-      (ew ∙ ap (λ (q : Reply). state_words q.state) er)
-      (counts-refused counts flow (fresh settings clock).answer h')
-
-  pub gives_made : (next : List (List ℕ)) → reply_in r ≡ fresh settings clock → n ≡ refusal_of r.outcome → ltb 0 n ≡ false →
-      flow_refused flow ≡ false → w ≡ state_words r.state → next ≡ counts_after counts flow made →
-      Gives (for_flow flow s counts (fresh settings clock)) 0 w next
-  gives_made next er en h e ew ec =
-      let m = number-in r (fresh settings clock) n er en in
-      let f = fresh-made settings clock (rw m at h) in
-      known flow s counts next (fresh settings clock) 0 w e
-      (ap code_of (sym f))
-      (ew ∙ ap (λ (q : Reply). state_words q.state) er)
-      (ec ∙ ap (counts_after counts flow) (sym f))
+  pub tick-keeps : (counts : List (List ℕ)) (flow clock credits n : ℕ) →
+      refused n ≡ (tick s counts flow clock credits).answer → w ≡ state_words (tick s counts flow clock credits).state
+  unfolding tick flow-tick.tick
+  tick-keeps counts flow clock credits n e =
+      let accepted : Reply = record { answer = ticked; state = ticked_state s clock credits } in
+      rw (keeps flow s counts accepted (λ m h. let z : ◌≡◌ {A = ℕ} 0 1 = cc in omega arith) (tick_refusal s (row_of counts flow) clock) n (sym e)) (kept w s decoded)

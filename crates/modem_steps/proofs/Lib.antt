@@ -4,4 +4,3 @@ pub mod Decisions
 pub mod Arrivals
 pub mod Replies
 pub mod Entries
-pub mod Calls

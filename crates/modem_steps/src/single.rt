@@ -1,28 +1,13 @@
 // The calls over words as they are lent, tested or not: decoded, called and written back. Each is what its C entry does.
-ghost use Rattle.std.specs.Prelude.{◌≡◌, ℕ, ◌<◌};
-ghost use Rattle.modem_flow.specs.Answer.{answer_of};
+ghost use Rattle.std.specs.Prelude.{◌≡◌};
 ghost use Rattle.modem_flow.specs.Arrival.{stored};
 ghost use Rattle.modem.specs.Calls.{arrival, departure, tick};
 ghost use Rattle.refusals.specs.Codes.{code_of, packet_of};
-ghost use Rattle.modem_words.specs.Words.{place_in, state_of, state_words};
+ghost use Rattle.modem_words.specs.Words.{state_of, state_words};
 
-use modem_flow::Outcome;
-use modem_words::{Code, LAST_FLOW, decode, encode, raise, write_arrival, write_departure};
+use modem::{arrival, departure, tick};
+use modem_words::{decode, encode, write_arrival, write_departure};
 use units::{Bytes, Micros};
-
-// The place of a verdict's count; 0 where the outcome is no verdict.
-fn place_in(outcome: Outcome) -> usize
-    ensures { ((handle size : ℕ) → result ≡ place_in (answer_of outcome handle size)) × (result < 5) }
-{
-    match outcome {
-        Outcome::Refused(_) => 0,
-        Outcome::NoFlow => 0,
-        Outcome::Made => 0,
-        Outcome::Decided(v) => v.place(),
-        Outcome::Departed => 0,
-        Outcome::Ticked => 0,
-    }
-}
 
 pub fn lent_arrival(
     words: &mut [u64; 16],
@@ -43,14 +28,11 @@ pub fn lent_arrival(
         × (handles.new ≡ stored s a.answer handles.old handle)
         × (sizes.new ≡ stored s a.answer sizes.old size) }
 {
-    let s = decode(*words);
-    let unknown = LAST_FLOW < flow;
-    if unknown {
-        return Code::NO_FLOW;
-    }
-    let row = counts[flow as usize];
-    let r = s.arrival(
-        row,
+    let mut s = decode(*words);
+    let answer = arrival(
+        &mut s,
+        counts,
+        flow as u64,
         handles,
         sizes,
         Micros(clock),
@@ -58,17 +40,13 @@ pub fn lent_arrival(
         Bytes(size as u64),
         u,
     );
-    let state = r.state;
-    let outcome = r.outcome;
-    let refusal = outcome.refusal();
-    let refused = 0 < refusal;
-    if refused {
-        return Code::REFUSED + refusal;
+    match answer {
+        Ok(v) => {
+            write_arrival(words, s);
+            v.place() as u32
+        }
+        Err(refusal) => refusal.code(),
     }
-    write_arrival(words, state);
-    let place = place_in(outcome);
-    raise(counts, flow, place);
-    place as u32
 }
 
 pub fn lent_departure(
@@ -87,26 +65,19 @@ pub fn lent_departure(
         × (counts.now ≡ a.counts)
         × (packet.new ≡ packet_of a.answer) }
 {
-    let s = decode(*words);
-    let unknown = LAST_FLOW < flow;
-    if unknown {
-        *packet = [0, 0];
-        return Code::NO_FLOW;
+    let mut s = decode(*words);
+    let answer = departure(&mut s, counts, flow as u64, handles, sizes, Micros(clock));
+    match answer {
+        Ok(left) => {
+            *packet = [left.handle, left.size];
+            write_departure(words, s);
+            0
+        }
+        Err(refusal) => {
+            *packet = [0, 0];
+            refusal.code()
+        }
     }
-    let row = counts[flow as usize];
-    let r = s.departure(row, handles, sizes, Micros(clock));
-    let handle = r.handle;
-    let size = r.size;
-    let state = r.state;
-    let outcome = r.outcome;
-    *packet = [handle, size];
-    let refusal = outcome.refusal();
-    let refused = 0 < refusal;
-    if refused {
-        return Code::REFUSED + refusal;
-    }
-    write_departure(words, state);
-    0
 }
 
 pub fn lent_tick(
@@ -121,20 +92,19 @@ pub fn lent_tick(
         × (words.new ≡ state_words a.state)
         × (counts.now ≡ a.counts) }
 {
-    let s = decode(*words);
-    let unknown = LAST_FLOW < flow;
-    if unknown {
-        return Code::NO_FLOW;
+    let mut s = decode(*words);
+    let answer = tick(
+        &mut s,
+        counts,
+        flow as u64,
+        Micros(clock),
+        Bytes(credits as u64),
+    );
+    match answer {
+        Ok(()) => {
+            encode(words, s);
+            0
+        }
+        Err(refusal) => refusal.code(),
     }
-    let row = counts[flow as usize];
-    let r = s.tick(row, Micros(clock), Bytes(credits as u64));
-    let state = r.state;
-    let outcome = r.outcome;
-    let refusal = outcome.refusal();
-    let refused = 0 < refusal;
-    if refused {
-        return Code::REFUSED + refusal;
-    }
-    encode(words, state);
-    0
 }

@@ -8,7 +8,7 @@ mod records;
 mod testing;
 
 pub use codes::Code;
-pub use counting::{LAST_FLOW, clear, raise};
+pub use counting::raise;
 pub use numbering::Word;
 pub use records::{decode, encode, write_arrival, write_departure};
 pub use testing::record_fits;

@@ -1,30 +1,16 @@
--- `lent_departure`: refusal 10, or the number, the words and the packet of what the flow replied; the counts as they were.
-use borrow.Author.Tests.{le-ltb, lt-ltb}
-use Rattle.modem.specs.Calls.{departure}
-use Rattle.modem_words.proofs.Changed.{kept}
-use Rattle.modem_steps.proofs.Entries.{gives-10, packet-10, packet-known}
-use Rattle.modem_steps.proofs.Calls.{departure-refused, departure-taken}
+-- `lent_departure`: the words of what the call leaves, or as they were; the packet and the code are the answer's.
+use mathlib.Core.Path.{refl}
+use Rattle.modem_steps.proofs.Entries.{departure-keeps, departure-writes}
 use Rattle.modem_steps.proofs.single.lent_departure.Goals as goal
 
-pub returns-then-unknown : goal.returns-then-unknown
-unfolding departure
-returns-then-unknown c =
+pub returns-in-Ok : goal.returns-in-Ok
+returns-in-Ok c =
     let d = c.decode-s.ensures in
-    let g = gives-10 _ _ _ _ _ (lt-ltb _ _ c.if-unknown.true) (kept _ _ d) in
-    rw (← d.0) (g.0, g.1, g.2, packet-10 _ _ _ _ (lt-ltb _ _ c.if-unknown.true))
+    let a = c.in-Ok.ensures in
+    rw (← d.0) (rw (← a.0) refl, departure-writes _ _ d _ _ c.args.handles.now c.args.sizes.now _ _ _ _ _ a.0 a.1 c.write_departure.ensures, a.2, rw (← a.0) refl)
 
-pub returns-then-refused : goal.returns-then-refused
-unfolding departure
-returns-then-refused c =
+pub returns-in-Err : goal.returns-in-Err
+returns-in-Err c =
     let d = c.decode-s.ensures in
-    let k = c.departure-r.ensures in
-    let g = departure-refused _ _ _ _ _ _ _ c.departure-r.result _ _ k.0 c.refusal-refusal.ensures.0 (le-ltb _ _ c.if-unknown.false) (lt-ltb _ _ c.if-refused.true) (kept _ _ d) in
-    rw (← d.0) (g.0, g.1, g.2, packet-known _ _ _ _ c.departure-r.result (le-ltb _ _ c.if-unknown.false) k.1)
-
-pub returns : goal.returns
-unfolding departure
-returns c =
-    let d = c.decode-s.ensures in
-    let k = c.departure-r.ensures in
-    let g = departure-taken _ _ _ _ _ _ _ c.departure-r.result _ _ _ k.0 c.refusal-refusal.ensures.0 (le-ltb _ _ c.if-unknown.false) (le-ltb _ _ c.if-refused.false) d c.write_departure.ensures in
-    rw (← d.0) (g.0, g.1, g.2, packet-known _ _ _ _ c.departure-r.result (le-ltb _ _ c.if-unknown.false) k.1)
+    let a = c.in-Err.ensures in
+    rw (← d.0) (rw (← a.0) c.code.ensures, departure-keeps _ _ d _ _ c.args.handles.now c.args.sizes.now _ _ a.0, a.2, rw (← a.0) refl)
