@@ -12,7 +12,7 @@ pub use numbering::{code, refused};
 // One case for each refusal number, in order, from 1. A call answers `Result`, and a refused call changes nothing.
 #[derive(Clone, Copy, PartialEq, Eq)]
 pub enum Refusal {
-    Settings,
+    Settings = 1,
     Malformed,
     Tables,
     Clock,

@@ -110,10 +110,3 @@ well-formed s f =
       le-leb _ _ f.total-high,
       f.inactive-calm,
     )
-
--- the counts, which are tested first
-pub counted : (sum : ℕ) (b : Bool) → b ≡ leb sum most_verdicts → not b ≡ false → sum ≤ most_verdicts
-counted sum b e f = leb-true _ _ (sym e ∙ not-false b f)
-
-pub uncounted : (s : State) (b : Bool) → b ≡ leb (total s.verdicts) most_verdicts → not b ≡ true → well_formed s ≡ false
-uncounted s b e f = sym (false_of (well_formed s) (λ w. false≢true (sym (not-true b f) ∙ e ∙ le-leb _ _ (facts s w).total-high)))

@@ -1,5 +1,6 @@
 -- Laws about the queue's definitions, for the functions' proofs and for the theorems over lists of calls.
 pub mod Facts
+mod Tests
 pub mod WhenAccepted
 pub mod Replies
 pub mod Admitted

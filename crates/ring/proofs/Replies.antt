@@ -9,12 +9,10 @@ use Rattle.pie.specs.Verdicts.{admitted}
 use Rattle.pie.specs.declared.Verdict.{Verdict}
 use Rattle.ring.specs.Activity.{begun}
 use Rattle.ring.specs.Answer.{Reply, unless_refused}
-use Rattle.refusals.specs.Answer.{departed, handle_in, refused, size_in, verdict}
+use Rattle.refusals.specs.Answer.{departed, refused, size_in, verdict}
 use Rattle.ring.specs.Arrival.{arrival, arrival_refusal, arrived_state, stored, tail_place, verdict_of}
 use Rattle.ring.specs.Departure.{departed_state, departure, departure_refusal, head_of}
-use Rattle.refusals.specs.Numbers.{number_of, refusal_in}
-use Rattle.refusals.specs.declared.Accepted.{Accepted}
-use Rattle.refusals.specs.declared.Accepted.TheVariants.{No, Yes}
+use Rattle.refusals.specs.Numbers.{number_of}
 use Rattle.refusals.specs.declared.Refusal.{Refusal}
 use Rattle.refusals.specs.declared.Refusal.TheVariants.{Settings, Malformed, Tables, Clock, TooSoon, Empty, Size, Counts, Head}
 use Rattle.ring.specs.declared.State.{State}
@@ -32,47 +30,25 @@ refused-reply Counts given accepted = refl
 refused-reply Head given accepted = refl
 
 -- a refused arrival: its reply, and the tables as they were
-pub arrival-refused : (s : State) (handles sizes : List ℕ) (clock handle size : ℕ) (ecn : Bool) (u : ℕ) (checked : Accepted) (r : Refusal) →
-    checked ≡ No r →
-    refusal_in checked ≡ arrival_refusal s (length handles) (length sizes) clock size →
+pub arrival-refused : (s : State) (handles sizes : List ℕ) (clock handle size : ℕ) (ecn : Bool) (u : ℕ) (r : Refusal) →
+    number_of r ≡ arrival_refusal s (length handles) (length sizes) clock size →
     let reply = arrival s handles sizes clock size ecn u in
-    (record { answer = refused (number_of r); state = s } ≡ reply)
+    ((refused (number_of r) ≡ reply.answer) × (s ≡ reply.state))
     × ((handles ≡ stored s reply.answer handles handle) × (sizes ≡ stored s reply.answer sizes size))
 unfolding arrival
-arrival-refused s handles sizes clock handle size ecn u checked r found e = rw (← e, found, refused-reply) (refl, (refl, refl))
+arrival-refused s handles sizes clock handle size ecn u r e = rw (← e, refused-reply) ((refl, refl), (refl, refl))
 
 -- an arrival that is not refused, from what its parts return
-pub arrival-decided : (s : State) (handles sizes : List ℕ) (clock handle size : ℕ) (ecn : Bool) (u : ℕ) (checked : Accepted) (v : Verdict) (after : State) (handles' sizes' : List ℕ) →
-    checked ≡ Yes →
-    refusal_in checked ≡ arrival_refusal s (length handles) (length sizes) clock size →
+pub arrival-decided : (s : State) (handles sizes : List ℕ) (clock handle size : ℕ) (ecn : Bool) (u : ℕ) (v : Verdict) (after : State) (handles' sizes' : List ℕ) →
+    0 ≡ arrival_refusal s (length handles) (length sizes) clock size →
     v ≡ verdict_of (begun s) size ecn u →
     after ≡ arrived_state (begun s) clock size v →
     (handles' ≡ cond (admitted v) (set handles (tail_place s) handle) handles) × (sizes' ≡ cond (admitted v) (set sizes (tail_place s) size) sizes) →
     let reply = arrival s handles sizes clock size ecn u in
-    (record { answer = verdict v; state = after } ≡ reply)
+    ((verdict v ≡ reply.answer) × (after ≡ reply.state))
     × ((handles' ≡ stored s reply.answer handles handle) × (sizes' ≡ stored s reply.answer sizes size))
 unfolding arrival
-arrival-decided s handles sizes clock handle size ecn u checked v after handles' sizes' found e ev ea et =
-    rw (← e, found, ea, ← ev) (refl, et)
-
--- a refused departure, and one that is not refused
-pub departure-refused : (s : State) (handles sizes : List ℕ) (clock : ℕ) (checked : Accepted) (r : Refusal) →
-    checked ≡ No r →
-    refusal_in checked ≡ departure_refusal s (length handles) (length sizes) clock (head_of s sizes) →
-    let reply = departure s handles sizes clock in
-    (record { answer = refused (number_of r); state = s } ≡ reply) × ((0 ≡ handle_in reply.answer) × (0 ≡ size_in reply.answer))
-unfolding departure
-departure-refused s handles sizes clock checked r found e = rw (← e, found, refused-reply) (refl, (refl, refl))
-
-pub departure-taken : (s : State) (handles sizes : List ℕ) (clock : ℕ) (checked : Accepted) (after : State) →
-    checked ≡ Yes →
-    refusal_in checked ≡ departure_refusal s (length handles) (length sizes) clock (head_of s sizes) →
-    after ≡ departed_state s clock (head_of s sizes) →
-    let reply = departure s handles sizes clock in
-    (record { answer = departed (head_of s handles) (head_of s sizes); state = after } ≡ reply)
-    × ((head_of s handles ≡ handle_in reply.answer) × (head_of s sizes ≡ size_in reply.answer))
-unfolding departure
-departure-taken s handles sizes clock checked after found e ea = rw (← e, found, ea) (refl, (refl, refl))
+arrival-decided s handles sizes clock handle size ecn u v after handles' sizes' e ev ea et = rw (← e, ea, ← ev) ((refl, refl), et)
 
 -- an arrival that is answered with a verdict was not refused, and returns the state of that verdict
 pub decided : (s : State) (handles sizes : List ℕ) (clock size : ℕ) (ecn : Bool) (u : ℕ) (v : Verdict) →

@@ -6,47 +6,43 @@ ghost use Rattle.pie.specs.Verdicts.{admitted, total};
 ghost use Rattle.ring.specs.Activity.{begun};
 ghost use Rattle.ring.specs.State.{well_formed};
 ghost use Rattle.refusals.specs.Numbers.{refusal_in};
-ghost use Rattle.ring.specs.Answer.{arrival_reply};
+ghost use Rattle.refusals.specs.Answer.{arrival_answer};
 ghost use Rattle.ring.specs.Arrival.{arrival, arrival_refusal, arrived_pie, arrived_state, stored, tail_place, verdict_of};
 
-use crate::{Arrived, State};
+use crate::State;
 use pie::{Backlog, Decided, LARGEST, LATEST, Pie, Verdict, raise};
 use places::store;
-use refusals::{Accepted, ArrivalAnswer, Refusal, counts_fit, counts_full};
+use refusals::{Refusal, counts_fit, counts_full};
 use units::{Bytes, Micros, Prob};
 
 impl State {
     // Refusals 2, 3, 4, 7 and 8.
-    fn check_arrival(self, handles: u64, sizes: u64, clock: Micros, size: Bytes) -> Accepted
-        ensures { refusal_in result ≡ arrival_refusal self handles sizes clock.0 size.0 }
+    fn check_arrival(
+        self,
+        handles: &[u32],
+        sizes: &[u32],
+        clock: Micros,
+        size: Bytes,
+    ) -> Result<(), Refusal>
+        ensures { refusal_in result ≡ arrival_refusal self (length handles.now) (length sizes.now) clock.0 size.0 }
     {
-        let counts = self.verdicts;
-        let counted = counts_fit(counts);
-        if !counted {
-            return Accepted::No(Refusal::Malformed);
-        }
-        let formed = self.formed();
-        if !formed {
-            return Accepted::No(Refusal::Malformed);
+        if !counts_fit(self.verdicts) || !self.formed() {
+            return Err(Refusal::Malformed);
         }
         let slots = self.settings.slots;
-        let fit = (handles == slots) & (sizes == slots);
-        if !fit {
-            return Accepted::No(Refusal::Tables);
+        if handles.len() as u64 != slots || sizes.len() as u64 != slots {
+            return Err(Refusal::Tables);
         }
-        let wrong_clock = (clock.0 < self.clock.0) | (LATEST < clock.0);
-        if wrong_clock {
-            return Accepted::No(Refusal::Clock);
+        if clock.0 < self.clock.0 || LATEST < clock.0 {
+            return Err(Refusal::Clock);
         }
-        let wrong_size = (size.0 == 0) | (LARGEST < size.0);
-        if wrong_size {
-            return Accepted::No(Refusal::Size);
+        if size.0 == 0 || LARGEST < size.0 {
+            return Err(Refusal::Size);
         }
-        let full = counts_full(counts);
-        if full {
-            return Accepted::No(Refusal::Counts);
+        if counts_full(self.verdicts) {
+            return Err(Refusal::Counts);
         }
-        Accepted::Yes
+        Ok(())
     }
 
     // Rules 1 to 7. An inactive queue has probability 0, and one that turns active its full allowance: rules 3 to 7 enqueue in both.
@@ -150,7 +146,7 @@ impl State {
 
     // A packet of `size` bytes arrives; `u` is its random number.
     pub fn arrival(
-        self,
+        &mut self,
         handles: &mut [u32],
         sizes: &mut [u32],
         clock: Micros,
@@ -158,29 +154,18 @@ impl State {
         size: Bytes,
         ecn: bool,
         u: u32,
-    ) -> Arrived
-        ensures result_value { arrival_reply result ≡ arrival self handles.old sizes.old clock.0 size.0 ecn u }
-        ensures fact { let a = arrival self handles.old sizes.old clock.0 size.0 ecn u in
-            (handles.new ≡ stored self a.answer handles.old handle)
-            × (sizes.new ≡ stored self a.answer sizes.old size.0) }
+    ) -> Result<Verdict, Refusal>
+        ensures value { let a = arrival self.old handles.old sizes.old clock.0 size.0 ecn u in
+            (arrival_answer result ≡ a.answer) × (self.new ≡ a.state) }
+        ensures tables { let a = arrival self.old handles.old sizes.old clock.0 size.0 ecn u in
+            (handles.new ≡ stored self.old a.answer handles.old handle)
+            × (sizes.new ≡ stored self.old a.answer sizes.old size.0) }
     {
-        let checked = self.check_arrival(handles.len() as u64, sizes.len() as u64, clock, size);
-        match checked {
-            Accepted::No(refusal) => Arrived {
-                answer: ArrivalAnswer::Refused(refusal),
-                state: self,
-            },
-            Accepted::Yes => {
-                let decided = self.decide(size, ecn, u);
-                let v = decided.verdict;
-                let accumulated = decided.accumulated;
-                self.store(handles, sizes, v, handle, size.0 as u32);
-                let state = self.arrived(clock, size, v, accumulated);
-                Arrived {
-                    answer: ArrivalAnswer::Decided(v),
-                    state,
-                }
-            }
-        }
+        self.check_arrival(handles, sizes, clock, size)?;
+        let decided = self.decide(size, ecn, u);
+        let v = decided.verdict;
+        self.store(handles, sizes, v, handle, size.0 as u32);
+        *self = self.arrived(clock, size, v, decided.accumulated);
+        Ok(v)
     }
 }

@@ -3,52 +3,38 @@ ghost use Rattle.std.specs.Prelude.{◌≡◌, true, ◌≤◌, ◌<◌, length}
 ghost use Rattle.pie.specs.Constants.{largest};
 ghost use Rattle.ring.specs.State.{well_formed};
 ghost use Rattle.refusals.specs.Numbers.{refusal_in};
-ghost use Rattle.ring.specs.Answer.{departure_reply};
-ghost use Rattle.refusals.specs.Answer.{handle_in, size_in};
+ghost use Rattle.refusals.specs.Answer.{departure_answer};
 ghost use Rattle.ring.specs.Departure.{departed_state, departure, departure_refusal, head_of};
 
-use crate::{Departed, State};
+use crate::State;
 use pie::{LATEST, Pie};
 use places::place;
-use refusals::{Accepted, Refusal, counts_fit, wrong_head};
+use refusals::{Packet, Refusal, counts_fit, wrong_head};
 use units::{Bytes, Micros};
 
 impl State {
     // Refusals 2, 3, 4, 6 and 9.
-    fn check_departure(self, handles: u64, sizes: &[u32], clock: Micros) -> Accepted
+    fn check_departure(self, handles: &[u32], sizes: &[u32], clock: Micros) -> Result<(), Refusal>
         ensures { refusal_in result
-            ≡ departure_refusal self handles (length sizes.now) clock.0 (head_of self sizes.now) }
+            ≡ departure_refusal self (length handles.now) (length sizes.now) clock.0 (head_of self sizes.now) }
     {
-        let counts = self.verdicts;
-        let counted = counts_fit(counts);
-        if !counted {
-            return Accepted::No(Refusal::Malformed);
-        }
-        let formed = self.formed();
-        if !formed {
-            return Accepted::No(Refusal::Malformed);
+        if !counts_fit(self.verdicts) || !self.formed() {
+            return Err(Refusal::Malformed);
         }
         let slots = self.settings.slots;
-        let fit = (handles == slots) & (sizes.len() as u64 == slots);
-        if !fit {
-            return Accepted::No(Refusal::Tables);
+        if handles.len() as u64 != slots || sizes.len() as u64 != slots {
+            return Err(Refusal::Tables);
         }
-        let wrong_clock = (clock.0 < self.clock.0) | (LATEST < clock.0);
-        if wrong_clock {
-            return Accepted::No(Refusal::Clock);
+        if clock.0 < self.clock.0 || LATEST < clock.0 {
+            return Err(Refusal::Clock);
         }
-        let backlog = self.backlog;
-        let empty = backlog.count == 0;
-        if empty {
-            return Accepted::No(Refusal::Empty);
+        if self.backlog.count == 0 {
+            return Err(Refusal::Empty);
         }
-        let at = self.first as usize;
-        let size = sizes[at] as u64;
-        let wrong = wrong_head(backlog, size);
-        if wrong {
-            return Accepted::No(Refusal::Head);
+        if wrong_head(self.backlog, sizes[self.first as usize] as u64) {
+            return Err(Refusal::Head);
         }
-        Accepted::Yes
+        Ok(())
     }
 
     // The state after the head, of this size, has left.
@@ -75,31 +61,22 @@ impl State {
     }
 
     // The head leaves. The tables are only read.
-    pub fn departure(self, handles: &[u32], sizes: &[u32], clock: Micros) -> Departed
-        ensures result_value { departure_reply result ≡ departure self handles.now sizes.now clock.0 }
-        ensures fact { let a = departure self handles.now sizes.now clock.0 in
-            (result.handle ≡ handle_in a.answer) × (result.size ≡ size_in a.answer) }
+    pub fn departure(
+        &mut self,
+        handles: &[u32],
+        sizes: &[u32],
+        clock: Micros,
+    ) -> Result<Packet, Refusal>
+        ensures { let a = departure self.old handles.now sizes.now clock.0 in
+            (departure_answer result ≡ a.answer) × (self.new ≡ a.state) }
     {
-        let checked = self.check_departure(handles.len() as u64, sizes, clock);
-        match checked {
-            Accepted::No(refusal) => Departed {
-                accepted: Accepted::No(refusal),
-                handle: 0,
-                size: 0,
-                state: self,
-            },
-            Accepted::Yes => {
-                let at = self.first as usize;
-                let handle = handles[at];
-                let size = sizes[at];
-                let state = self.departed(clock, Bytes(size as u64));
-                Departed {
-                    accepted: Accepted::Yes,
-                    handle,
-                    size,
-                    state,
-                }
-            }
-        }
+        self.check_departure(handles, sizes, clock)?;
+        let at = self.first as usize;
+        let packet = Packet {
+            handle: handles[at],
+            size: sizes[at],
+        };
+        *self = self.departed(clock, Bytes(packet.size as u64));
+        Ok(packet)
     }
 }

@@ -5,7 +5,7 @@ ghost use Rattle.ring.specs.Fresh.{empty_state, fresh, settings_of};
 
 use crate::{Returned, Settings, State};
 use pie::{Backlog, LATEST, Pie};
-use refusals::{Accepted, Refusal};
+use refusals::Refusal;
 use units::{Bytes, Micros};
 
 // A state with nothing queued or counted.
@@ -42,7 +42,7 @@ impl State {
         if fits {
             let active = !settings.is_calm();
             return Returned {
-                accepted: Accepted::Yes,
+                accepted: Ok(()),
                 state: empty(settings, clock, Pie::restarted(), active),
             };
         }
@@ -53,7 +53,7 @@ impl State {
             profile: 0,
         };
         Returned {
-            accepted: Accepted::No(Refusal::Settings),
+            accepted: Err(Refusal::Settings),
             state: empty(none, Micros(0), Pie::unstarted(Micros(0)), false),
         }
     }

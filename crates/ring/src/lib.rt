@@ -2,7 +2,7 @@
 #![tactic(auto)]
 
 use pie::{Backlog, Pie};
-use refusals::{Accepted, ArrivalAnswer};
+use refusals::Refusal;
 use units::{Bytes, Micros};
 
 mod activity;
@@ -36,24 +36,9 @@ pub struct State {
     pub active: bool,
 }
 
-// What `fresh` and `tick` return.
+// What `fresh` returns: where it is refused, the all-zero record.
 #[derive(Clone, Copy)]
 pub struct Returned {
-    pub accepted: Accepted,
-    pub state: State,
-}
-
-#[derive(Clone, Copy)]
-pub struct Arrived {
-    pub answer: ArrivalAnswer,
-    pub state: State,
-}
-
-// The handle and size of the packet that left, or 0 and 0.
-#[derive(Clone, Copy)]
-pub struct Departed {
-    pub accepted: Accepted,
-    pub handle: u32,
-    pub size: u32,
+    pub accepted: Result<(), Refusal>,
     pub state: State,
 }

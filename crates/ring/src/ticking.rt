@@ -2,37 +2,29 @@
 ghost use Rattle.std.specs.Prelude.{◌≡◌, true};
 ghost use Rattle.ring.specs.State.{well_formed};
 ghost use Rattle.refusals.specs.Numbers.{refusal_in};
-ghost use Rattle.ring.specs.Answer.{tick_reply};
+ghost use Rattle.refusals.specs.Answer.{accepted_answer, ticked};
 ghost use Rattle.ring.specs.Tick.{tick, tick_refusal, ticked_state};
 
-use crate::{Returned, State};
+use crate::State;
 use pie::{LATEST, PERIOD};
-use refusals::{Accepted, Refusal, counts_fit};
+use refusals::{Refusal, counts_fit};
 use units::Micros;
 
 impl State {
     // Refusals 2, 4 and 5.
-    fn check_tick(self, clock: Micros) -> Accepted
+    fn check_tick(self, clock: Micros) -> Result<(), Refusal>
         ensures { refusal_in result ≡ tick_refusal self clock.0 }
     {
-        let counts = self.verdicts;
-        let counted = counts_fit(counts);
-        if !counted {
-            return Accepted::No(Refusal::Malformed);
+        if !counts_fit(self.verdicts) || !self.formed() {
+            return Err(Refusal::Malformed);
         }
-        let formed = self.formed();
-        if !formed {
-            return Accepted::No(Refusal::Malformed);
+        if clock.0 < self.clock.0 || LATEST < clock.0 {
+            return Err(Refusal::Clock);
         }
-        let wrong_clock = (clock.0 < self.clock.0) | (LATEST < clock.0);
-        if wrong_clock {
-            return Accepted::No(Refusal::Clock);
+        if clock.0 < self.last.0 + PERIOD {
+            return Err(Refusal::TooSoon);
         }
-        let too_soon = clock.0 < self.last.0 + PERIOD;
-        if too_soon {
-            return Accepted::No(Refusal::TooSoon);
-        }
-        Accepted::Yes
+        Ok(())
     }
 
     // The state after a tick. A plain queue is always active.
@@ -73,22 +65,12 @@ impl State {
     }
 
     // The periodic update.
-    pub fn tick(self, clock: Micros) -> Returned
-        ensures { tick_reply result ≡ tick self clock.0 }
+    pub fn tick(&mut self, clock: Micros) -> Result<(), Refusal>
+        ensures { let a = tick self.old clock.0 in
+            (accepted_answer result ticked ≡ a.answer) × (self.new ≡ a.state) }
     {
-        let accepted = self.check_tick(clock);
-        match accepted {
-            Accepted::No(refusal) => Returned {
-                accepted: Accepted::No(refusal),
-                state: self,
-            },
-            Accepted::Yes => {
-                let state = self.ticked(clock);
-                Returned {
-                    accepted: Accepted::Yes,
-                    state,
-                }
-            }
-        }
+        self.check_tick(clock)?;
+        *self = self.ticked(clock);
+        Ok(())
     }
 }

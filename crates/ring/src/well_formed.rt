@@ -67,11 +67,6 @@ impl State {
     pub fn well_formed(self) -> bool
         ensures { result ≡ well_formed self }
     {
-        let counts = self.verdicts;
-        let counted = counts_fit(counts);
-        if !counted {
-            return false;
-        }
-        self.formed()
+        counts_fit(self.verdicts) && self.formed()
     }
 }

@@ -9,15 +9,16 @@ use Rattle.pie.specs.Constants.{most_verdicts}
 use Rattle.pie.specs.Verdicts.{place_of}
 use Rattle.pie.proofs.Counts.{count-le-total}
 use Rattle.pie.specs.declared.Verdict.{Verdict}
-use Rattle.refusals.specs.declared.Accepted.{Accepted}
-use Rattle.refusals.specs.declared.Accepted.TheVariants.{Yes}
+use Rattle.refusals.specs.declared.Packet.{Packet}
+use Rattle.refusals.specs.Codes.{code_of}
 use Rattle.ring.specs.Answer.{Reply}
-use Rattle.refusals.specs.Answer.{accepted_answer, departed, verdict}
+use Rattle.refusals.specs.Answer.{departed, verdict}
 use Rattle.ring.specs.Arrival.{arrival}
 use Rattle.ring.specs.Departure.{departed_state, departure}
 use Rattle.ring.specs.declared.State.{State}
 use Rattle.ring.proofs.Replies.{decided, taken}
 use Rattle.ring.proofs.WhenAccepted.{arrival-accepted}
+use Rattle.ring_words.specs.Codes.{words_after}
 use Rattle.ring_words.specs.Words.{arrival_words, restarted_words, state_of, state_words}
 use Rattle.ring_words.proofs.Arrivals.{arrival-words}
 use Rattle.ring_words.proofs.Words.{count_word}
@@ -40,13 +41,16 @@ module _ (w handles sizes : List ℕ) (clock size : ℕ) (ecn : Bool) (u : ℕ) 
       let d = decided (state_of w) handles sizes clock size ecn u v e in
       rw (← f, d.1) (arrival-words w h clock size v)
 
+-- the code and the words of an arrival that is decided
+pub decided-gives : {q : Reply} {s : State} {v : Verdict} {n : ℕ} (w after : List ℕ) →
+    verdict v ≡ q.answer → s ≡ q.state → n ≡ place_of v → after ≡ state_words w s → (n ≡ code_of q.answer) × (after ≡ words_after q w)
+decided-gives w after e f h k = rw (← e, ← f) (h, k)
+
 -- the state that an accepted departure returns
-pub departed-as : (s : State) (handles sizes : List ℕ) (clock handle size : ℕ) (a : Accepted) (after : State) →
-    record { answer = accepted_answer a (departed handle size); state = after } ≡ departure s handles sizes clock → a ≡ Yes →
-    after ≡ departed_state s after.clock.0 size
+pub departed-as : (s : State) (handles sizes : List ℕ) (clock : ℕ) (left : Packet) (after : State) →
+    let reply = departure s handles sizes clock in
+    departed left.handle left.size ≡ reply.answer → after ≡ reply.state → after ≡ departed_state s after.clock.0 left.size
 unfolding departed_state
-departed-as s handles sizes clock handle size a after e f =
-    let told : (departure s handles sizes clock).answer ≡ departed handle size =
-    sym (ap (λ (r : Reply). r.answer) e) ∙ ap (λ x. accepted_answer x (departed handle size)) f in
-    let left : after ≡ departed_state s clock size = ap (λ (r : Reply). r.state) e ∙ taken s handles sizes clock handle size told in
-    left ∙ ap (λ n. departed_state s n size) (sym (ap (λ (q : State). q.clock.0) left))
+departed-as s handles sizes clock left after e f =
+    let is : after ≡ departed_state s clock left.size = f ∙ taken s handles sizes clock left.handle left.size (sym e) in
+    is ∙ ap (λ n. departed_state s n left.size) (sym (ap (λ (q : State). q.clock.0) is))

@@ -10,7 +10,7 @@ ghost use Rattle.ring_words.specs.Lent.{code_to, leaves, lent, reply_to};
 ghost use Rattle.refusals.specs.Codes.{code_of, packet_of};
 ghost use Rattle.calls.specs.Requests.{ask_arrival, ask_departure, ask_tick};
 
-use refusals::{Accepted, ArrivalAnswer, refused};
+use refusals::refused;
 use ring::State;
 use ring_words::{decode, encode, write_arrival, write_departure};
 use units::{Bytes, Micros};
@@ -29,12 +29,10 @@ pub extern "C" fn obikuteru_fresh(
 {
     *words = [0; 23];
     let r = State::fresh(Micros(target), Bytes(buffer), slots, profile, Micros(clock));
-    let state = r.state;
-    encode(words, state);
-    let accepted = r.accepted;
-    match accepted {
-        Accepted::Yes => 0,
-        Accepted::No(refusal) => refused(refusal),
+    encode(words, r.state);
+    match r.accepted {
+        Ok(()) => 0,
+        Err(refusal) => refused(refusal),
     }
 }
 
@@ -56,8 +54,9 @@ pub extern "C" fn obikuteru_arrival(
         × (handles.new ≡ (leaves q asked).handles)
         × (sizes.new ≡ (leaves q asked).sizes) }
 {
-    let s = decode(*words);
-    let r = s.arrival(
+    let mut s = decode(*words);
+    let active = s.active;
+    let answer = s.arrival(
         handles,
         sizes,
         Micros(clock),
@@ -66,11 +65,9 @@ pub extern "C" fn obikuteru_arrival(
         ecn,
         u,
     );
-    let state = r.state;
-    let answer = r.answer;
     match answer {
-        ArrivalAnswer::Refused(refusal) => refused(refusal),
-        ArrivalAnswer::Decided(v) => write_arrival(words, state, v, !s.active & state.active),
+        Ok(v) => write_arrival(words, s, v, !active & s.active),
+        Err(refusal) => refused(refusal),
     }
 }
 
@@ -88,20 +85,15 @@ pub extern "C" fn obikuteru_departure(
         × (words.new ≡ (leaves q asked).words)
         × (packet.new ≡ packet_of (reply_to q asked).answer) }
 {
-    let s = decode(*words);
-    let r = s.departure(handles, sizes, Micros(clock));
-    let handle = r.handle;
-    let size = r.size;
-    let state = r.state;
-    let accepted = r.accepted;
-    match accepted {
-        Accepted::No(refusal) => {
-            *packet = [handle, size];
-            refused(refusal)
-        }
-        Accepted::Yes => {
-            write_departure(words, packet, state, handle, size);
+    let mut s = decode(*words);
+    match s.departure(handles, sizes, Micros(clock)) {
+        Ok(left) => {
+            write_departure(words, packet, s, left.handle, left.size);
             0
+        }
+        Err(refusal) => {
+            *packet = [0, 0];
+            refused(refusal)
         }
     }
 }
@@ -111,16 +103,13 @@ pub extern "C" fn obikuteru_tick(words: &mut [u64; 23], clock: u64) -> u32
     ensures { let q = lent words.old [] [] in
         (result ≡ code_to q (ask_tick clock)) × (words.new ≡ (leaves q (ask_tick clock)).words) }
 {
-    let s = decode(*words);
-    let r = s.tick(Micros(clock));
-    let state = r.state;
-    let accepted = r.accepted;
-    match accepted {
-        Accepted::No(refusal) => refused(refusal),
-        Accepted::Yes => {
-            encode(words, state);
+    let mut s = decode(*words);
+    match s.tick(Micros(clock)) {
+        Ok(()) => {
+            encode(words, s);
             0
         }
+        Err(refusal) => refused(refusal),
     }
 }
 
@@ -128,6 +117,5 @@ pub extern "C" fn obikuteru_tick(words: &mut [u64; 23], clock: u64) -> u32
 pub extern "C" fn obikuteru_well_formed(words: &[u64; 23]) -> bool
     ensures { result ≡ well_formed (state_of words.now) }
 {
-    let s = decode(*words);
-    s.well_formed()
+    decode(*words).well_formed()
 }

@@ -1,6 +1,6 @@
 // States that an example starts from, changed one number at a time, and one call on each.
+use crate::print::Answered;
 use pie::{Backlog, Pie, Rate};
-use refusals::{Accepted, ArrivalAnswer};
 use ring::{Settings, State};
 use units::{Bytes, Micros, Prob};
 
@@ -109,12 +109,12 @@ impl Situation {
         }
     }
 
-    // A packet of 1,000 bytes, not ECN-capable, arrives: the place of the verdict's count, or 100 and a refusal's number.
-    pub(crate) fn arrival(self, u: u32) -> u64 {
+    // A packet of 1,000 bytes, not ECN-capable, arrives.
+    pub(crate) fn arrival(self, u: u32) -> Answered {
         let mut handles = [0u32; 4];
         let mut sizes = [0u32; 4];
-        let state = self.state();
-        let r = state.arrival(
+        let mut s = self.state();
+        Answered(s.arrival(
             &mut handles,
             &mut sizes,
             Micros(0),
@@ -122,27 +122,6 @@ impl Situation {
             Bytes(1_000),
             false,
             u,
-        );
-        let answer = r.answer;
-        match answer {
-            ArrivalAnswer::Decided(v) => v.place() as u64,
-            ArrivalAnswer::Refused(refusal) => 100 + refusal.number() as u64,
-        }
-    }
-}
-
-// The state after a tick at this clock.
-pub(crate) fn ticked(s: State, clock: u64) -> State {
-    let r = s.tick(Micros(clock));
-    r.state
-}
-
-// The number by which a tick at this clock is refused, or 0.
-pub(crate) fn tick_refusal(s: State, clock: u64) -> u64 {
-    let r = s.tick(Micros(clock));
-    let accepted = r.accepted;
-    match accepted {
-        Accepted::Yes => 0,
-        Accepted::No(refusal) => refusal.number() as u64,
+        ))
     }
 }

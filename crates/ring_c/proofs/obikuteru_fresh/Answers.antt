@@ -4,8 +4,8 @@ use lib.ListN.{replicate}
 use Rattle.ring_words.proofs.Words.{over_zeros}
 use Rattle.ring_c.proofs.obikuteru_fresh.Goals as goal
 
-pub returns-in-Yes-clause-words_after : goal.returns-in-Yes-clause-words_after
-returns-in-Yes-clause-words_after c = rw (← c.fresh-r.ensures) (c.encode.ensures ∙ over_zeros (replicate 23 0) _ refl refl)
+pub returns-in-Ok-clause-words_after : goal.returns-in-Ok-clause-words_after
+returns-in-Ok-clause-words_after c = rw (← c.fresh-r.ensures) (c.encode.ensures ∙ over_zeros (replicate 23 0) _ refl refl)
 
-pub returns-in-No-clause-words_after : goal.returns-in-No-clause-words_after
-returns-in-No-clause-words_after c = rw (← c.fresh-r.ensures) (c.encode.ensures ∙ over_zeros (replicate 23 0) _ refl refl)
+pub returns-in-Err-clause-words_after : goal.returns-in-Err-clause-words_after
+returns-in-Err-clause-words_after c = rw (← c.fresh-r.ensures) (c.encode.ensures ∙ over_zeros (replicate 23 0) _ refl refl)

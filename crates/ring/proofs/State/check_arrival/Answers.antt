@@ -1,66 +1,65 @@
 -- `State::check_arrival`: each test in turn is the definition's own.
-use mathlib.Core.Bool.{not}
-use mathlib.Core.Path.{ap}
 use Rattle.ring.specs.Arrival.{arrival_refusal}
-use Rattle.ring.proofs.Facts.{uncounted}
+use Rattle.ring.proofs.Tests.{clock-right, clock-wrong, size-right, size-wrong, tables-right, tables-wrong, uncounted}
+use Rattle.ring.proofs.State.check_arrival.Goals.{then-not-counts_fit-via-then-not-counts_fit, then-not-counts_fit-via-else-not-counts_fit+then-not-formed}
 use Rattle.ring.proofs.State.check_arrival.Goals as goal
 
-pub returns-then-not-formed : goal.returns-then-not-formed
+pub returns-then-not-counts_fit : goal.returns-then-not-counts_fit
 unfolding arrival_refusal
-returns-then-not-formed c = simp (← c.before.formed-formed.ensures, c.if-not-formed.true)
+returns-then-not-counts_fit c =
+    elim c.then-not-counts_fit.branch [
+      | then-not-counts_fit-via-then-not-counts_fit w ↦ simp (uncounted c.args.self _ c.counts_fit.ensures w.if-not-counts_fit.true)
+      | then-not-counts_fit-via-else-not-counts_fit+then-not-formed w ↦ simp (← w.formed.ensures, w.if-not-formed.true)
+    ]
 
-pub returns-then-not-fit : goal.returns-then-not-fit
+pub returns-then-handles-slots : goal.returns-then-handles-slots
 unfolding arrival_refusal
-returns-then-not-fit c =
-    let e2 = c.before in simp (← e2.before.formed-formed.ensures, e2.if-not-formed.false, c.if-not-fit.true)
+returns-then-handles-slots c =
+    simp (← c.formed.ensures, c.if-not-formed.false, tables-wrong c.args.self _ _ c.then-handles-slots.either)
 
-pub returns-then-wrong_clock : goal.returns-then-wrong_clock
+pub returns-then-clock-self : goal.returns-then-clock-self
 unfolding arrival_refusal
-returns-then-wrong_clock c =
-    let e3 = c.before.before.before.before in
-    let e2 = e3.before in simp (← e2.before.formed-formed.ensures, e2.if-not-formed.false, e3.if-not-fit.false, c.if-wrong_clock.true)
-
-pub returns-then-wrong_size : goal.returns-then-wrong_size
-unfolding arrival_refusal
-returns-then-wrong_size c =
-    let e4 = c.before.before.before in
-    let e3 = e4.before.before.before.before in
-    let e2 = e3.before in simp (← e2.before.formed-formed.ensures, e2.if-not-formed.false, e3.if-not-fit.false, e4.if-wrong_clock.false, c.if-wrong_size.true)
-
-pub returns-then-full : goal.returns-then-full
-unfolding arrival_refusal
-returns-then-full c =
-    let e5 = c.before.before in
-    let e4 = e5.before.before.before in
-    let e3 = e4.before.before.before.before in
-    let e2 = e3.before in
+returns-then-clock-self c =
     simp (
-      ← e2.before.formed-formed.ensures,
-      e2.if-not-formed.false,
-      e3.if-not-fit.false,
-      e4.if-wrong_clock.false,
-      e5.if-wrong_size.false,
-      ← c.before.counts_full-full.ensures,
-      c.if-full.true,
+      ← c.formed.ensures,
+      c.if-not-formed.false,
+      tables-right c.args.self _ _ c.if-handles-slots.false c.if-sizes-slots.false,
+      clock-wrong c.args.self c.args.clock.0 c.then-clock-self.either,
+    )
+
+pub returns-then-size-eq0 : goal.returns-then-size-eq0
+unfolding arrival_refusal
+returns-then-size-eq0 c =
+    simp (
+      ← c.formed.ensures,
+      c.if-not-formed.false,
+      tables-right c.args.self _ _ c.if-handles-slots.false c.if-sizes-slots.false,
+      clock-right c.args.self c.args.clock.0 c.if-clock-self.false c.if-clock-gt-LATEST.false,
+      size-wrong c.args.size.0 c.then-size-eq0.either,
+    )
+
+pub returns-then-counts_full : goal.returns-then-counts_full
+unfolding arrival_refusal
+returns-then-counts_full c =
+    simp (
+      ← c.formed.ensures,
+      c.if-not-formed.false,
+      tables-right c.args.self _ _ c.if-handles-slots.false c.if-sizes-slots.false,
+      clock-right c.args.self c.args.clock.0 c.if-clock-self.false c.if-clock-gt-LATEST.false,
+      size-right c.args.size.0 c.if-size-eq0.false c.if-size-gt-LARGEST.false,
+      ← c.counts_full.ensures,
+      c.if-counts_full.true,
     )
 
 pub returns : goal.returns
 unfolding arrival_refusal
 returns c =
-    let e5 = c.before.before in
-    let e4 = e5.before.before.before in
-    let e3 = e4.before.before.before.before in
-    let e2 = e3.before in
     simp (
-      ← e2.before.formed-formed.ensures,
-      e2.if-not-formed.false,
-      e3.if-not-fit.false,
-      e4.if-wrong_clock.false,
-      e5.if-wrong_size.false,
-      ← c.before.counts_full-full.ensures,
-      c.if-full.false,
+      ← c.formed.ensures,
+      c.if-not-formed.false,
+      tables-right c.args.self _ _ c.if-handles-slots.false c.if-sizes-slots.false,
+      clock-right c.args.self c.args.clock.0 c.if-clock-self.false c.if-clock-gt-LATEST.false,
+      size-right c.args.size.0 c.if-size-eq0.false c.if-size-gt-LARGEST.false,
+      ← c.counts_full.ensures,
+      c.if-counts_full.false,
     )
-
-pub returns-then-not-counted : goal.returns-then-not-counted
-unfolding arrival_refusal
-returns-then-not-counted c = simp (uncounted c.args.self c.counts_fit-counted.result c.counts_fit-counted.ensures (ap not c.if-not-counted.true))

@@ -1,76 +1,81 @@
 -- `State::check_departure`: each test in turn is the definition's own; the head is read once the tables are known to fit.
-use borrow.Author.Tests.{eq-eqb, eqb-true, ne_eqb}
-use mathlib.Core.Bool.{not}
-use mathlib.Core.Path.{◌≡◌, ap, sym, ◌∙◌}
+use borrow.Author.Tests.{eq-eqb, ne_eqb}
+use mathlib.Core.Path.{sym, ◌∙◌}
 use native.Mathlib.Omega.{arith}
-use lib.Dec.{eqb}
-use lib.ListN.{length}
+use Rattle.ring.proofs.Facts.{facts}
 use Rattle.ring.specs.Departure.{departure_refusal}
-use Rattle.ring.proofs.Facts.{facts, uncounted}
-use Rattle.laws.proofs.Tests.{and_right}
+use Rattle.ring.proofs.Tests.{clock-right, clock-wrong, tables-right, tables-wrong, uncounted}
+use Rattle.ring.proofs.State.check_departure.Goals.{then-not-counts_fit-via-then-not-counts_fit, then-not-counts_fit-via-else-not-counts_fit+then-not-formed}
 use Rattle.ring.proofs.State.check_departure.Goals as goal
 
-pub returns-then-not-formed : goal.returns-then-not-formed
+pub returns-then-not-counts_fit : goal.returns-then-not-counts_fit
 unfolding departure_refusal
-returns-then-not-formed c = simp (← c.before.formed-formed.ensures, c.if-not-formed.true)
+returns-then-not-counts_fit c =
+    elim c.then-not-counts_fit.branch [
+      | then-not-counts_fit-via-then-not-counts_fit w ↦ simp (uncounted c.args.self _ c.counts_fit.ensures w.if-not-counts_fit.true)
+      | then-not-counts_fit-via-else-not-counts_fit+then-not-formed w ↦ simp (← w.formed.ensures, w.if-not-formed.true)
+    ]
 
-pub returns-then-not-fit : goal.returns-then-not-fit
+pub returns-then-handles-slots : goal.returns-then-handles-slots
 unfolding departure_refusal
-returns-then-not-fit c =
-    let e2 = c.before in simp (← e2.before.formed-formed.ensures, e2.if-not-formed.false, c.if-not-fit.true)
+returns-then-handles-slots c =
+    simp (← c.formed.ensures, c.if-not-formed.false, tables-wrong c.args.self _ _ c.then-handles-slots.either)
 
-pub returns-then-wrong_clock : goal.returns-then-wrong_clock
+pub returns-then-clock-self : goal.returns-then-clock-self
 unfolding departure_refusal
-returns-then-wrong_clock c =
-    let e3 = c.before.before.before.before in
-    let e2 = e3.before in simp (← e2.before.formed-formed.ensures, e2.if-not-formed.false, e3.if-not-fit.false, c.if-wrong_clock.true)
-
-pub returns-then-empty : goal.returns-then-empty
-unfolding departure_refusal
-returns-then-empty c =
-    let e4 = c.before.before.before in
-    let e3 = e4.before.before.before.before in
-    let e2 = e3.before in simp (← e2.before.formed-formed.ensures, e2.if-not-formed.false, e3.if-not-fit.false, e4.if-wrong_clock.false, eq-eqb _ _ c.if-empty.true)
-
-pub returns-then-not-counted : goal.returns-then-not-counted
-unfolding departure_refusal
-returns-then-not-counted c = simp (uncounted c.args.self c.counts_fit-counted.result c.counts_fit-counted.ensures (ap not c.if-not-counted.true))
-
-pub offset_bounds-sizes-at : goal.offset_bounds-sizes-at
-offset_bounds-sizes-at c =
-    let k = facts c.args.self (sym c.formed-formed.ensures ∙ c.if-not-formed.false) in omega (arith, k.first-high, k.slots-high)
-
-pub bounds-sizes-at : goal.bounds-sizes-at
-bounds-sizes-at c =
-    let k = facts c.args.self (sym c.formed-formed.ensures ∙ c.if-not-formed.false) in
-    let fits : length c.args.sizes.now ≡ c.args.self.settings.slots = eqb-true _ _ (and_right (eqb c.args.handles c.args.self.settings.slots) _ c.if-not-fit.false) in omega (arith, k.first-high)
-
-pub wrong_head-wrong-requires : goal.wrong_head-wrong-requires
-wrong_head-wrong-requires c =
-    let k = facts c.args.self (sym c.formed-formed.ensures ∙ c.if-not-formed.false) in omega (arith, k.count-high, k.slots-high)
-
-pub returns-then-wrong : goal.returns-then-wrong
-unfolding departure_refusal
-returns-then-wrong c =
+returns-then-clock-self c =
     simp (
-      ← c.formed-formed.ensures,
+      ← c.formed.ensures,
       c.if-not-formed.false,
-      c.if-not-fit.false,
-      c.if-wrong_clock.false,
-      ne_eqb _ _ c.if-empty.false,
-      ← c.wrong_head-wrong.ensures,
-      c.if-wrong.true,
+      tables-right c.args.self _ _ c.if-handles-slots.false c.if-sizes-slots.false,
+      clock-wrong c.args.self c.args.clock.0 c.then-clock-self.either,
+    )
+
+pub returns-then-self-eq0 : goal.returns-then-self-eq0
+unfolding departure_refusal
+returns-then-self-eq0 c =
+    simp (
+      ← c.formed.ensures,
+      c.if-not-formed.false,
+      tables-right c.args.self _ _ c.if-handles-slots.false c.if-sizes-slots.false,
+      clock-right c.args.self c.args.clock.0 c.if-clock-self.false c.if-clock-gt-LATEST.false,
+      eq-eqb _ _ c.if-self-eq0.true,
+    )
+
+pub offset_bounds-sizes-self : goal.offset_bounds-sizes-self
+offset_bounds-sizes-self c =
+    let k = facts c.args.self (sym c.formed.ensures ∙ c.if-not-formed.false) in omega (arith, k.first-high, k.slots-high)
+
+pub bounds-sizes-self : goal.bounds-sizes-self
+bounds-sizes-self c =
+    let k = facts c.args.self (sym c.formed.ensures ∙ c.if-not-formed.false) in omega (arith, k.first-high)
+
+pub wrong_head-requires : goal.wrong_head-requires
+wrong_head-requires c =
+    let k = facts c.args.self (sym c.formed.ensures ∙ c.if-not-formed.false) in omega (arith, k.count-high, k.slots-high)
+
+pub returns-then-wrong_head : goal.returns-then-wrong_head
+unfolding departure_refusal
+returns-then-wrong_head c =
+    simp (
+      ← c.formed.ensures,
+      c.if-not-formed.false,
+      tables-right c.args.self _ _ c.if-handles-slots.false c.if-sizes-slots.false,
+      clock-right c.args.self c.args.clock.0 c.if-clock-self.false c.if-clock-gt-LATEST.false,
+      ne_eqb _ _ c.if-self-eq0.false,
+      ← c.wrong_head.ensures,
+      c.if-wrong_head.true,
     )
 
 pub returns : goal.returns
 unfolding departure_refusal
 returns c =
     simp (
-      ← c.formed-formed.ensures,
+      ← c.formed.ensures,
       c.if-not-formed.false,
-      c.if-not-fit.false,
-      c.if-wrong_clock.false,
-      ne_eqb _ _ c.if-empty.false,
-      ← c.wrong_head-wrong.ensures,
-      c.if-wrong.false,
+      tables-right c.args.self _ _ c.if-handles-slots.false c.if-sizes-slots.false,
+      clock-right c.args.self c.args.clock.0 c.if-clock-self.false c.if-clock-gt-LATEST.false,
+      ne_eqb _ _ c.if-self-eq0.false,
+      ← c.wrong_head.ensures,
+      c.if-wrong_head.false,
     )

@@ -1,48 +1,45 @@
 -- `State::check_tick`: each test in turn is the definition's own.
-use Prim.Native.Nat.{◌+◌}
-use borrow.Author.Tests.{le-ltb, lt-ltb, ltb-true}
-use Rattle.pie.specs.Constants.{period}
-use mathlib.Core.Bool.{not}
-use mathlib.Core.Path.{ap, sym, ◌∙◌}
+use borrow.Author.Tests.{le-ltb, lt-ltb}
+use mathlib.Core.Path.{sym, ◌∙◌}
 use native.Mathlib.Omega.{arith}
 use Rattle.ring.specs.Tick.{tick_refusal}
-use Rattle.ring.proofs.Facts.{facts, uncounted}
+use Rattle.ring.proofs.Facts.{facts}
+use Rattle.ring.proofs.Tests.{clock-right, clock-wrong, uncounted}
+use Rattle.ring.proofs.State.check_tick.Goals.{then-not-counts_fit-via-then-not-counts_fit, then-not-counts_fit-via-else-not-counts_fit+then-not-formed}
 use Rattle.ring.proofs.State.check_tick.Goals as goal
 
-pub returns-then-not-formed : goal.returns-then-not-formed
+pub returns-then-not-counts_fit : goal.returns-then-not-counts_fit
 unfolding tick_refusal
-returns-then-not-formed c = simp (← c.before.formed-formed.ensures, c.if-not-formed.true)
+returns-then-not-counts_fit c =
+    elim c.then-not-counts_fit.branch [
+      | then-not-counts_fit-via-then-not-counts_fit w ↦ simp (uncounted c.args.self _ c.counts_fit.ensures w.if-not-counts_fit.true)
+      | then-not-counts_fit-via-else-not-counts_fit+then-not-formed w ↦ simp (← w.formed.ensures, w.if-not-formed.true)
+    ]
 
-pub returns-then-wrong_clock : goal.returns-then-wrong_clock
+pub returns-then-clock-self : goal.returns-then-clock-self
 unfolding tick_refusal
-returns-then-wrong_clock c =
-    let e2 = c.before.before.before.before in simp (← e2.before.formed-formed.ensures, e2.if-not-formed.false, c.if-wrong_clock.true)
+returns-then-clock-self c =
+    simp (← c.formed.ensures, c.if-not-formed.false, clock-wrong c.args.self c.args.clock.0 c.then-clock-self.either)
 
-pub overflow_add-too_soon : goal.overflow_add-too_soon
-overflow_add-too_soon c =
-    let e2 = c.before.before.before.before.before in
-    let w = e2.before in
-    let f = facts w.before.before.before.before.args.self (sym w.formed-formed.ensures ∙ e2.if-not-formed.false) in omega arith
+pub overflow_add-self : goal.overflow_add-self
+overflow_add-self c = let f = facts c.args.self (sym c.formed.ensures ∙ c.if-not-formed.false) in omega (arith, f.last-high, f.clock-high)
 
-pub returns-then-too_soon : goal.returns-then-too_soon
+pub returns-then-clock-self-2 : goal.returns-then-clock-self-2
 unfolding tick_refusal
-returns-then-too_soon c =
-    let e3 = c.before.before.before in
-    let e2 = e3.before.before.before.before in
-    let a = e2.before.before.before.before.before.args in
-    let soon = lt-ltb a.clock.0 (a.self.last.0 + period) (omega (arith, ltb-true)) in
-    simp (← e2.before.formed-formed.ensures, e2.if-not-formed.false, e3.if-wrong_clock.false, soon)
-
-pub returns-then-not-counted : goal.returns-then-not-counted
-unfolding tick_refusal
-returns-then-not-counted c = simp (uncounted c.args.self c.counts_fit-counted.result c.counts_fit-counted.ensures (ap not c.if-not-counted.true))
+returns-then-clock-self-2 c =
+    simp (
+      ← c.formed.ensures,
+      c.if-not-formed.false,
+      clock-right c.args.self c.args.clock.0 c.if-clock-self.false c.if-clock-gt-LATEST.false,
+      lt-ltb _ _ c.if-clock-self-2.true,
+    )
 
 pub returns : goal.returns
 unfolding tick_refusal
 returns c =
     simp (
-      ← c.formed-formed.ensures,
+      ← c.formed.ensures,
       c.if-not-formed.false,
-      c.if-wrong_clock.false,
-      le-ltb c.args.clock.0 (c.args.self.last.0 + period) c.if-too_soon.false,
+      clock-right c.args.self c.args.clock.0 c.if-clock-self.false c.if-clock-gt-LATEST.false,
+      le-ltb _ _ c.if-clock-self-2.false,
     )
