@@ -3,25 +3,23 @@
 // first and the other one's second; the header picks them.
 #![tactic(auto)]
 
-ghost use Rattle.std.specs.Prelude.{◌≡◌, false, [], ◌+◌, ◌<◌, eqb};
+ghost use Rattle.std.specs.Prelude.{◌≡◌, false, []};
 ghost use Rattle.pair_rules.specs.Fresh.{fresh, setup_of};
 ghost use Rattle.pair_rules.specs.WellFormed.{well_formed};
 ghost use Rattle.pair_rules.specs.Arrival.{arrival, arrived_handles, arrived_sizes};
 ghost use Rattle.pair_rules.specs.Departure.{departed_sizes, departure};
 ghost use Rattle.pair_rules.specs.Tick.{tick};
+ghost use Rattle.refusals.specs.Answer.{accepted_answer, arrival_answer, departure_answer, ticked};
 ghost use Rattle.refusals.specs.Codes.{code_of, packet_of};
 ghost use Rattle.pair_words.specs.After.{own_after, shared_after};
 ghost use Rattle.pair_words.specs.Words.{pair_of, shared_words, state_words, which_of};
 
-use pair_rules::{Settings, Setup, fresh};
-use pair_steps::{arrive, depart, tick};
-use pair_words::{
-    CLOCK, DROPPED_BYTES, DROPPED_EARLY, DROPPED_SLOTS, ENQUEUED, MARKED, SLOTS, encode,
-    encode_shared, records_fit,
-};
-use pie::{LARGEST, LATEST};
-use refusals::{Accepted, counts_full, refused};
-use ring_words::{REFUSED_CLOCK, REFUSED_COUNTS, REFUSED_MALFORMED, REFUSED_SIZE, REFUSED_TABLES};
+use pair_rules::{Settings, Setup, Which, fresh};
+use pair_steps::{check_clock, check_size, check_tables, update_probability};
+use pair_words::{VERDICTS, encode, encode_shared, records_fit};
+use pie::Verdict;
+use pie_words::counts_at;
+use refusals::{Packet, Refusal, counts_full, refused};
 use units::{Bytes, Micros};
 
 // What `obikuteru_pair_fresh` is told of a queue.
@@ -62,23 +60,50 @@ pub extern "C" fn obikuteru_pair_fresh(
 {
     let first = setup(target0, buffer0, reserve0, clock0);
     let second = setup(target1, buffer1, reserve1, clock1);
-    let r = fresh(slots, first, second);
-    let pair = r.pair;
-    encode_shared(shared, pair.shared);
-    encode(intercom, pair.intercom);
-    encode(passengers, pair.passengers);
-    let accepted = r.accepted;
-    match accepted {
-        Accepted::Yes => 0,
-        Accepted::No(refusal) => refused(refusal),
+    let made = fresh(slots, first, second);
+    encode_shared(shared, made.pair.shared);
+    encode(intercom, made.pair.intercom);
+    encode(passengers, made.pair.passengers);
+    match made.accepted {
+        Ok(()) => 0,
+        Err(refusal) => refused(refusal),
     }
 }
 
-// The queue that `second` names: 0, the intercom; 1, the passengers.
-fn queue_of(second: bool) -> usize
-    ensures { (result < 2) × (eqb result 1 ≡ second) }
+// Where the counts are full, a clock and a size are refused before them.
+fn arrival(
+    shared: &mut [u64; 6],
+    own: &mut [u64; 21],
+    other: &[u64; 21],
+    second: bool,
+    handles: &mut [u32],
+    sizes: &mut [u32],
+    clock: u64,
+    packet: Packet,
+    ecn: bool,
+    u: u32,
+) -> Result<Verdict, Refusal>
+    ensures { let p = pair_of second shared.old own.old other.now in
+        let a = arrival p (which_of second) handles.old sizes.old clock packet.size ecn u in
+        (arrival_answer result ≡ a.answer)
+        × (shared.new ≡ shared_after a shared.old)
+        × (own.new ≡ own_after (which_of second) a own.old)
+        × (handles.new ≡ arrived_handles p a.answer handles.old packet.handle)
+        × (sizes.new ≡ arrived_sizes p (which_of second) a.answer sizes.old packet.size) }
 {
-    second as usize
+    if !records_fit(shared, own, other, second) {
+        return Err(Refusal::Malformed);
+    }
+    check_tables(shared, handles, sizes)?;
+    if counts_full(counts_at(own, VERDICTS)) {
+        check_clock(own, clock)?;
+        check_size(packet.size)?;
+        return Err(Refusal::Counts);
+    }
+    let which = Which::from(second);
+    pair_steps::arrival(
+        shared, own, other, which, handles, sizes, clock, packet, ecn, u,
+    )
 }
 
 #[unsafe(no_mangle)]
@@ -103,38 +128,37 @@ pub extern "C" fn obikuteru_pair_arrival_of(
         × (handles.new ≡ arrived_handles p a.answer handles.old handle)
         × (sizes.new ≡ arrived_sizes p (which_of second) a.answer sizes.old size) }
 {
-    let fit = records_fit(shared, own, other, second);
-    if !fit {
-        return REFUSED_MALFORMED;
+    let packet = Packet { handle, size };
+    match arrival(
+        shared, own, other, second, handles, sizes, clock, packet, ecn, u,
+    ) {
+        Ok(verdict) => verdict.place() as u32,
+        Err(refusal) => refused(refusal),
     }
-    let slots = shared[SLOTS];
-    let tables_fit = (handles.len() as u64 == slots) & (sizes.len() as u64 == slots);
-    if !tables_fit {
-        return REFUSED_TABLES;
+}
+
+fn departure(
+    shared: &mut [u64; 6],
+    own: &mut [u64; 21],
+    other: &[u64; 21],
+    second: bool,
+    handles: &[u32],
+    sizes: &mut [u32],
+    clock: u64,
+) -> Result<Packet, Refusal>
+    ensures { let p = pair_of second shared.old own.old other.now in
+        let a = departure p (which_of second) handles.now sizes.old clock in
+        (departure_answer result ≡ a.answer)
+        × (shared.new ≡ shared_after a shared.old)
+        × (own.new ≡ own_after (which_of second) a own.old)
+        × (sizes.new ≡ departed_sizes p (which_of second) a.answer sizes.old) }
+{
+    if !records_fit(shared, own, other, second) {
+        return Err(Refusal::Malformed);
     }
-    let full = counts_full([
-        own[ENQUEUED],
-        own[MARKED],
-        own[DROPPED_BYTES],
-        own[DROPPED_SLOTS],
-        own[DROPPED_EARLY],
-    ]);
-    if full {
-        let wrong_clock = (clock < own[CLOCK]) | (LATEST < clock);
-        if wrong_clock {
-            return REFUSED_CLOCK;
-        }
-        let bytes = size as u64;
-        let wrong_size = (bytes == 0) | (LARGEST < bytes);
-        if wrong_size {
-            return REFUSED_SIZE;
-        }
-        return REFUSED_COUNTS;
-    }
-    let queue = queue_of(second);
-    arrive(
-        shared, own, other, queue, handles, sizes, clock, handle, size, ecn, u,
-    )
+    check_tables(shared, handles, sizes)?;
+    let which = Which::from(second);
+    pair_steps::departure(shared, own, other, which, handles, sizes, clock)
 }
 
 #[unsafe(no_mangle)]
@@ -156,17 +180,32 @@ pub extern "C" fn obikuteru_pair_departure_of(
         × (sizes.new ≡ departed_sizes p (which_of second) a.answer sizes.old)
         × (packet.new ≡ packet_of a.answer) }
 {
-    *packet = [0, 0];
-    let fit = records_fit(shared, own, other, second);
-    if !fit {
-        return REFUSED_MALFORMED;
+    match departure(shared, own, other, second, handles, sizes, clock) {
+        Ok(head) => {
+            *packet = [head.handle, head.size];
+            0
+        }
+        Err(refusal) => {
+            *packet = [0, 0];
+            refused(refusal)
+        }
     }
-    let slots = shared[SLOTS];
-    let tables_fit = (handles.len() as u64 == slots) & (sizes.len() as u64 == slots);
-    if !tables_fit {
-        return REFUSED_TABLES;
+}
+
+fn tick(
+    shared: &[u64; 6],
+    own: &mut [u64; 21],
+    other: &[u64; 21],
+    second: bool,
+    clock: u64,
+) -> Result<(), Refusal>
+    ensures { let a = tick (pair_of second shared.now own.old other.now) (which_of second) clock in
+        (accepted_answer result ticked ≡ a.answer) × (own.new ≡ own_after (which_of second) a own.old) }
+{
+    if !records_fit(shared, own, other, second) {
+        return Err(Refusal::Malformed);
     }
-    depart(shared, own, other, second, handles, sizes, clock, packet)
+    update_probability(shared, own, other, Which::from(second), clock)
 }
 
 #[unsafe(no_mangle)]
@@ -181,11 +220,10 @@ pub extern "C" fn obikuteru_pair_tick_of(
         let a = tick p (which_of second) clock in
         (result ≡ code_of a.answer) × (own.new ≡ own_after (which_of second) a own.old) }
 {
-    let fit = records_fit(shared, own, other, second);
-    if !fit {
-        return REFUSED_MALFORMED;
+    match tick(shared, own, other, second, clock) {
+        Ok(()) => 0,
+        Err(refusal) => refused(refusal),
     }
-    tick(shared, own, other, second, clock)
 }
 
 #[unsafe(no_mangle)]

@@ -1,8 +1,11 @@
-// The records of two queues, intercom and passengers, over one pair of tables: their tests, the fresh ones, and what a call returns.
+// The records of two queues, intercom and passengers, over one pair of tables: their tests and the fresh ones.
 #![tactic(auto)]
 
+ghost use Rattle.std.specs.Prelude.{◌≡◌, cond};
+ghost use Rattle.pair_rules.specs.declared.Which.TheVariants.{Intercom, Passengers};
+
 use pie::{Backlog, Pie};
-use refusals::{Accepted, ArrivalAnswer};
+use refusals::Refusal;
 use store::{Ends, Store};
 use units::{Bytes, Micros};
 
@@ -14,6 +17,19 @@ mod testing;
 pub enum Which {
     Intercom,
     Passengers,
+}
+
+// C names the called queue by whether it is the second.
+impl From<bool> for Which {
+    ghost from_gives = { λ second which. which ≡ cond second Passengers Intercom };
+
+    fn from(second: bool) -> Which {
+        if second {
+            Which::Passengers
+        } else {
+            Which::Intercom
+        }
+    }
 }
 
 #[derive(Clone, Copy)]
@@ -67,34 +83,11 @@ pub struct Setup {
     pub clock: Micros,
 }
 
+// What `fresh` returns: of a refusal the records of all zeros.
 #[derive(Clone, Copy)]
 pub struct Made {
-    pub accepted: Accepted,
+    pub accepted: Result<(), Refusal>,
     pub pair: Pair,
-}
-
-// A call returns what it may change: of the shared record the store, and the state of the queue that it names.
-#[derive(Clone, Copy)]
-pub struct Arrived {
-    pub answer: ArrivalAnswer,
-    pub store: Store,
-    pub state: State,
-}
-
-// The handle and size of the packet that left, or 0 and 0.
-#[derive(Clone, Copy)]
-pub struct Departed {
-    pub accepted: Accepted,
-    pub handle: u32,
-    pub size: u32,
-    pub store: Store,
-    pub state: State,
-}
-
-#[derive(Clone, Copy)]
-pub struct Ticked {
-    pub accepted: Accepted,
-    pub state: State,
 }
 
 pub use making::fresh;

@@ -1,12 +1,12 @@
 // Two fresh queues and what they share.
-ghost use Rattle.std.specs.Prelude.{◌≡◌};
+ghost use Rattle.std.specs.Prelude.{◌≡◌, cond, Ok, Err};
 ghost use Rattle.laws.specs.Tests.{all};
 ghost use Rattle.pair_rules.specs.Answer.{fresh_reply};
-ghost use Rattle.pair_rules.specs.Fresh.{empty_state, fresh, fresh_shared, setup_conditions};
+ghost use Rattle.pair_rules.specs.Fresh.{empty_state, fresh, fresh_pair, fresh_shared, setup_conditions, setup_refused, zero_pair};
 
 use crate::{Made, Pair, Reserves, Settings, Setup, Shared, State};
 use pie::{Backlog, FULL_ALLOWANCE, LATEST, Pie, Rate};
-use refusals::{Accepted, Refusal};
+use refusals::Refusal;
 use store::{Ends, Store};
 use units::{Bytes, Micros, Prob};
 
@@ -72,35 +72,52 @@ impl Setup {
     }
 }
 
-pub fn fresh(slots: u64, intercom: Setup, passengers: Setup) -> Made
-    ensures { fresh_reply result ≡ fresh slots intercom passengers }
+// The records of zeros that a refusal returns.
+fn zeros() -> Pair
+    ensures { result ≡ zero_pair }
 {
-    let shared = untaken(slots, intercom.reserve, passengers.reserve);
-    let fits = shared.slots_fit() & intercom.in_range() & passengers.in_range();
-    if fits {
-        let full = Micros(FULL_ALLOWANCE);
-        let pair = Pair {
-            shared,
-            intercom: empty(intercom.settings, intercom.clock, full),
-            passengers: empty(passengers.settings, passengers.clock, full),
-        };
-        return Made {
-            accepted: Accepted::Yes,
-            pair,
-        };
-    }
     let none = Settings {
         target: Micros(0),
         buffer: Bytes(0),
     };
     let zero = empty(none, Micros(0), Micros(0));
-    let pair = Pair {
+    Pair {
         shared: untaken(0, 0, 0),
         intercom: zero,
         passengers: zero,
-    };
-    Made {
-        accepted: Accepted::No(Refusal::Settings),
-        pair,
+    }
+}
+
+// The fresh records, or refusal 1.
+fn checked(slots: u64, intercom: Setup, passengers: Setup) -> Result<Pair, Refusal>
+    ensures { result ≡ cond (setup_refused slots intercom passengers) (Err Refusal.Settings) (Ok (fresh_pair slots intercom passengers)) }
+{
+    let shared = untaken(slots, intercom.reserve, passengers.reserve);
+    let slots_fit = shared.slots_fit();
+    let first = intercom.in_range();
+    let second = passengers.in_range();
+    if slots_fit && first && second {
+        let full = Micros(FULL_ALLOWANCE);
+        return Ok(Pair {
+            shared,
+            intercom: empty(intercom.settings, intercom.clock, full),
+            passengers: empty(passengers.settings, passengers.clock, full),
+        });
+    }
+    Err(Refusal::Settings)
+}
+
+pub fn fresh(slots: u64, intercom: Setup, passengers: Setup) -> Made
+    ensures { fresh_reply result ≡ fresh slots intercom passengers }
+{
+    match checked(slots, intercom, passengers) {
+        Ok(pair) => Made {
+            accepted: Ok(()),
+            pair,
+        },
+        Err(refusal) => Made {
+            accepted: Err(refusal),
+            pair: zeros(),
+        },
     }
 }

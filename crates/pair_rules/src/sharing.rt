@@ -5,16 +5,6 @@ ghost use Rattle.pair_rules.specs.Queues.{common_slots};
 
 use crate::{Reserves, Shared, Which};
 
-// What a queue uses beyond its reserve.
-pub(crate) fn over(count: u64, reserve: u64) -> u64
-    ensures { result ≡ count - reserve }
-{
-    if count < reserve {
-        return 0;
-    }
-    count - reserve
-}
-
 impl Shared {
     // The same with the called queue's reserve in the first place.
     pub fn facing(self, which: Which) -> Shared
@@ -40,11 +30,10 @@ impl Shared {
             && eqb ((own - self.reserves.intercom) + (other - self.reserves.passengers)) (common_slots self)) }
     {
         let reserves = self.reserves;
-        let within = own < reserves.intercom;
-        if within {
+        if own < reserves.intercom {
             return false;
         }
         let common = self.slots - reserves.intercom - reserves.passengers;
-        own - reserves.intercom + over(other, reserves.passengers) == common
+        own - reserves.intercom + other.saturating_sub(reserves.passengers) == common
     }
 }

@@ -6,7 +6,6 @@ ghost use Rattle.pair_rules.specs.WellFormed.{both_conditions, queue_conditions,
 ghost use Rattle.pair_rules.specs.WellFormed.{shared_conditions, slots_conditions, well_formed};
 ghost use Rattle.pair_rules.specs.declared.Which.TheVariants.{Intercom};
 
-use crate::sharing::over;
 use crate::{Settings, Shared, State};
 use pie::{FULL_ALLOWANCE, LARGEST, LATEST, LONGEST, MOST_ACCUMULATED, measurement_fits};
 use refusals::counts_fit;
@@ -57,7 +56,7 @@ impl Shared {
             return false;
         }
         let common = self.slots - reserves.intercom - reserves.passengers;
-        let used = over(a, reserves.intercom) + over(b, reserves.passengers);
+        let used = a.saturating_sub(reserves.intercom) + b.saturating_sub(reserves.passengers);
         (used <= common) & (store.spare == store.used - (a + b))
     }
 }
@@ -98,21 +97,16 @@ impl State {
     }
 }
 
-// The calls make these four tests one by one, so that the compiler puts each of them into its entry (docs/PERFORMANCE.md).
 pub fn well_formed(shared: Shared, intercom: State, passengers: State) -> bool
     ensures { result ≡ well_formed (paired Intercom shared intercom passengers) }
 {
-    let shared_fits = shared.fits();
-    if !shared_fits {
+    if !shared.fits() {
         return false;
     }
-    let slots = shared.slots;
-    let intercom_fits = intercom.fits(slots);
-    if !intercom_fits {
+    if !intercom.fits(shared.slots) {
         return false;
     }
-    let passengers_fit = passengers.fits(slots);
-    if !passengers_fit {
+    if !passengers.fits(shared.slots) {
         return false;
     }
     shared.holds(intercom, passengers)

@@ -2,11 +2,10 @@
 use mathlib.Core.Path.{◌≡◌, refl, ap, sym, ◌∙◌}
 use mathlib.Core.Bool.{Bool, true, false, cond, ◌&&◌, ◌||◌}
 use mathlib.Core.List.{List}
-use Prim.Native.Nat.{ℕ, zero, suc, ◌+◌, ◌-◌, ◌≤◌, ◌<◌}
+use Prim.Native.Nat.{ℕ, ◌+◌, ◌-◌, ◌≤◌}
 use native.Mathlib.Omega.{arith}
 use lib.Dec.{eqb, leb, ltb}
 use lib.ListN.{get_or}
-use borrow.Author.Tests.{eq-eqb, eqb-false, eqb-true, le-leb, lt-leb, ltb-false, ltb-true, ne_eqb}
 use Rattle.laws.proofs.Choice.{either}
 use Rattle.units.specs.Kinds.{none, prob}
 use Rattle.units.specs.declared.Prob.{Prob}
@@ -19,58 +18,30 @@ use Rattle.pair_rules.specs.Facing.{facing}
 use Rattle.pair_rules.specs.Queues.{common_slots, paired}
 use Rattle.pair_rules.specs.WellFormed.{well_formed}
 use Rattle.pair_rules.specs.declared.Shared.{Shared}
-use Rattle.pair_rules.specs.declared.Which.TheVariants.{Intercom}
+use Rattle.pair_rules.specs.declared.Which.{Which}
+use Rattle.pair_rules.specs.declared.Which.TheVariants.{Intercom, Passengers}
 use Rattle.pair_rules.proofs.Facts.{QueueFits, facts}
 use Rattle.pair_rules.specs.Arrival.{arrived_pie, verdict_of}
 use Rattle.pair_rules.proofs.Seen.{verdict-seen}
 use Rattle.pie_words.specs.Words.{pie_at}
-use Rattle.pair_words.specs.Words.{pair_of, shared_of, state_of, which_of}
+use Rattle.pair_words.specs.Words.{records_of, shared_of, state_of}
 
--- ── rule 2 ──
-
--- the reserves of the called queue and of the other one stand at these places
-pub facing-words : (sh : List ℕ) (q : ℕ) → q < 2 →
-    let s = facing (which_of (eqb q 1)) (shared_of sh) in
-    (s.reserves.intercom ≡ get_or sh (1 + q) 0) × (s.reserves.passengers ≡ get_or sh (2 - q) 0) × (s.slots ≡ get_or sh 0 0)
-unfolding shared_of
-facing-words sh zero h = (refl, refl, refl)
-facing-words sh (suc zero) h = (refl, refl, refl)
-facing-words sh (suc (suc q)) h = omega arith
-
-same_test : (a b c d : ℕ) → (a ≡ b → c ≡ d) → (c ≡ d → a ≡ b) → eqb a b ≡ eqb c d
-same_test a b c d f g = go (eqb a b) refl
-  where
-    go : (x : Bool) → eqb a b ≡ x → x ≡ eqb c d
-    go true e = sym (eq-eqb c d (f (eqb-true a b e)))
-    go false e = sym (ne_eqb c d (λ h. eqb-false a b e (g h)))
-
+-- rule 2
 abbrev pub full : Shared → (own other : ℕ) → Bool
 full s own other =
     leb s.reserves.intercom own && eqb ((own - s.reserves.intercom) + (other - s.reserves.passengers)) (common_slots s)
 
-module _ (s : Shared) (r t slots own other : ℕ) (er : s.reserves.intercom ≡ r) (et : s.reserves.passengers ≡ t)
-    (es : s.slots ≡ slots) where
-  pub full-within : ltb own r ≡ true → false ≡ full s own other
-  full-within e = rw (er, lt-leb r own (ltb-true own r e))
+-- the test of rule 2 on the shared record that the words hold
+pub found-full : (w : Which) (sh : List ℕ) (s f : Shared) (own other : ℕ) (b : Bool) → s ≡ shared_of sh → f ≡ facing w s →
+    b ≡ full f own other → b ≡ full (facing w (shared_of sh)) own other
+found-full w sh s f own other b es ef e = e ∙ ap (λ x. full x own other) (ef ∙ ap (facing w) es)
 
-  pub full-beyond : ltb own r ≡ false → ltb t other ≡ true → r + t ≤ slots → eqb (own + other) slots ≡ full s own other
-  full-beyond e f h =
-      let a : r ≤ own = ltb-false own r e in
-      let b : t < other = ltb-true t other f in
-      rw (er, et, es, le-leb r own a)
-      (same_test (own + other) slots ((own - r) + (other - t)) (slots - (r + t)) (λ x. omega arith) (λ x. omega arith))
-
-  pub full-inside : ltb own r ≡ false → ltb t other ≡ false → r + t ≤ slots → eqb (own + t) slots ≡ full s own other
-  full-inside e f h =
-      let a : r ≤ own = ltb-false own r e in
-      let b : other ≤ t = ltb-false t other f in
-      rw (er, et, es, le-leb r own a)
-      (same_test (own + t) slots ((own - r) + (other - t)) (slots - (r + t)) (λ x. omega arith) (λ x. omega arith))
-
-pub reserves-sum : (sh : List ℕ) (q n : ℕ) → q < 2 → get_or sh 1 0 + get_or sh 2 0 ≤ n → get_or sh (1 + q) 0 + get_or sh (2 - q) 0 ≤ n
-reserves-sum sh zero n h e = e
-reserves-sum sh (suc zero) n h e = omega arith
-reserves-sum sh (suc (suc q)) n h e = omega arith
+pub facing-bounds : (w : Which) (sh : List ℕ) (s f : Shared) → s ≡ shared_of sh → f ≡ facing w s →
+    get_or sh 1 0 + get_or sh 2 0 ≤ get_or sh 0 0 → get_or sh 0 0 ≤ 65536 →
+    (f.reserves.intercom + f.reserves.passengers ≤ f.slots) × (f.slots ≤ 65536)
+unfolding shared_of
+facing-bounds Intercom sh s f es ef h k = rw (ef, es) (h, k)
+facing-bounds Passengers sh s f es ef h k = rw (ef, es) (omega (arith, h), k)
 
 -- ── what is known of the words of well-formed records ──
 
@@ -81,10 +52,10 @@ pub record Numbers (sh ow ot : List ℕ) : Type 0 where
   pub other-count : get_or ot 12 0 ≤ 65536
   pub own : QueueFits (get_or sh 0 0) (state_of ow)
 
-pub numbers : (second : Bool) (sh ow ot : List ℕ) → well_formed (pair_of second sh ow ot) ≡ true → Numbers sh ow ot
+pub numbers : (w : Which) (sh ow ot : List ℕ) → well_formed (records_of w sh ow ot) ≡ true → Numbers sh ow ot
 unfolding shared_of state_of
-numbers false sh ow ot e =
-    let f = facts (pair_of false sh ow ot) e in
+numbers Intercom sh ow ot e =
+    let f = facts (records_of Intercom sh ow ot) e in
     record {
       reserves-high = f.shared.reserves-high;
       slots-high = f.shared.slots-high;
@@ -92,8 +63,8 @@ numbers false sh ow ot e =
       other-count = omega (arith, f.passengers.count-high, f.shared.slots-high);
       own = f.intercom;
     }
-numbers true sh ow ot e =
-    let f = facts (pair_of true sh ow ot) e in
+numbers Passengers sh ow ot e =
+    let f = facts (records_of Passengers sh ow ot) e in
     record {
       reserves-high = f.shared.reserves-high;
       slots-high = f.shared.slots-high;
@@ -120,18 +91,18 @@ drawn-sum pie target bytes ecn u e =
     kept : P Enqueued
     kept = rw e
 
-module _ (second : Bool) (sh ow ot : List ℕ) (size : ℕ) (ecn : Bool) (u : ℕ) where
+module _ (w : Which) (sh ow ot : List ℕ) (size : ℕ) (ecn : Bool) (u : ℕ) where
   -- a verdict by the rules, and the accumulated probability after it
   abbrev pub Ruled : Verdict → Prob → Type 0
   Ruled v a =
-      (v ≡ verdict_of (pair_of second sh ow ot) (which_of second) size ecn u) × (a ≡ (arrived_pie (state_of ow) v).accumulated)
+      (v ≡ verdict_of (records_of w sh ow ot) w size ecn u) × (a ≡ (arrived_pie (state_of ow) v).accumulated)
 
   abbrev seen : Shared
-  seen = facing (which_of second) (shared_of sh)
+  seen = facing w (shared_of sh)
 
   found : (v : Verdict) → verdict_of (paired Intercom seen (state_of ow) (state_of ot)) Intercom size ecn u ≡ v →
-      v ≡ verdict_of (pair_of second sh ow ot) (which_of second) size ecn u
-  found v e = sym (verdict-seen (which_of second) (shared_of sh) (state_of ow) (state_of ot) size ecn u ∙ e)
+      v ≡ verdict_of (records_of w sh ow ot) w size ecn u
+  found v e = sym (verdict-seen w (shared_of sh) (state_of ow) (state_of ot) size ecn u ∙ e)
 
   -- rule 1
   pub bytes-rule : (v : Verdict) (a : Prob) → v ≡ DroppedBytes → a ≡ prob (get_or ow 7 0) →

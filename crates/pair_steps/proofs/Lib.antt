@@ -1,4 +1,5 @@
 -- What the proofs of the calls share.
+pub mod Checks
 pub mod Replies
 pub mod Words
 pub mod Decisions

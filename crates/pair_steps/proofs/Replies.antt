@@ -1,13 +1,13 @@
 -- The reply of each call, by the tests that are made in turn.
 use mathlib.Core.Path.{◌≡◌, refl}
 use mathlib.Core.Bool.{Bool, true, false}
-use mathlib.Core.List.{List, [], ◌∷◌}
+use mathlib.Core.List.{List}
 use Prim.Native.Nat.{ℕ}
 use lib.ListN.{length}
 use borrow.Author.Tests.{eq-eqb}
-use Rattle.pie.specs.Verdicts.{admitted, place_of}
+use Rattle.pie.specs.Verdicts.{admitted}
 use Rattle.pie.specs.declared.Verdict.{Verdict}
-use Rattle.refusals.specs.Answer.{departed, refused, ticked, verdict}
+use Rattle.refusals.specs.Answer.{Answer, departed, refused, ticked, verdict}
 use Rattle.refusals.specs.Tests.{size_refused}
 use Rattle.pair_rules.specs.Answer.{Reply}
 use Rattle.store.specs.Put.{free_place, handles_after_put, sizes_after_put, store_after_put}
@@ -23,7 +23,6 @@ use Rattle.pair_rules.specs.Arrival.{arrival, arrival_refusal, arrived_handles, 
 use Rattle.pair_rules.specs.Departure.{departed_sizes, departed_state, departure, departure_refusal, head_handle, head_size, head_word_refused}
 use Rattle.pair_rules.specs.Refusals.{clock_refused, counts_refused, empty_refused, tables_refused, too_soon_refused}
 use Rattle.pair_rules.specs.Tick.{tick, tick_refusal, ticked_state}
-use Rattle.refusals.specs.Codes.{code_of, packet_of}
 use Rattle.pair_words.specs.After.{own_after, shared_after}
 use Rattle.pair_words.specs.Words.{shared_words, state_words}
 
@@ -82,7 +81,7 @@ module _ (s : Shared) (o t : State) (clock : ℕ) where
 pub ticked-gives : (w : Which) (s : Shared) (o t : State) (clock : ℕ) (ow ow' : List ℕ) →
     tick (paired w s o t) w clock ≡ record { answer = ticked; pair = paired w s (ticked_state o clock) t } →
     ow' ≡ state_words ow (ticked_state o clock) →
-    let a = tick (paired w s o t) w clock in (0 ≡ code_of a.answer) × (ow' ≡ own_after w a ow)
+    let a = tick (paired w s o t) w clock in (ticked ≡ a.answer) × (ow' ≡ own_after w a ow)
 ticked-gives Intercom s o t clock ow ow' e eo = rw e (refl, eo)
 ticked-gives Passengers s o t clock ow ow' e eo = rw e (refl, eo)
 
@@ -125,24 +124,23 @@ module _ (s : Shared) (o t : State) (handles sizes : List ℕ) (clock : ℕ) (fi
   departure-made Passengers f e k x = rw (f, fit, e, k, x)
 
 -- what is written is what the reply says
-pub departed-gives : (w : Which) (s : Shared) (o t : State) (handles sizes : List ℕ) (clock : ℕ) (sh sh' ow ow' sizes' packet : List ℕ) →
+pub departed-gives : (w : Which) (s : Shared) (o t : State) (handles sizes : List ℕ) (clock : ℕ) (size : ℕ) (sh sh' ow ow' sizes' : List ℕ) →
     departure (paired w s o t) w handles sizes clock
     ≡ record {
       answer = departed (head_handle o handles) (head_size o sizes);
       pair = paired w (storing s (store_after_take s.store o.ends.head)) (departed_state o sizes clock (head_size o sizes)) t;
     } →
+    size ≡ head_size o sizes →
     sh' ≡ shared_words (storing s (store_after_take s.store o.ends.head)) →
     ow' ≡ state_words ow (departed_state o sizes clock (head_size o sizes)) →
     sizes' ≡ sizes_after_take sizes o.ends.head s.store.freed →
-    packet ≡ head_handle o handles ∷ head_size o sizes ∷ [] →
     let a = departure (paired w s o t) w handles sizes clock in
-    (0 ≡ code_of a.answer)
+    (departed (head_handle o handles) size ≡ a.answer)
     × (sh' ≡ shared_after a sh)
     × (ow' ≡ own_after w a ow)
     × (sizes' ≡ departed_sizes (paired w s o t) w a.answer sizes)
-    × (packet ≡ packet_of a.answer)
-departed-gives Intercom s o t handles sizes clock sh sh' ow ow' sizes' packet e es eo ez ep = rw e (refl, es, eo, ez, ep)
-departed-gives Passengers s o t handles sizes clock sh sh' ow ow' sizes' packet e es eo ez ep = rw e (refl, es, eo, ez, ep)
+departed-gives Intercom s o t handles sizes clock size sh sh' ow ow' sizes' e en es eo ez = rw (e, en) (refl, es, eo, ez)
+departed-gives Passengers s o t handles sizes clock size sh sh' ow ow' sizes' e en es eo ez = rw (e, en) (refl, es, eo, ez)
 
 -- ── an arrival ──
 
@@ -193,10 +191,10 @@ module _ (s : Shared) (o t : State) (handles sizes : List ℕ) (clock size : ℕ
 
 -- what is written is what the reply says
 abbrev pub GivesArrival : Which → Shared → (own other : State) (handles sizes : List ℕ) (clock size : ℕ) (ecn : Bool) (u : ℕ) →
-    (handle code : ℕ) (sh sh' ow ow' handles' sizes' : List ℕ) → Type 0
-GivesArrival w s o t handles sizes clock size ecn u handle code sh sh' ow ow' handles' sizes' =
+    (answer : Answer) (handle : ℕ) (sh sh' ow ow' handles' sizes' : List ℕ) → Type 0
+GivesArrival w s o t handles sizes clock size ecn u answer handle sh sh' ow ow' handles' sizes' =
     let a = arrival (paired w s o t) w handles sizes clock size ecn u in
-    (code ≡ code_of a.answer)
+    (answer ≡ a.answer)
     × (sh' ≡ shared_after a sh)
     × (ow' ≡ own_after w a ow)
     × (handles' ≡ arrived_handles (paired w s o t) a.answer handles handle)
@@ -214,18 +212,18 @@ module _ (s : Shared) (o t : State) (handles sizes : List ℕ) (clock size : ℕ
   abbrev pub After : State
   After = arrived_state o clock size (free_place s.store) v
 
-  pub dropped-gives : (w : Which) → Made w → admitted v ≡ false → (handle code : ℕ) (sh ow ow' : List ℕ) → code ≡ place_of v →
+  pub dropped-gives : (w : Which) → Made w → admitted v ≡ false → (handle : ℕ) (sh ow ow' : List ℕ) →
       sh ≡ shared_words s → ow' ≡ state_words ow After →
-      GivesArrival w s o t handles sizes clock size ecn u handle code sh sh ow ow' handles sizes
+      GivesArrival w s o t handles sizes clock size ecn u (verdict v) handle sh sh ow ow' handles sizes
   unfolding arrived_store
-  dropped-gives Intercom m e handle code sh ow ow' ec es eo = rw (m, e) (ec, es, eo, refl, refl)
-  dropped-gives Passengers m e handle code sh ow ow' ec es eo = rw (m, e) (ec, es, eo, refl, refl)
+  dropped-gives Intercom m e handle sh ow ow' es eo = rw (m, e) (refl, es, eo, refl, refl)
+  dropped-gives Passengers m e handle sh ow ow' es eo = rw (m, e) (refl, es, eo, refl, refl)
 
-  pub admitted-gives : (w : Which) → Made w → admitted v ≡ true → (handle code : ℕ) (sh sh' ow ow' handles' sizes' : List ℕ) →
-      code ≡ place_of v → sh' ≡ shared_words (storing s (store_after_put s.store sizes)) → ow' ≡ state_words ow After →
+  pub admitted-gives : (w : Which) → Made w → admitted v ≡ true → (handle : ℕ) (sh sh' ow ow' handles' sizes' : List ℕ) →
+      sh' ≡ shared_words (storing s (store_after_put s.store sizes)) → ow' ≡ state_words ow After →
       handles' ≡ handles_after_put handles (free_place s.store) handle →
       sizes' ≡ sizes_after_put o.ends o.backlog.count sizes (free_place s.store) size →
-      GivesArrival w s o t handles sizes clock size ecn u handle code sh sh' ow ow' handles' sizes'
+      GivesArrival w s o t handles sizes clock size ecn u (verdict v) handle sh sh' ow ow' handles' sizes'
   unfolding arrived_store
-  admitted-gives Intercom m e handle code sh sh' ow ow' handles' sizes' ec es eo eh ez = rw (m, e) (ec, es, eo, eh, ez)
-  admitted-gives Passengers m e handle code sh sh' ow ow' handles' sizes' ec es eo eh ez = rw (m, e) (ec, es, eo, eh, ez)
+  admitted-gives Intercom m e handle sh sh' ow ow' handles' sizes' es eo eh ez = rw (m, e) (refl, es, eo, eh, ez)
+  admitted-gives Passengers m e handle sh sh' ow ow' handles' sizes' es eo eh ez = rw (m, e) (refl, es, eo, eh, ez)

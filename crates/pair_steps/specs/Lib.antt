@@ -1,2 +1,3 @@
--- Calls on two queues over words: what their inner functions write.
+-- Calls on two queues over words: what they know of what they are lent, and what their inner functions write.
+pub mod Lent
 pub mod Written

@@ -1,81 +1,66 @@
 // A departure from records that are well formed, with tables that fit.
-ghost use Rattle.std.specs.Prelude.{◌≡◌, true, [], ◌∷◌, length};
-ghost use Rattle.pair_rules.specs.WellFormed.{well_formed};
+ghost use Rattle.std.specs.Prelude.{◌≡◌, length};
+ghost use Rattle.refusals.specs.Answer.{departure_answer};
 ghost use Rattle.pair_rules.specs.Departure.{departed_sizes, departure};
-ghost use Rattle.refusals.specs.Codes.{code_of, packet_of};
 ghost use Rattle.pair_words.specs.After.{own_after, shared_after};
-ghost use Rattle.pair_words.specs.Words.{pair_of, shared_of, which_of};
+ghost use Rattle.pair_words.specs.Words.{records_of};
+ghost use Rattle.pair_steps.specs.Lent.{Formed, TablesFit};
 
+use crate::checking::check_clock;
+use pair_rules::Which;
 use pair_words::{BYTES, CLOCK, COUNT, FREED, HEAD, PIE, SLOTS, SPARE};
-use pie::{Backlog, LATEST};
-use pie_words::measure;
-use refusals::wrong_head;
-use ring_words::{REFUSED_CLOCK, REFUSED_EMPTY, REFUSED_HEAD};
+use pie::Backlog;
+use pie_words::{backlog_at, measure};
+use refusals::{Packet, Refusal, wrong_head};
 use store::{follow, leads_nowhere, size_at, write_freed};
 use units::{Bytes, Micros};
 
-// The head leaves. Nothing is written to the packet of a refused departure.
-pub fn depart(
+// The head leaves.
+pub fn departure(
     shared: &mut [u64; 6],
     own: &mut [u64; 21],
     other: &[u64; 21],
-    second: bool,
+    which: Which,
     handles: &[u32],
     sizes: &mut [u32],
     clock: u64,
-    packet: &mut [u32; 2],
-) -> u32
-    requires shared_len { (length shared.old ≡ 6) × (length own.old ≡ 21) }
-    requires other_value { well_formed (pair_of second shared.old own.old other.now) ≡ true }
-    requires handles_len { (length handles.now ≡ (shared_of shared.old).slots) × (length sizes.old ≡ (shared_of shared.old).slots) }
-    requires packet_value { packet.old ≡ 0 ∷ 0 ∷ [] }
-    ensures { let p = pair_of second shared.old own.old other.now in
-        let a = departure p (which_of second) handles.now sizes.old clock in
-        (result ≡ code_of a.answer)
+) -> Result<Packet, Refusal>
+    requires shared_len { length shared.old ≡ 6 }
+    requires formed { Formed which shared.old own.old other.now }
+    requires tables { TablesFit shared.old handles.now sizes.old }
+    ensures { let p = records_of which shared.old own.old other.now in
+        let a = departure p which handles.now sizes.old clock in
+        (departure_answer result ≡ a.answer)
         × (shared.new ≡ shared_after a shared.old)
-        × (own.new ≡ own_after (which_of second) a own.old)
-        × (sizes.new ≡ departed_sizes p (which_of second) a.answer sizes.old)
-        × (packet.new ≡ packet_of a.answer) }
+        × (own.new ≡ own_after which a own.old)
+        × (sizes.new ≡ departed_sizes p which a.answer sizes.old) }
 {
-    let wrong_clock = (clock < own[CLOCK]) | (LATEST < clock);
-    if wrong_clock {
-        return REFUSED_CLOCK;
+    check_clock(own, clock)?;
+    let queued = backlog_at(own, PIE);
+    if queued.count == 0 {
+        return Err(Refusal::Empty);
     }
-    let count = own[COUNT];
-    let empty = count == 0;
-    if empty {
-        return REFUSED_EMPTY;
-    }
-    let bytes = own[BYTES];
     let head = own[HEAD];
     let size = size_at(sizes, head);
-    let backlog = Backlog {
-        count,
-        bytes: Bytes(bytes),
-    };
-    let wrong = wrong_head(backlog, size as u64);
-    if wrong {
-        return REFUSED_HEAD;
+    if wrong_head(queued, size as u64) {
+        return Err(Refusal::Head);
     }
-    let lost = leads_nowhere(sizes, head, count, shared[SLOTS]);
-    if lost {
-        return REFUSED_HEAD;
+    if leads_nowhere(sizes, head, queued.count, shared[SLOTS]) {
+        return Err(Refusal::Head);
     }
-    let next = follow(sizes, head, count);
-    *packet = [handles[head as usize], size];
+    let next = follow(sizes, head, queued.count);
+    let handle = handles[head as usize];
     write_freed(sizes, head, shared[FREED]);
     shared[FREED] = head;
     shared[SPARE] = shared[SPARE] + 1;
-    let others = count - 1;
-    let left = bytes - size as u64;
-    own[CLOCK] = clock;
-    own[COUNT] = others;
-    own[BYTES] = left;
-    own[HEAD] = next;
-    let rest = Backlog {
-        count: others,
-        bytes: Bytes(left),
+    let left = Backlog {
+        count: queued.count - 1,
+        bytes: Bytes(queued.bytes.0 - size as u64),
     };
-    measure(own, PIE, Micros(clock), Bytes(size as u64), rest);
-    0
+    own[CLOCK] = clock;
+    own[COUNT] = left.count;
+    own[BYTES] = left.bytes.0;
+    own[HEAD] = next;
+    measure(own, PIE, Micros(clock), Bytes(size as u64), left);
+    Ok(Packet { handle, size })
 }

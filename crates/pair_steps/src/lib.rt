@@ -3,10 +3,14 @@
 #![tactic(auto)]
 
 mod arriving;
+mod checking;
+mod coded;
 mod deciding;
 mod departing;
 mod ticking;
 
-pub use arriving::arrive;
-pub use departing::depart;
-pub use ticking::tick;
+pub use arriving::arrival;
+pub use checking::{check_clock, check_size, check_tables};
+pub use coded::{arrive, depart, tick};
+pub use departing::departure;
+pub use ticking::update_probability;

@@ -81,5 +81,8 @@ state_words w s =
 -- ── all three ──
 
 -- the records that the words hold: the shared one, the called queue's and the other one's
+abbrev pub records_of : Which → (shared own other : List ℕ) → Pair
+records_of w shared own other = paired w (shared_of shared) (state_of own) (state_of other)
+
 abbrev pub pair_of : (second : Bool) (shared own other : List ℕ) → Pair
-pair_of second shared own other = paired (which_of second) (shared_of shared) (state_of own) (state_of other)
+pair_of second shared own other = records_of (which_of second) shared own other

@@ -1,29 +1,19 @@
 // The records that words hold, and the words of fresh ones.
 ghost use Rattle.std.specs.Prelude.{◌≡◌, [], ◌∷◌, length};
-ghost use Rattle.pair_words.specs.Words.{shared_of, shared_words, state_of, state_words, which_of};
+ghost use Rattle.pair_words.specs.Words.{shared_of, shared_words, state_of, state_words};
 
 use crate::layout::{
-    BUFFER, BYTES, CLOCK, COUNT, DROPPED_BYTES, DROPPED_EARLY, DROPPED_SLOTS, ENQUEUED, FREED,
-    HEAD, INTERCOM, LAST, MARKED, PASSENGERS, PIE, SLOTS, SPARE, TAIL, TARGET, USED,
+    BUFFER, CLOCK, FREED, HEAD, INTERCOM, LAST, PASSENGERS, PIE, SLOTS, SPARE, TAIL, TARGET, USED,
+    VERDICTS,
 };
-use pair_rules::{Reserves, Settings, Shared, State, Which};
-use pie::Backlog;
-use pie_words::pie_at;
+use pair_rules::{Reserves, Settings, Shared, State};
+use pie_words::{backlog_at, counts_at, pie_at};
 use store::{Ends, Store};
 use units::{Bytes, Micros};
 
-// The queue that a call names.
-pub(crate) fn named(second: bool) -> Which
-    ensures { result ≡ which_of second }
-{
-    if second {
-        return Which::Passengers;
-    }
-    Which::Intercom
-}
-
 // The shared record that the words hold, and that they are six.
-pub(crate) fn decode_shared(w: [u64; 6]) -> Shared
+#[tactic(auto, unfolding(crate::specs::Words::shared_of))]
+pub fn decode_shared(w: [u64; 6]) -> Shared
     ensures { (result ≡ shared_of w) × (length w ≡ 6) }
 {
     let reserves = Reserves {
@@ -43,6 +33,7 @@ pub(crate) fn decode_shared(w: [u64; 6]) -> Shared
 }
 
 // The state that the words hold, and that they are twenty-one.
+#[tactic(auto, unfolding(crate::specs::Words::state_of))]
 pub(crate) fn decode(w: [u64; 21]) -> State
     ensures { (result ≡ state_of w) × (length w ≡ 21) }
 {
@@ -50,34 +41,23 @@ pub(crate) fn decode(w: [u64; 21]) -> State
         target: Micros(w[TARGET]),
         buffer: Bytes(w[BUFFER]),
     };
-    let pie = pie_at(&w, PIE);
-    let backlog = Backlog {
-        count: w[COUNT],
-        bytes: Bytes(w[BYTES]),
-    };
     let ends = Ends {
         head: w[HEAD],
         tail: w[TAIL],
     };
-    let verdicts = [
-        w[ENQUEUED],
-        w[MARKED],
-        w[DROPPED_BYTES],
-        w[DROPPED_SLOTS],
-        w[DROPPED_EARLY],
-    ];
     State {
         settings,
         clock: Micros(w[CLOCK]),
         last: Micros(w[LAST]),
-        pie,
-        backlog,
+        pie: pie_at(&w, PIE),
+        backlog: backlog_at(&w, PIE),
         ends,
-        verdicts,
+        verdicts: counts_at(&w, VERDICTS),
     }
 }
 
 // The words of a shared record.
+#[tactic(auto, unfolding(crate::specs::Words::shared_words))]
 pub fn encode_shared(w: &mut [u64; 6], s: Shared)
     ensures { w.new ≡ shared_words s }
 {
@@ -92,14 +72,17 @@ pub fn encode_shared(w: &mut [u64; 6], s: Shared)
 }
 
 // The words of a state, whatever they were.
+#[tactic(auto, unfolding(crate::specs::Words::state_words))]
 pub fn encode(w: &mut [u64; 21], s: State)
     ensures { w.new ≡ state_words [] s }
 {
-    let v0 = s.verdicts[0];
-    let v1 = s.verdicts[1];
-    let v2 = s.verdicts[2];
-    let v3 = s.verdicts[3];
-    let v4 = s.verdicts[4];
+    let [
+        enqueued,
+        marked,
+        dropped_bytes,
+        dropped_slots,
+        dropped_early,
+    ] = s.verdicts;
     *w = [
         s.settings.target.0,
         s.settings.buffer.0,
@@ -117,10 +100,10 @@ pub fn encode(w: &mut [u64; 21], s: State)
         s.backlog.bytes.0,
         s.ends.head,
         s.ends.tail,
-        v0,
-        v1,
-        v2,
-        v3,
-        v4,
+        enqueued,
+        marked,
+        dropped_bytes,
+        dropped_slots,
+        dropped_early,
     ];
 }

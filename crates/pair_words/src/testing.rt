@@ -3,7 +3,8 @@ ghost use Rattle.std.specs.Prelude.{◌≡◌, true, length};
 ghost use Rattle.pair_rules.specs.WellFormed.{well_formed};
 ghost use Rattle.pair_words.specs.Words.{pair_of};
 
-use crate::records::{decode, decode_shared, named};
+use crate::records::{decode, decode_shared};
+use pair_rules::Which;
 
 // Each queue's words are read for its own test, so that the compiler keeps none of them over the other's (docs/PERFORMANCE.md).
 pub fn records_fit(shared: &[u64; 6], own: &[u64; 21], other: &[u64; 21], second: bool) -> bool
@@ -12,23 +13,17 @@ pub fn records_fit(shared: &[u64; 6], own: &[u64; 21], other: &[u64; 21], second
         × (length own.now ≡ 21)
         × (length other.now ≡ 21)) }
 {
-    let which = named(second);
-    let s = decode_shared(*shared);
-    let seen = s.facing(which);
-    let shared_fits = seen.fits();
-    if !shared_fits {
+    let seen = decode_shared(*shared).facing(Which::from(second));
+    if !seen.fits() {
         return false;
     }
-    let slots = seen.slots;
-    let t = decode(*other);
-    let other_fits = t.fits(slots);
-    if !other_fits {
+    let theirs = decode(*other);
+    if !theirs.fits(seen.slots) {
         return false;
     }
-    let o = decode(*own);
-    let own_fits = o.fits(slots);
-    if !own_fits {
+    let mine = decode(*own);
+    if !mine.fits(seen.slots) {
         return false;
     }
-    seen.holds(o, t)
+    seen.holds(mine, theirs)
 }

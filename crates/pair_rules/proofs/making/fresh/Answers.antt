@@ -1,64 +1,31 @@
 -- `fresh`: refusal 1, or the fresh records.
-use mathlib.Core.Path.{◌≡◌, ap, refl, ◌∙◌}
-use mathlib.Core.Bool.{Bool, true, false, not, ◌&&◌}
-use mathlib.Core.List.{◌++◌}
-use Prim.Native.Nat.{ℕ}
-use Rattle.laws.specs.Tests.{all}
-use Rattle.pair_rules.specs.Fresh.{fresh, fresh_shared, setup_conditions, setup_refused}
-use Rattle.pair_rules.specs.WellFormed.{slots_conditions}
-use Rattle.pair_rules.specs.declared.Setup.{Setup}
-use Rattle.pair_rules.specs.declared.Shared.{Shared}
-use Rattle.pair_rules.proofs.AllOf.{all_append}
+use mathlib.Core.Path.{◌≡◌, sym, ◌∙◌}
+use mathlib.Core.Bool.{Bool, true, false, cond}
+use Rattle.std.proofs.Common.{Ok, Err}
+use Rattle.refusals.specs.Answer.{accepted_answer, made, refused}
+use Rattle.refusals.specs.declared.Refusal.{Refusal}
+use Rattle.refusals.specs.declared.Refusal.TheVariants.{Settings}
+use Rattle.pair_rules.specs.Answer.{Reply}
+use Rattle.pair_rules.specs.Fresh.{fresh}
+use Rattle.pair_rules.specs.declared.Pair.{Pair}
 use Rattle.pair_rules.proofs.making.fresh.Goals as goal
 
-regrouped : (a b c : Bool) → a && (b && c) ≡ (a && b) && c
-regrouped true b c = refl
-regrouped false b c = refl
+abbrev answered : Bool → (zeros made' : Pair) → Reply
+answered b z p = cond b (record { answer = refused 1; pair = z }) (record { answer = made; pair = p })
 
--- what the three functions answer
-refused-is : (slots : ℕ) (intercom passengers : Setup) (s : Shared) (a b c : Bool) →
-    s ≡ fresh_shared slots intercom.reserve passengers.reserve → a ≡ all (slots_conditions s) →
-    b ≡ all (setup_conditions intercom) → c ≡ all (setup_conditions passengers) →
-    setup_refused slots intercom passengers ≡ not ((a && b) && c)
-refused-is slots intercom passengers s a b c es ea eb ec =
-    let x = slots_conditions (fresh_shared slots intercom.reserve passengers.reserve) in
-    let y = setup_conditions intercom in
-    let z = setup_conditions passengers in
-    let all_three : all (x ++ y ++ z) ≡ (all x && all y) && all z =
-    all_append x (y ++ z) ∙ ap (λ t. all x && t) (all_append y z) ∙ regrouped (all x) (all y) (all z) in
-    rw (ea, eb, ec, es, all_three)
+of_made : (b : Bool) (z p q : Pair) → Ok q ≡ cond b (Err Settings) (Ok p) → record { answer = made; pair = q } ≡ answered b z p
+of_made true z p q e = cc
+of_made false z p q e = cc
 
-pub returns-then-fits : goal.returns-then-fits
+of_refused : (b : Bool) (z p : Pair) (r : Refusal) → Err r ≡ cond b (Err Settings) (Ok p) →
+    record { answer = accepted_answer (Err r) made; pair = z } ≡ answered b z p
+of_refused true z p r e = cc
+of_refused false z p r e = cc
+
+pub returns-in-Ok : goal.returns-in-Ok
 unfolding fresh
-returns-then-fits c =
-    let e = c.before.before in
-    let i2 = e.before in
-    let i1 = i2.before in
-    let f = i1.before in
-    let u = f.before in
-    let a = u.before.args in
-    simp (
-      refused-is a.slots a.intercom a.passengers u.untaken-shared.result f.slots_fit.result i1.in_range.result i2.in_range-2.result
-          u.untaken-shared.ensures f.slots_fit.ensures i1.in_range.ensures i2.in_range-2.ensures,
-      e.if-fits.true,
-      u.untaken-shared.ensures,
-      c.before.empty.ensures,
-      c.empty-then-fits.ensures,
-    )
+returns-in-Ok c = of_made _ _ _ _ (sym c.in-Ok.is ∙ c.checked.ensures)
 
-pub returns : goal.returns
+pub returns-in-Err : goal.returns-in-Err
 unfolding fresh
-returns c =
-    let e = c.before.before in
-    let i2 = e.before in
-    let i1 = i2.before in
-    let f = i1.before in
-    let u = f.before in
-    let a = u.before.args in
-    simp (
-      refused-is a.slots a.intercom a.passengers u.untaken-shared.result f.slots_fit.result i1.in_range.result i2.in_range-2.result
-          u.untaken-shared.ensures f.slots_fit.ensures i1.in_range.ensures i2.in_range-2.ensures,
-      e.if-fits.false,
-      c.untaken.ensures,
-      c.before.empty-zero.ensures,
-    )
+returns-in-Err c = rw c.zeros.ensures (of_refused _ _ _ _ (sym c.in-Err.is ∙ c.checked.ensures))

@@ -5,46 +5,46 @@ use Rattle.pair_rules.specs.Queues.{paired}
 use Rattle.pair_rules.specs.declared.Which.TheVariants.{Intercom}
 use Rattle.pair_rules.proofs.testing.well_formed.Goals as goal
 
-pub returns-then-not-shared_fits : goal.returns-then-not-shared_fits
-returns-then-not-shared_fits c =
-    rw (parts (paired Intercom c.args.shared c.args.intercom c.args.passengers), ← c.fits-shared_fits.ensures, c.if-not-shared_fits.true)
+pub returns-then-not-fits : goal.returns-then-not-fits
+returns-then-not-fits c =
+    rw (parts (paired Intercom c.args.shared c.args.intercom c.args.passengers), ← c.fits.ensures, c.if-not-fits.true)
 
-pub returns-then-not-intercom_fits : goal.returns-then-not-intercom_fits
-returns-then-not-intercom_fits c =
+pub returns-then-not-fits-2 : goal.returns-then-not-fits-2
+returns-then-not-fits-2 c =
     rw (
       parts (paired Intercom c.args.shared c.args.intercom c.args.passengers),
-      ← c.fits-shared_fits.ensures,
-      ← c.fits-intercom_fits.ensures,
-      c.if-not-shared_fits.false,
-      c.if-not-intercom_fits.true,
+      ← c.fits.ensures,
+      ← c.fits-2.ensures,
+      c.if-not-fits.false,
+      c.if-not-fits-2.true,
     )
 
-pub returns-then-not-passengers_fit : goal.returns-then-not-passengers_fit
-returns-then-not-passengers_fit c =
+pub returns-then-not-fits-3 : goal.returns-then-not-fits-3
+returns-then-not-fits-3 c =
     rw (
       parts (paired Intercom c.args.shared c.args.intercom c.args.passengers),
-      ← c.fits-shared_fits.ensures,
-      ← c.fits-intercom_fits.ensures,
-      ← c.fits-passengers_fit.ensures,
-      c.if-not-shared_fits.false,
-      c.if-not-intercom_fits.false,
-      c.if-not-passengers_fit.true,
+      ← c.fits.ensures,
+      ← c.fits-2.ensures,
+      ← c.fits-3.ensures,
+      c.if-not-fits.false,
+      c.if-not-fits-2.false,
+      c.if-not-fits-3.true,
     )
 
 pub holds-requires-clause-count_le_slots : goal.holds-requires-clause-count_le_slots
 holds-requires-clause-count_le_slots c =
-    let a = queue-fits c.args.shared.slots c.args.intercom (sym c.fits-intercom_fits.ensures ∙ c.if-not-intercom_fits.false) in
-    let b = queue-fits c.args.shared.slots c.args.passengers (sym c.fits-passengers_fit.ensures ∙ c.if-not-passengers_fit.false) in
+    let a = queue-fits c.args.shared.slots c.args.intercom (sym c.fits-2.ensures ∙ c.if-not-fits-2.false) in
+    let b = queue-fits c.args.shared.slots c.args.passengers (sym c.fits-3.ensures ∙ c.if-not-fits-3.false) in
     (a.count-high, b.count-high)
 
 pub returns : goal.returns
 returns c =
     rw (
       parts (paired Intercom c.args.shared c.args.intercom c.args.passengers),
-      ← c.fits-shared_fits.ensures,
-      ← c.fits-intercom_fits.ensures,
-      ← c.fits-passengers_fit.ensures,
-      c.if-not-shared_fits.false,
-      c.if-not-intercom_fits.false,
-      c.if-not-passengers_fit.false,
+      ← c.fits.ensures,
+      ← c.fits-2.ensures,
+      ← c.fits-3.ensures,
+      c.if-not-fits.false,
+      c.if-not-fits-2.false,
+      c.if-not-fits-3.false,
     ) c.holds.ensures

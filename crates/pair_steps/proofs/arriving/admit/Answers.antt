@@ -17,35 +17,33 @@ use Rattle.pair_steps.proofs.arriving.admit.Goals as goal
 some : (n : ℕ) → n ≢ 0 → leb 1 n ≡ true
 some n h = le-leb 1 n (omega (arith, h))
 
-pub returns-then-fresh-clause-fact_2 : goal.returns-then-fresh-clause-fact_2
-returns-then-fresh-clause-fact_2 c =
+pub returns-then-spare-eq0-clause-stored : goal.returns-then-spare-eq0-clause-stored
+returns-then-spare-eq0-clause-stored c =
     let sh = c.args.shared.now in
     let ow = c.args.own.now in
-    let at = fresh-place sh c.if-fresh.true in
+    let at = fresh-place sh c.if-spare-eq0.true in
     let e = c.enter.ensures in λ l. (
-      e.value,
-      fresh-words c.args.sizes.now sh c.requires.shared_len.0 c.if-fresh.true,
+      fresh-words c.args.sizes.now sh c.requires.shared_len.0 c.if-spare-eq0.true,
       e.own_after
-          ∙ ap (λ (n : ℕ). settled_words (entered_words ow c.args.size n) c.args.clock c.args.accumulated c.args.v)
+          ∙ ap (λ (n : ℕ). settled_words (entered_words ow c.args.packet.size n) c.args.clock c.args.found.accumulated.0 c.args.found.verdict)
           (sym at),
-      e.handles_after ∙ ap (λ (n : ℕ). handles_after_put c.args.handles.now n c.args.handle) (sym at),
-      e.sizes_after ∙ ap (λ (n : ℕ). sizes_after_put (ends_of ow) (get_or ow 12 0) c.args.sizes.now n c.args.size) (sym at),
+      e.handles_after ∙ ap (λ (n : ℕ). handles_after_put c.args.handles.now n c.args.packet.handle) (sym at),
+      e.sizes_after ∙ ap (λ (n : ℕ). sizes_after_put (ends_of ow) (get_or ow 12 0) c.args.sizes.now n c.args.packet.size) (sym at),
     )
 
-pub returns-clause-fact_2 : goal.returns-clause-fact_2
-returns-clause-fact_2 c =
+pub returns-clause-stored : goal.returns-clause-stored
+returns-clause-stored c =
     let sh = c.args.shared.now in
     let ow = c.args.own.now in
     let f = c.follow-next.ensures in
-    let one = some (get_or sh 5 0) c.if-fresh.false in
+    let one = some (get_or sh 5 0) c.if-spare-eq0.false in
     let at = spare-place sh one in
     let e = c.enter-2.ensures in λ l. (
-      e.value,
       ap (λ (n : ℕ). set (set sh 4 n) 5 (get_or sh 5 0 - 1)) f
           ∙ spare-words c.args.sizes.now sh c.requires.shared_len.0 one,
       e.own_after
-          ∙ ap (λ (n : ℕ). settled_words (entered_words ow c.args.size n) c.args.clock c.args.accumulated c.args.v)
+          ∙ ap (λ (n : ℕ). settled_words (entered_words ow c.args.packet.size n) c.args.clock c.args.found.accumulated.0 c.args.found.verdict)
           (sym at),
-      e.handles_after ∙ ap (λ (n : ℕ). handles_after_put c.args.handles.now n c.args.handle) (sym at),
-      e.sizes_after ∙ ap (λ (n : ℕ). sizes_after_put (ends_of ow) (get_or ow 12 0) c.args.sizes.now n c.args.size) (sym at),
+      e.handles_after ∙ ap (λ (n : ℕ). handles_after_put c.args.handles.now n c.args.packet.handle) (sym at),
+      e.sizes_after ∙ ap (λ (n : ℕ). sizes_after_put (ends_of ow) (get_or ow 12 0) c.args.sizes.now n c.args.packet.size) (sym at),
     )

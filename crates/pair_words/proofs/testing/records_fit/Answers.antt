@@ -1,6 +1,6 @@
 -- `records_fit`: part by part, as the called queue sees the records.
 use mathlib.Core.Path.{◌≡◌, ap, refl, sym, ◌∙◌}
-use mathlib.Core.Bool.{Bool, true, false, not}
+use mathlib.Core.Bool.{Bool, true, false, cond, not}
 use mathlib.Core.List.{List}
 use Prim.Native.Nat.{ℕ}
 use Rattle.laws.specs.Tests.{all}
@@ -10,11 +10,15 @@ use Rattle.pair_rules.specs.WellFormed.{both_conditions, queue_conditions, share
 use Rattle.pair_rules.specs.declared.Shared.{Shared}
 use Rattle.pair_rules.specs.declared.State.{State}
 use Rattle.pair_rules.specs.declared.Which.{Which}
-use Rattle.pair_rules.specs.declared.Which.TheVariants.{Intercom}
+use Rattle.pair_rules.specs.declared.Which.TheVariants.{Intercom, Passengers}
 use Rattle.pair_rules.proofs.Facts.{Passes, part-fails, parts, queue-fits, shared-fits}
 use Rattle.pair_rules.proofs.Symmetry.{well-formed-seen}
 use Rattle.pair_words.specs.Words.{pair_of, shared_of, state_of, which_of}
 use Rattle.pair_words.proofs.testing.records_fit.Goals as goal
+
+which-is : (second : Bool) (w : Which) → w ≡ cond second Passengers Intercom → w ≡ which_of second
+which-is true w e = e
+which-is false w e = e
 
 module _ (second : Bool) (sh ow ot : List ℕ) (w : Which) (s f : Shared) (o t : State) (ew : w ≡ which_of second) (es : s ≡ shared_of sh)
     (ef : f ≡ facing w s) (eo : o ≡ state_of ow) (et : t ≡ state_of ot) where
@@ -29,47 +33,47 @@ module _ (second : Bool) (sh ow ot : List ℕ) (w : Which) (s f : Shared) (o t :
       d ≡ well_formed (pair_of second sh ow ot)
   decides d hf ho ht e = rw (same, parts (paired Intercom f o t), hf, ho, ht) e
 
-pub returns-then-not-shared_fits-clause-value : goal.returns-then-not-shared_fits-clause-value
-returns-then-not-shared_fits-clause-value c =
-    fails c.args.second c.args.shared.now c.args.own.now c.args.other.now _ _ _ _ _ c.named-which.ensures
-    c.decode_shared-s.ensures.0 c.facing-seen.ensures refl refl _ _ (λ h. h.shared) c.fits-shared_fits.ensures
-    (ap not c.if-not-shared_fits.true)
+pub returns-then-not-fits-clause-value : goal.returns-then-not-fits-clause-value
+returns-then-not-fits-clause-value c =
+    fails c.args.second c.args.shared.now c.args.own.now c.args.other.now _ _ _ _ _ (which-is _ _ c.from.ensures)
+    c.decode_shared.ensures.0 c.facing-seen.ensures refl refl _ _ (λ h. h.shared) c.fits.ensures
+    (ap not c.if-not-fits.true)
 
-pub fits-other_fits-requires : goal.fits-other_fits-requires
-fits-other_fits-requires c =
-    (shared-fits c.facing-seen.result (sym c.fits-shared_fits.ensures ∙ c.if-not-shared_fits.false)).slots-high
+pub fits-requires-2 : goal.fits-requires-2
+fits-requires-2 c =
+    (shared-fits c.facing-seen.result (sym c.fits.ensures ∙ c.if-not-fits.false)).slots-high
 
-pub returns-then-not-other_fits-clause-value : goal.returns-then-not-other_fits-clause-value
-returns-then-not-other_fits-clause-value c =
-    fails c.args.second c.args.shared.now c.args.own.now c.args.other.now _ _ _ _ _ c.named-which.ensures
-    c.decode_shared-s.ensures.0 c.facing-seen.ensures refl c.decode-t.ensures.0 _ _ (λ h. h.passengers)
-    c.fits-other_fits.ensures (ap not c.if-not-other_fits.true)
+pub returns-then-not-fits-2-clause-value : goal.returns-then-not-fits-2-clause-value
+returns-then-not-fits-2-clause-value c =
+    fails c.args.second c.args.shared.now c.args.own.now c.args.other.now _ _ _ _ _ (which-is _ _ c.from.ensures)
+    c.decode_shared.ensures.0 c.facing-seen.ensures refl c.decode-theirs.ensures.0 _ _ (λ h. h.passengers)
+    c.fits-2.ensures (ap not c.if-not-fits-2.true)
 
-pub fits-own_fits-requires : goal.fits-own_fits-requires
-fits-own_fits-requires c =
-    (shared-fits c.facing-seen.result (sym c.fits-shared_fits.ensures ∙ c.if-not-shared_fits.false)).slots-high
+pub fits-requires-3 : goal.fits-requires-3
+fits-requires-3 c =
+    (shared-fits c.facing-seen.result (sym c.fits.ensures ∙ c.if-not-fits.false)).slots-high
 
-pub returns-then-not-own_fits-clause-value : goal.returns-then-not-own_fits-clause-value
-returns-then-not-own_fits-clause-value c =
-    fails c.args.second c.args.shared.now c.args.own.now c.args.other.now _ _ _ _ _ c.named-which.ensures
-    c.decode_shared-s.ensures.0 c.facing-seen.ensures c.decode-o.ensures.0 c.decode-t.ensures.0 _ _
-    (λ h. h.intercom) c.fits-own_fits.ensures (ap not c.if-not-own_fits.true)
+pub returns-then-not-fits-3-clause-value : goal.returns-then-not-fits-3-clause-value
+returns-then-not-fits-3-clause-value c =
+    fails c.args.second c.args.shared.now c.args.own.now c.args.other.now _ _ _ _ _ (which-is _ _ c.from.ensures)
+    c.decode_shared.ensures.0 c.facing-seen.ensures c.decode-mine.ensures.0 c.decode-theirs.ensures.0 _ _
+    (λ h. h.intercom) c.fits-3.ensures (ap not c.if-not-fits-3.true)
 
 pub holds-requires-clause-count_le_slots : goal.holds-requires-clause-count_le_slots
 holds-requires-clause-count_le_slots c =
     let slots = c.facing-seen.result.slots in
-    let own = queue-fits slots c.decode-o.result (sym c.fits-own_fits.ensures ∙ c.if-not-own_fits.false) in
-    let others = queue-fits slots c.decode-t.result (sym c.fits-other_fits.ensures ∙ c.if-not-other_fits.false) in
+    let own = queue-fits slots c.decode-mine.result (sym c.fits-3.ensures ∙ c.if-not-fits-3.false) in
+    let others = queue-fits slots c.decode-theirs.result (sym c.fits-2.ensures ∙ c.if-not-fits-2.false) in
     (own.count-high, others.count-high)
 
 pub returns-clause-value : goal.returns-clause-value
 returns-clause-value c =
-    decides c.args.second c.args.shared.now c.args.own.now c.args.other.now _ _ _ _ _ c.named-which.ensures
-    c.decode_shared-s.ensures.0 c.facing-seen.ensures c.decode-o.ensures.0 c.decode-t.ensures.0 _
-    (sym c.fits-shared_fits.ensures ∙ c.if-not-shared_fits.false)
-    (sym c.fits-own_fits.ensures ∙ c.if-not-own_fits.false)
-    (sym c.fits-other_fits.ensures ∙ c.if-not-other_fits.false)
+    decides c.args.second c.args.shared.now c.args.own.now c.args.other.now _ _ _ _ _ (which-is _ _ c.from.ensures)
+    c.decode_shared.ensures.0 c.facing-seen.ensures c.decode-mine.ensures.0 c.decode-theirs.ensures.0 _
+    (sym c.fits.ensures ∙ c.if-not-fits.false)
+    (sym c.fits-3.ensures ∙ c.if-not-fits-3.false)
+    (sym c.fits-2.ensures ∙ c.if-not-fits-2.false)
     c.holds.ensures
 
 pub returns-clause-shared_len : goal.returns-clause-shared_len
-returns-clause-shared_len c e = (c.decode_shared-s.ensures.1, c.decode-o.ensures.1, c.decode-t.ensures.1)
+returns-clause-shared_len c e = (c.decode_shared.ensures.1, c.decode-mine.ensures.1, c.decode-theirs.ensures.1)
