@@ -24,22 +24,6 @@ pub struct Lists {
     pub listed: usize,
 }
 
-// The flow to serve, and the lists after the moves that led to it.
-#[derive(Clone, Copy)]
-pub struct Choice {
-    pub flow: usize,
-    pub lists: Lists,
-}
-
-// What is found before a flow is moved: the flow to serve, or where the lists stand and how many looks are left.
-#[derive(Clone, Copy)]
-pub struct Passed {
-    pub ends: bool,
-    pub flow: usize,
-    pub lists: Lists,
-    pub looks: usize,
-}
-
 pub use choosing::{charge, choose};
 pub use entering::{enter, is_listed};
 pub use passing::pass;
