@@ -1,5 +1,5 @@
 // The record as words: those that a call is lent, and those that it writes back.
-ghost use Rattle.std.specs.Prelude.{◌≡◌, length};
+ghost use Rattle.std.specs.Prelude.{◌≡◌};
 ghost use Rattle.pie.specs.Verdicts.{place_of};
 ghost use Rattle.fq_words.specs.Words.{common_of, lists_of};
 ghost use Rattle.fq_words.specs.Written.{common_words};
@@ -92,11 +92,6 @@ pub fn encode(w: &mut [u64; 19], c: Common, l: Lists)
         l.listed as u64,
     ];
 }
-
-// That the flows' words are 768, which a reference does not say. The copy is compiled away.
-pub fn sized(w: [u64; 768])
-    ensures { length w ≡ 768 }
-{}
 
 // The number of a verdict.
 pub fn numbered(v: Verdict) -> u32
