@@ -1,5 +1,4 @@
 -- What the functions' proofs share, and laws that other crates may cite.
-pub mod Limits
 pub mod Sizes
 pub mod Ranges
 pub mod Phases

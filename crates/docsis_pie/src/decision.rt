@@ -7,15 +7,8 @@ ghost use Rattle.docsis_pie.specs.DropDecision.{after_drop, cleared, decided, dr
 
 use crate::constants::{FULL_ALLOWANCE, HIGH, LOW, MEAN_PACKET, SMALL_QUEUE};
 use crate::{Activity, Decided, DocsisPie, Phase};
-use pie::Verdict;
+use pie::{Verdict, in_allowance, short};
 use units::{Bytes, Micros, Prob};
-
-// Rule 3.
-pub fn in_allowance(allowance: Micros) -> bool
-    ensures { result ≡ ltb 0 allowance.0 }
-{
-    0 < allowance.0
-}
 
 // Rule 5, of the bytes: less than a third of the buffer.
 pub fn below_third(bytes: Bytes, buffer: Bytes) -> bool
@@ -26,15 +19,12 @@ pub fn below_third(bytes: Bytes, buffer: Bytes) -> bool
 }
 
 // Rule 7.
+#[tactic(auto, unfolding(crate::specs::DropDecision::scaled_of))]
 pub fn scaled(p: Prob, size: Bytes) -> Prob
     requires { (p.0 ≤ most_prob) × (size.0 ≤ largest) }
     ensures { result ≡ prob (scaled_of p.0 size.0) }
 {
-    let n = p.0 * size.0 / MEAN_PACKET;
-    if n < LOW {
-        return Prob(n);
-    }
-    Prob(LOW)
+    Prob((p.0 * size.0 / MEAN_PACKET).min(LOW))
 }
 
 // Rule 8: the sum, before its limit.
@@ -49,10 +39,7 @@ pub fn sum(accumulated: Prob, scaled: Prob) -> Prob
 pub fn limit_sum(sum: Prob) -> Prob
     ensures { result ≡ prob (min sum.0 high) }
 {
-    if sum.0 < HIGH {
-        return sum;
-    }
-    Prob(HIGH)
+    Prob(sum.0.min(HIGH))
 }
 
 // Rule 9.
@@ -60,7 +47,7 @@ pub fn lightly_loaded(p: Prob, old: Micros, target: Micros) -> bool
     requires { (p.0 ≤ most_prob) × (old.0 ≤ longest) }
     ensures { result ≡ (ltb (2 * old.0) target.0 && ltb (5 * p.0) whole) }
 {
-    (2 * old.0 < target.0) & (5 * p.0 < Prob::WHOLE.0)
+    short(old, target) & (5 * p.0 < Prob::WHOLE.0)
 }
 
 // Rule 10.
@@ -89,8 +76,7 @@ impl DocsisPie {
     fn clear(self) -> DocsisPie
         ensures { result ≡ cleared self }
     {
-        let none = self.prob.0 == 0;
-        if none {
+        if self.prob.0 == 0 {
             return DocsisPie {
                 accumulated: Prob::NONE,
                 ..self
@@ -103,12 +89,10 @@ impl DocsisPie {
     fn become_quiescent(self) -> DocsisPie
         ensures { result ≡ no_longer_inactive self }
     {
-        let before = self.phase;
-        let inactive = before.activity.0 == Activity::INACTIVE.0;
-        if inactive {
+        if self.phase.activity == Activity::INACTIVE {
             let phase = Phase {
                 activity: Activity::QUIESCENT,
-                ..before
+                ..self.phase
             };
             return DocsisPie { phase, ..self };
         }
@@ -131,27 +115,26 @@ impl DocsisPie {
     fn drop_early(self) -> DocsisPie
         ensures { result ≡ after_drop self }
     {
-        let before = self.phase;
-        let quiescent = before.activity.0 == Activity::QUIESCENT.0;
-        if quiescent {
-            let phase = Phase {
-                activity: Activity::ACTIVE,
-                ..before
-            };
-            return DocsisPie {
-                accumulated: Prob::NONE,
-                allowance: Micros(FULL_ALLOWANCE),
-                phase,
-                ..self
-            };
-        }
-        DocsisPie {
+        let spent = DocsisPie {
             accumulated: Prob::NONE,
             ..self
+        };
+        if self.phase.activity == Activity::QUIESCENT {
+            let phase = Phase {
+                activity: Activity::ACTIVE,
+                ..self.phase
+            };
+            return DocsisPie {
+                allowance: Micros(FULL_ALLOWANCE),
+                phase,
+                ..spent
+            };
         }
+        spent
     }
 
     // Rules 9 to 15, with what rule 8 accumulated.
+    #[tactic(auto, unfolding(crate::specs::DropDecision::drawn_with, crate::specs::DropDecision::drawn))]
     fn draw(self, target: Micros, bytes: Bytes, scaled: Prob, u: u32) -> Decided
         requires { (self.prob.0 ≤ most_prob) × (self.old.0 ≤ longest) }
         ensures { result ≡ drawn_with self target.0 bytes.0 scaled.0 u }
@@ -160,45 +143,39 @@ impl DocsisPie {
             verdict: Verdict::Enqueued,
             pie: self,
         };
-        let light = lightly_loaded(self.prob, self.old, target);
-        if light {
+        if lightly_loaded(self.prob, self.old, target) {
             return spared;
         }
-        let little = small(bytes);
-        if little {
+        if small(bytes) {
             return spared;
         }
-        let low = is_low(self.accumulated);
-        if low {
+        if is_low(self.accumulated) {
             return spared;
         }
-        let drops = (self.accumulated.0 == HIGH) | early(scaled, u);
-        if drops {
-            let pie = self.drop_early();
+        if (self.accumulated.0 == HIGH) | early(scaled, u) {
             return Decided {
                 verdict: Verdict::DroppedEarly,
-                pie,
+                pie: self.drop_early(),
             };
         }
         spared
     }
 
     // Rules 3 to 15.
+    #[tactic(auto, unfolding(crate::specs::DropDecision::decided, crate::specs::DropDecision::scaled_of))]
     pub fn decide(self, target: Micros, buffer: Bytes, bytes: Bytes, size: Bytes, u: u32) -> Decided
         requires prob_le_most_prob { (self.prob.0 ≤ most_prob) × (self.old.0 ≤ longest) × (self.accumulated.0 ≤ high) }
         requires bytes_bound { (bytes.0 ≤ 2 ^ 24) × (size.0 ≤ largest) }
         ensures { result ≡ decided self target.0 buffer.0 bytes.0 size.0 u }
     {
-        let burst = in_allowance(self.allowance);
-        if burst {
+        if in_allowance(self.allowance) {
             return Decided {
                 verdict: Verdict::Enqueued,
                 pie: self,
             };
         }
         let start = self.clear();
-        let stays = (self.phase.activity.0 == Activity::INACTIVE.0) & below_third(bytes, buffer);
-        if stays {
+        if (self.phase.activity == Activity::INACTIVE) & below_third(bytes, buffer) {
             return Decided {
                 verdict: Verdict::Enqueued,
                 pie: start,

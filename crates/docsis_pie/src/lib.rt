@@ -11,7 +11,7 @@ mod queueing_delay;
 mod update;
 
 // Inactive, quiescent or active; in a lent record any number.
-#[derive(Clone, Copy)]
+#[derive(Clone, Copy, PartialEq, Eq)]
 pub struct Activity(pub u64);
 
 impl Activity {
@@ -49,9 +49,8 @@ pub struct Decided {
 pub use constants::{
     DEFAULT_TARGET, FULL_ALLOWANCE, HIGH, LOW, MOST_PROB, PERIOD, RESET_TIMEOUT, SMALL_QUEUE,
 };
-pub use decision::{
-    below_third, early, in_allowance, is_low, lightly_loaded, limit_sum, scaled, small, sum,
-};
+pub use decision::{below_third, early, is_low, lightly_loaded, limit_sum, scaled, small, sum};
+pub use pie::in_allowance;
 pub use probability::next_prob;
 pub use queueing_delay::delay;
 pub use update::{next_allowance, quiet, timed_out};

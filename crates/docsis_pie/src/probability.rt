@@ -6,10 +6,11 @@ ghost use Rattle.docsis_pie.specs.Constants.{most_prob};
 ghost use Rattle.docsis_pie.specs.Probability.{adjusted, capped, divisor_of, limited, next_prob, step_of, stepped_prob};
 
 use crate::constants::{CAP, HIGH_DELAY, LOW_DELAY, MOST_PROB};
-use pie::error;
+use pie::{cap_step, error, in_allowance};
 use units::{Micros, Prob};
 
 // Rule 5.
+#[tactic(auto, unfolding(crate::specs::Probability::step_of))]
 pub fn step(x: i64, k: u64) -> i64
     requires { (nat_abs x ≤ 300000000) × (0 < k) × (k ≤ 65536) }
     ensures { result ≡ step_of x k }
@@ -18,6 +19,7 @@ pub fn step(x: i64, k: u64) -> i64
 }
 
 // Rules 4 and 5, row by row: a divisor that stands in the code is divided by without a division.
+#[tactic(auto, unfolding(crate::specs::Probability::divisor_of, pie::specs::Update::lookup))]
 fn table_step(p: Prob, x: i64) -> i64
     requires { (p.0 ≤ most_prob) × (nat_abs x ≤ 300000000) }
     ensures { result ≡ step_of x (divisor_of p.0) }
@@ -36,64 +38,47 @@ fn table_step(p: Prob, x: i64) -> i64
     }
 }
 
-// Rule 6.
-pub fn cap_step(p: Prob, step: i64) -> i64
-    ensures { result ≡ capped p.0 step }
-{
-    let over = (Prob::TENTH.0 <= p.0) & (CAP < step);
-    if over {
-        return CAP;
-    }
-    step
-}
-
 // Rule 7.
+#[tactic(auto, unfolding(crate::specs::Probability::adjusted))]
 pub fn adjust(p: i64, delay: Micros, old: Micros) -> i64
     requires { nat_abs p ≤ 2 ^ 61 }
     ensures { result ≡ adjusted delay.0 old.0 p }
 {
-    let both_low = (delay.0 < LOW_DELAY) & (old.0 < LOW_DELAY);
-    if both_low {
-        return p - p / 50;
+    if (delay.0 < LOW_DELAY) & (old.0 < LOW_DELAY) {
+        p - p / 50
+    } else if HIGH_DELAY < delay.0 {
+        p + CAP
+    } else {
+        p
     }
-    let high = HIGH_DELAY < delay.0;
-    if high {
-        return p + CAP;
-    }
-    p
 }
 
 // Rule 8.
+#[tactic(auto, unfolding(crate::specs::Probability::limited))]
 pub fn limit(p: i64) -> Prob
     ensures { result ≡ prob (limited p) }
 {
-    if p < 0 {
-        return Prob::NONE;
-    }
-    let n = p as u64;
-    if MOST_PROB < n {
-        return Prob(MOST_PROB);
-    }
-    Prob(n)
+    Prob(p.clamp(0, MOST_PROB as i64) as u64)
 }
 
-// Rules 3 to 8.
+// Rules 3 to 8. Rule 6 is the cap of the calm profile.
 fn stepped_prob(p: Prob, delay: Micros, old: Micros, target: Micros) -> Prob
     requires { (p.0 ≤ most_prob) × (delay.0 ≤ longest) × (old.0 ≤ longest) × (target.0 ≤ 100000) }
     ensures { result ≡ prob (stepped_prob p.0 delay.0 old.0 target.0) }
 {
-    let s = cap_step(p, table_step(p, error(delay, old, target)));
+    let s = cap_step(true, p, table_step(p, error(delay, old, target)));
     limit(adjust(p.0 as i64 + s, delay, old))
 }
 
 // Rules 2 to 8.
+#[tactic(auto, unfolding(crate::specs::Probability::next_prob))]
 pub fn next_prob(p: Prob, allowance: Micros, delay: Micros, old: Micros, target: Micros) -> Prob
     requires { (p.0 ≤ most_prob) × (delay.0 ≤ longest) × (old.0 ≤ longest) × (target.0 ≤ 100000) }
     ensures { result ≡ prob (next_prob p.0 allowance.0 delay.0 old.0 target.0) }
 {
-    let in_allowance = 0 < allowance.0;
-    if in_allowance {
-        return Prob::NONE;
+    if in_allowance(allowance) {
+        Prob::NONE
+    } else {
+        stepped_prob(p, delay, old, target)
     }
-    stepped_prob(p, delay, old, target)
 }

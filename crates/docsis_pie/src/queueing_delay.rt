@@ -10,10 +10,7 @@ use units::{Bytes, BytesPerSecond, Micros};
 fn fast(queued: Bytes, credits: Bytes) -> Bytes
     ensures { result ≡ bytes (fast_of queued.0 credits.0) }
 {
-    if queued.0 < credits.0 {
-        return queued;
-    }
-    credits
+    Bytes(queued.0.min(credits.0))
 }
 
 // The time in which bytes leave at a rate. It is worked out 8,192 times as long: the compiler divides so large a product at once, where it
@@ -25,6 +22,7 @@ fn time(n: u64, rate: BytesPerSecond) -> u64
     n * 8_192_000_000 / rate.0 / 8_192
 }
 
+#[tactic(auto, unfolding(crate::specs::Delay::delay_of))]
 pub fn delay(
     queued: Bytes,
     credits: Bytes,
@@ -36,9 +34,5 @@ pub fn delay(
 {
     let first = fast(queued, credits);
     let rest = queued.0 - first.0;
-    let d = time(first.0, peak) + time(rest, sustained);
-    if d < LONGEST {
-        return Micros(d);
-    }
-    Micros(LONGEST)
+    Micros((time(first.0, peak) + time(rest, sustained)).min(LONGEST))
 }

@@ -9,16 +9,14 @@ use crate::constants::{PERIOD, RESET_TIMEOUT};
 use crate::probability::next_prob;
 use crate::queueing_delay::delay;
 use crate::{Activity, DocsisPie, Phase};
+use pie::refills;
 use units::{Bytes, BytesPerSecond, Micros, Prob};
 
 // Rule 2.
 pub fn next_allowance(allowance: Micros) -> Micros
     ensures { result ≡ micros (next_allowance allowance.0) }
 {
-    if allowance.0 < PERIOD {
-        return Micros(0);
-    }
-    Micros(allowance.0 - PERIOD)
+    Micros(allowance.0.saturating_sub(PERIOD))
 }
 
 // Rule 9, with the new probability and allowance.
@@ -26,7 +24,7 @@ pub fn quiet(p: Prob, allowance: Micros, delay: Micros, old: Micros, target: Mic
     requires { (delay.0 ≤ longest) × (old.0 ≤ longest) }
     ensures { result ≡ is_quiet p.0 allowance.0 delay.0 old.0 target.0 }
 {
-    (p.0 == 0) & (allowance.0 == 0) & (2 * delay.0 < target.0) & (2 * old.0 < target.0)
+    (allowance.0 == 0) & refills(p, delay, old, target)
 }
 
 // Rule 11: a flow that has been quiet for so long becomes inactive.
@@ -40,8 +38,7 @@ pub fn timed_out(reset: Micros) -> bool
 fn wait(reset: u64) -> Phase
     ensures { result ≡ waited reset }
 {
-    let over = timed_out(Micros(reset));
-    if over {
+    if timed_out(Micros(reset)) {
         return Phase {
             activity: Activity::INACTIVE,
             reset: Micros(0),
@@ -55,12 +52,12 @@ fn wait(reset: u64) -> Phase
 
 impl Phase {
     // Rules 10 and 11.
+    #[tactic(auto, unfolding(crate::specs::Update::phase_after))]
     pub fn after(self, quiet: bool) -> Phase
         requires { self.reset.0 ≤ reset_timeout }
         ensures { result ≡ phase_after quiet self }
     {
-        let was_active = self.activity.0 == Activity::ACTIVE.0;
-        if was_active {
+        if self.activity == Activity::ACTIVE {
             if quiet {
                 return Phase {
                     activity: Activity::QUIESCENT,
@@ -69,8 +66,7 @@ impl Phase {
             }
             return self;
         }
-        let was_quiescent = self.activity.0 == Activity::QUIESCENT.0;
-        if was_quiescent {
+        if self.activity == Activity::QUIESCENT {
             if quiet {
                 return wait(self.reset.0 + PERIOD);
             }
@@ -84,8 +80,7 @@ impl Phase {
         requires { (self.reset.0 ≤ reset_timeout) × (delay.0 ≤ longest) × (old.0 ≤ longest) }
         ensures { result ≡ phase_after (is_quiet p.0 allowance.0 delay.0 old.0 target.0) self }
     {
-        let none = p.0 == 0;
-        if none {
+        if p.0 == 0 {
             return self.after(quiet(p, allowance, delay, old, target));
         }
         self.after(false)
@@ -94,6 +89,7 @@ impl Phase {
 
 impl DocsisPie {
     // A tick with so many bytes queued, and so many credits.
+    #[tactic(auto, unfolding(crate::specs::Update::updated, crate::specs::Delay::delay_of))]
     pub fn update(
         self,
         target: Micros,
@@ -110,8 +106,7 @@ impl DocsisPie {
         let now = delay(bytes, credits, peak, sustained);
         let prob = next_prob(self.prob, self.allowance, now, old, target);
         let allowance = next_allowance(self.allowance);
-        let before = self.phase;
-        let phase = before.ticked(prob, allowance, now, old, target);
+        let phase = self.phase.ticked(prob, allowance, now, old, target);
         DocsisPie {
             prob,
             old: now,

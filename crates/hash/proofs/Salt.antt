@@ -1,5 +1,5 @@
 -- 2^32 is a multiple of 64, so that the wrapping sum's flow is the sum's.
-use Rattle.std.proofs.Common.{◌≡◌, ℕ, ◌+◌, ◌%◌, ◌<◌, List, sym, ap, ◌∙◌, arith}
+use Rattle.std.proofs.Common.{◌≡◌, ℕ, ◌+◌, ◌%◌, ◌<◌, sym, ap, ◌∙◌, arith}
 use Rattle.hash.specs.OneAtATime.{flow_of, one_at_a_time}
 use Rattle.hash.specs.Salt.{SharedAtEverySalt}
 

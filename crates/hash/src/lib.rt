@@ -5,38 +5,40 @@ ghost use Rattle.std.specs.Prelude.{◌≡◌, ◌<◌};
 ghost use Rattle.hash.specs.OneAtATime.{absorb, finish, flow_of, one_at_a_time};
 
 // One byte taken into the hash.
+#[tactic(auto, unfolding(crate::specs::OneAtATime::absorb))]
 fn mix(h: u32, byte: u8) -> u32
     ensures { result ≡ absorb h byte }
 {
-    let a = std::num::wrapping_add_u32(h, byte as u32);
-    let b = std::num::wrapping_add_u32(a, a << 10);
+    let a = h.wrapping_add(u32::from(byte));
+    let b = a.wrapping_add(a << 10);
     b ^ (b >> 6)
 }
 
 // What is done after the last byte.
+#[tactic(auto, unfolding(crate::specs::OneAtATime::finish))]
 fn last(h: u32) -> u32
     ensures { result ≡ finish h }
 {
-    let a = std::num::wrapping_add_u32(h, h << 3);
+    let a = h.wrapping_add(h << 3);
     let b = a ^ (a >> 11);
-    std::num::wrapping_add_u32(b, b << 15)
+    b.wrapping_add(b << 15)
 }
 
+#[tactic(auto, unfolding(crate::specs::OneAtATime::one_at_a_time, crate::specs::OneAtATime::absorb_all))]
 pub fn one_at_a_time(key: &[u8]) -> u32
     ensures { result ≡ one_at_a_time key.now }
 {
-    let mut h: u32 = 0;
-    let mut i: usize = 0;
-    while i < key.len() {
-        h = mix(h, key[i]);
-        i += 1;
+    let mut h = 0;
+    for byte in key {
+        h = mix(h, *byte);
     }
     last(h)
 }
 
 // The flow, 0 to 63.
+#[tactic(auto, unfolding(crate::specs::OneAtATime::flow_of))]
 pub fn flow_of(key: &[u8; 13], salt: u32) -> u32
     ensures { (result ≡ flow_of key.now salt) × (result < 64) }
 {
-    std::num::wrapping_add_u32(one_at_a_time(key), salt) % 64
+    one_at_a_time(key).wrapping_add(salt) % 64
 }

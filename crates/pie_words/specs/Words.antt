@@ -1,6 +1,6 @@
 -- The ten words of a queue under PIE, which stand from a place k on in a record's words: probability, old delay, allowance, accumulated
 -- probability; average, whether a measurement runs, its start, its counted bytes; packets and bytes queued.
-use Rattle.std.specs.Prelude.{List, ◌∷◌, ℕ, ◌+◌, get_or, set}
+use Rattle.std.specs.Prelude.{List, [], ◌∷◌, ℕ, ◌+◌, get_or, set}
 use Rattle.units.specs.Kinds.{bytes, micros, prob}
 use Rattle.pie.specs.declared.Backlog.{Backlog}
 use Rattle.pie.specs.declared.Pie.{Pie}
@@ -30,6 +30,10 @@ pie_at w k =
 
 abbrev pub backlog_at : (words : List ℕ) (k : ℕ) → Backlog
 backlog_at w k = record { count = get_or w (k + 8) 0; bytes = bytes (get_or w (k + 9) 0) }
+
+-- the five counts of verdicts, which stand from a place of their own on
+abbrev pub counts_at : (words : List ℕ) (k : ℕ) → List ℕ
+counts_at w k = get_or w k 0 ∷ get_or w (k + 1) 0 ∷ get_or w (k + 2) 0 ∷ get_or w (k + 3) 0 ∷ get_or w (k + 4) 0 ∷ []
 
 -- ── what is written ──
 

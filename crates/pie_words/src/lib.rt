@@ -7,11 +7,13 @@ ghost use Rattle.pie_words.specs.Flags.{flag_word};
 mod deciding;
 mod measuring;
 mod offsets;
+mod queued;
 mod updating;
 
 pub use deciding::{pie_at, spares};
 pub use measuring::measure;
 pub use offsets::{ACCUMULATED, ALLOWANCE, AVERAGE, BYTES, COUNT, COUNTED, MEASURING, OLD, START};
+pub use queued::{backlog_at, counts_at};
 pub use updating::update;
 
 // The word of a flag, left as it is where it says so already.

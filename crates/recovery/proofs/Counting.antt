@@ -1,12 +1,9 @@
 -- The count of ticks, one after the other.
 use mathlib.Core.Path.{◌≡◌, refl, ap}
-use mathlib.Core.Bool.{true, false, ◌&&◌}
 use Prim.Native.Nat.{ℕ, zero, suc, ◌+◌, ◌-◌, ◌<◌}
 use native.Mathlib.Omega.{arith}
 use borrow.Author.Tests.{ne_eqb}
-use lib.Dec.{leb}
-use Rattle.units.specs.Kinds.{whole}
-use Rattle.pie_guarantees.specs.TicksToRecover.{most_left, ticks_to_recover, ticks_until_none}
+use Rattle.pie_guarantees.specs.TicksToRecover.{most_left, ticks_until_none}
 
 over : (fuel target : ℕ) → ticks_until_none fuel target 0 ≡ 0
 unfolding ticks_until_none
@@ -36,12 +33,3 @@ again target b next ticks all l h e known =
     let fuel : 1000 - ticks ≡ suc (1000 - (ticks + 1)) = omega arith in
     let one = counts (1000 - (ticks + 1)) target b h in
     rw e (omega (arith, known, ap (λ f. ticks_until_none f target b) fuel, one))
-
-pub in-range : (target ticks : ℕ) → leb 1000 target && leb target 100000 ≡ true → ticks ≡ ticks_until_none 1000 target whole →
-    1 + ticks ≡ ticks_to_recover target
-unfolding ticks_to_recover
-in-range target ticks e h = rw e (omega (arith, h))
-
-pub out_of_range : (target : ℕ) → leb 1000 target && leb target 100000 ≡ false → 0 ≡ ticks_to_recover target
-unfolding ticks_to_recover
-out_of_range target e = rw e

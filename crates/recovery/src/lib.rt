@@ -10,6 +10,7 @@ use pie::Pie;
 use units::{Bytes, Micros, Prob};
 
 // The end of the row before b's in the table of tick rule 3.
+#[tactic(auto, unfolding(pie_guarantees::specs::TicksToRecover::row_before))]
 fn row_before(b: u64) -> u64
     requires { b ≤ whole }
     ensures { result ≡ row_before table b }
@@ -30,53 +31,50 @@ fn left_of(target: u64, p: u64) -> u64
     requires { (target ≤ 100000) × (p ≤ whole) }
     ensures { result ≡ next_prob false p 0 0 target }
 {
-    let start = Pie::restarted();
     let before = Pie {
         prob: Prob(p),
-        ..start
+        ..Pie::restarted()
     };
-    let after = before.update(false, Micros(target), Bytes(0));
-    after.prob.0
+    before.update(false, Micros(target), Bytes(0)).prob.0
 }
 
 // The most that such a tick leaves of any probability up to b.
+#[tactic(auto, unfolding(pie_guarantees::specs::TicksToRecover::most_left))]
 fn most_left(target: u64, b: u64) -> u64
     requires { (target ≤ 100000) × (b ≤ whole) }
     ensures value { result ≡ most_left target b }
     ensures upper_bound { result ≤ whole }
 {
-    let left = left_of(target, b);
-    let low = row_before(b);
-    if left < low { low } else { left }
+    left_of(target, b).max(row_before(b))
 }
 
 // How many such ticks leave nothing of any probability: 1,000 are never reached.
+#[tactic(auto, unfolding(pie_guarantees::specs::TicksToRecover::ticks_until_none))]
 fn ticks_until_none(target: u64) -> u64
     requires { target ≤ 100000 }
     ensures value { result ≡ ticks_until_none 1000 target whole }
     ensures upper_bound { result ≤ 1000 }
 {
-    let mut b: u64 = 4_294_967_296;
-    let mut ticks: u64 = 0;
-    while ticks < 1_000 {
+    let mut b = Prob::WHOLE.0;
+    for ticks in 0..1_000 {
         if b == 0 {
             return ticks;
         }
         b = most_left(target, b);
-        ticks += 1;
     }
-    ticks
+    1_000
 }
 
 // With a target of 1,000 to 100,000; 0 for any other.
+#[tactic(auto, unfolding(pie_guarantees::specs::TicksToRecover::ticks_to_recover))]
 pub fn ticks_to_recover(target: u64) -> u64
     ensures { result ≡ ticks_to_recover target }
 {
-    let in_range = (1_000 <= target) & (target <= 100_000);
-    if in_range {
-        return 1 + ticks_until_none(target);
+    if (1_000..=100_000).contains(&target) {
+        1 + ticks_until_none(target)
+    } else {
+        0
     }
-    0
 }
 
 // The C entry (include/obikuteru.h).

@@ -5,15 +5,14 @@ ghost use Rattle.refusals.specs.Tests.{head_refused};
 use pie::{Backlog, LARGEST};
 
 // Refusal 9: the head cannot be of this size.
+#[tactic(auto, unfolding(crate::specs::Tests::head_refused))]
 pub fn wrong_head(backlog: Backlog, size: u64) -> bool
     requires { (0 < backlog.count) × (backlog.count ≤ 65536) }
     ensures { result ≡ head_refused backlog size }
 {
-    let bytes = backlog.bytes.0;
-    if bytes < size {
+    let Some(left) = backlog.bytes.0.checked_sub(size) else {
         return true;
-    }
-    let left = bytes - size;
+    };
     let others = backlog.count - 1;
     (size == 0) | (LARGEST < size) | (left < others) | (LARGEST * others < left)
 }

@@ -5,14 +5,14 @@ mod counting;
 mod heads;
 mod numbering;
 
-pub use counting::{counts_fit, counts_full};
+pub use counting::{counts_fit, counts_full, room_left};
 pub use heads::wrong_head;
 pub use numbering::{code, refused};
 
 // One case for each refusal number, in order, from 1. A call answers `Result`, and a refused call changes nothing.
 #[derive(Clone, Copy, PartialEq, Eq)]
 pub enum Refusal {
-    Settings,
+    Settings = 1,
     Malformed,
     Tables,
     Clock,

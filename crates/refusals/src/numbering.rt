@@ -9,17 +9,7 @@ impl Refusal {
     pub fn number(self) -> u32
         ensures { (result ≡ number_of self) × (result ≤ 9) }
     {
-        match self {
-            Refusal::Settings => 1,
-            Refusal::Malformed => 2,
-            Refusal::Tables => 3,
-            Refusal::Clock => 4,
-            Refusal::TooSoon => 5,
-            Refusal::Empty => 6,
-            Refusal::Size => 7,
-            Refusal::Counts => 8,
-            Refusal::Head => 9,
-        }
+        self as u32
     }
 }
 
@@ -34,8 +24,5 @@ pub fn refused(r: Refusal) -> u32
 pub fn code(answer: Result<u32, Refusal>) -> u32
     ensures { result ≡ code_in answer }
 {
-    match answer {
-        Ok(number) => number,
-        Err(refusal) => refused(refusal),
-    }
+    answer.unwrap_or_else(refused)
 }

@@ -1,20 +1,11 @@
--- `most_left`: the larger of what is left of b and of the row before b's.
+-- `most_left`: neither a tick nor a row leaves more than 2^32.
+use mathlib.Core.Bool.{false}
 use native.Mathlib.Omega.{arith}
-use Rattle.recovery.proofs.Rows.{larger}
+use Rattle.pie.specs.Update.{table}
+use Rattle.pie.proofs.Ranges.{next-prob-le}
+use Rattle.recovery.proofs.Rows.{below}
 use Rattle.recovery.proofs.most_left.Goals as goal
 
-pub returns-then-left-low-clause-value : goal.returns-then-left-low-clause-value
-returns-then-left-low-clause-value c =
-    (larger c.args.target c.args.b _ _ (omega arith) c.left_of-left.ensures c.row_before-low.ensures _ (omega arith)).0
-
-pub returns-then-left-low-clause-upper_bound : goal.returns-then-left-low-clause-upper_bound
-returns-then-left-low-clause-upper_bound c =
-    (larger c.args.target c.args.b _ _ (omega arith) c.left_of-left.ensures c.row_before-low.ensures _ (omega arith)).1
-
-pub returns-else-left-low-clause-value : goal.returns-else-left-low-clause-value
-returns-else-left-low-clause-value c =
-    (larger c.args.target c.args.b _ _ (omega arith) c.left_of-left.ensures c.row_before-low.ensures _ (omega arith)).0
-
-pub returns-else-left-low-clause-upper_bound : goal.returns-else-left-low-clause-upper_bound
-returns-else-left-low-clause-upper_bound c =
-    (larger c.args.target c.args.b _ _ (omega arith) c.left_of-left.ensures c.row_before-low.ensures _ (omega arith)).1
+pub returns-clause-upper_bound : goal.returns-clause-upper_bound
+returns-clause-upper_bound c =
+    omega (arith, c.max.ensures, c.left_of.ensures, c.row_before.ensures, next-prob-le false c.args.b 0 0 c.args.target, below table c.args.b)

@@ -1,6 +1,7 @@
 -- `probability::stepped_prob`: the rules one after the other, each call's result read back as it is.
 use borrow.Author.Rules.{sfits_of}
-use mathlib.Core.Path.{◌≡◌}
+use mathlib.Core.Path.{◌≡◌, refl, ◌∙◌}
+use mathlib.Core.Bool.{true}
 use Prim.Native.Nat.{ℕ, ◌*◌, ◌≤◌, ◌^◌}
 use native.Mathlib.Omega.{arith}
 use lib.IntN.{ℤ, pos, nat_abs, ◌+ℤ◌}
@@ -9,7 +10,7 @@ use mir.Val.{to_z}
 use mir.Facts.{to_z-of_z}
 use Rattle.units.specs.Kinds.{prob}
 use Rattle.units.specs.declared.Prob.{Prob}
-use Rattle.pie.specs.Update.{error_of}
+use Rattle.pie.specs.Update.{capped as calm_capped, error_of}
 use Rattle.pie.proofs.Ints.{abs-add, as-pos, back, read, small}
 use Rattle.pie.proofs.Sizes.{error-small, quotient-small}
 use Rattle.docsis_pie.specs.Probability.{adjusted, capped, divisor_of, limited, step_of, stepped_prob}
@@ -29,6 +30,11 @@ rules_lem : (p d o t : ℕ) (x s z q : ℤ) (r : Prob) → x ≡ error_of d o t 
     q ≡ adjusted d o (pos p +ℤ z) → r ≡ prob (limited q) → r ≡ prob (stepped_prob p d o t)
 unfolding stepped_prob
 rules_lem p d o t x s z q r a b c e f = cc
+
+-- rule 6 is the calm profile's
+calm-cap : (p : ℕ) (s : ℤ) → calm_capped true p s ≡ capped p s
+unfolding calm_capped capped
+calm-cap p s = refl
 
 x-small : (c : After-error) → nat_abs c.error.result ≤ 300000000
 x-small c =
@@ -56,8 +62,11 @@ module _ (c : After-cap_step-s) where
   s-back : read c.before.«table_step».result ≡ c.before.«table_step».result
   s-back = back _ (omega (arith, s-small))
 
+  z-is : c.cap_step-s.result ≡ capped p c.before.«table_step».result
+  z-is = rw (s-back) at c.cap_step-s.ensures ∙ calm-cap p c.before.«table_step».result
+
   z-small : nat_abs c.cap_step-s.result ≤ 2 ^ 60
-  z-small = rw (c.cap_step-s.ensures, s-back) (capped_small p (2 ^ 60) c.before.«table_step».result (omega arith) s-small)
+  z-small = rw z-is (capped_small p (2 ^ 60) c.before.«table_step».result (omega arith) s-small)
 
   z-back : read c.cap_step-s.result ≡ c.cap_step-s.result
   z-back = back _ (omega (arith, z-small))
@@ -87,6 +96,6 @@ returns c =
     rules_lem _ _ _ _ _ _ _ _ _
     a.before.before.error.ensures
     (rw (x-back a) at a.before.«table_step».ensures)
-    (rw (s-back a) at a.cap_step-s.ensures)
+    (z-is a)
     (rw (p_back a, z-back a, q_back a) at c.before.adjust.ensures)
     (rw (to_z-of_z (sfits_of c.before.adjust.type_inv)) at c.limit.ensures)

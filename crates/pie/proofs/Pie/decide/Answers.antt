@@ -1,14 +1,15 @@
--- `Pie::decide`: each branch's tests choose its line of the rules.
-use mathlib.Core.Path.{◌≡◌, refl, ap, sym, ◌∙◌}
+-- `Pie::decide`: past rule 5 the verdict says what is accumulated.
+use mathlib.Core.Path.{◌≡◌, refl, ap, ◌∙◌}
 use mathlib.Core.Bool.{Bool, false, cond, ◌||◌}
 use Prim.Native.Nat.{ℕ}
 use Rattle.units.specs.Kinds.{none, prob}
-use Rattle.pie.specs.DropDecision.{accumulated_after, drawn, drop_decision, early, early_verdict, marks, spared}
+use Rattle.pie.specs.DropDecision.{accumulated_after, drawn, early, early_verdict, marks, spared}
 use Rattle.pie.specs.DropDecision.{sum_is_high, sum_is_low, sum_of}
 use Rattle.pie.specs.Verdicts.{is_early}
 use Rattle.pie.specs.declared.Pie.{Pie}
 use Rattle.pie.specs.declared.Verdict.{Verdict}
 use Rattle.pie.specs.declared.Verdict.TheVariants.{DroppedEarly, Enqueued, Marked}
+use borrow.Author.Rules.{rules}
 use Rattle.laws.proofs.Choice.{either}
 use Rattle.pie.proofs.Pie.decide.Goals as goal
 
@@ -28,66 +29,9 @@ drawn-sum pie target bytes ecn u e =
     kept : P Enqueued
     kept = rw e
 
-pub returns-then-burst-clause-verdict_value : goal.returns-then-burst-clause-verdict_value
-unfolding drop_decision accumulated_after
-returns-then-burst-clause-verdict_value c = simp (sym c.before.in_allowance-burst.ensures ∙ c.if-burst.true) refl
-
-pub returns-then-burst-clause-accumulated_value : goal.returns-then-burst-clause-accumulated_value
-unfolding drop_decision accumulated_after
-returns-then-burst-clause-accumulated_value c = simp (sym c.before.in_allowance-burst.ensures ∙ c.if-burst.true) refl
-
-pub returns-then-lightly_loaded-clause-verdict_value : goal.returns-then-lightly_loaded-clause-verdict_value
-unfolding drop_decision accumulated_after
-returns-then-lightly_loaded-clause-verdict_value c =
-    let e1 = c.before.before.before in
-    let light = rw (c.before.before.short.ensures, c.before.light.ensures) at c.if-lightly_loaded.true in
-    simp (sym e1.before.in_allowance-burst.ensures ∙ e1.if-burst.false, light) refl
-
-pub returns-then-lightly_loaded-clause-accumulated_value : goal.returns-then-lightly_loaded-clause-accumulated_value
-unfolding drop_decision accumulated_after
-returns-then-lightly_loaded-clause-accumulated_value c =
-    let e1 = c.before.before.before in
-    let light = rw (c.before.before.short.ensures, c.before.light.ensures) at c.if-lightly_loaded.true in
-    simp (sym e1.before.in_allowance-burst.ensures ∙ e1.if-burst.false, light) refl
-
-pub returns-then-little-clause-verdict_value : goal.returns-then-little-clause-verdict_value
-unfolding drop_decision accumulated_after
-returns-then-little-clause-verdict_value c =
-    let e2 = c.before.before in
-    let e1 = e2.before.before.before in
-    let light = rw (e2.before.before.short.ensures, e2.before.light.ensures) at e2.if-lightly_loaded.false in
-    simp (sym e1.before.in_allowance-burst.ensures ∙ e1.if-burst.false, light, sym c.before.small-little.ensures ∙ c.if-little.true) refl
-
-pub returns-then-little-clause-accumulated_value : goal.returns-then-little-clause-accumulated_value
-unfolding drop_decision accumulated_after
-returns-then-little-clause-accumulated_value c =
-    let e2 = c.before.before in
-    let e1 = e2.before.before.before in
-    let light = rw (e2.before.before.short.ensures, e2.before.light.ensures) at e2.if-lightly_loaded.false in
-    simp (sym e1.before.in_allowance-burst.ensures ∙ e1.if-burst.false, light, sym c.before.small-little.ensures ∙ c.if-little.true) refl
-
-pub returns-clause-verdict_value : goal.returns-clause-verdict_value
-unfolding drop_decision
-returns-clause-verdict_value c =
-    let d = c.draw.ensures in
-    let e3 = c.before in
-    let e2 = e3.before.before in
-    let e1 = e2.before.before.before in
-    let a = e1.before.before.before.args in
-    let light = rw (e2.before.before.short.ensures, e2.before.light.ensures) at e2.if-lightly_loaded.false in
-    let none-spared : spared a.self a.target.0 a.bytes.0 ≡ false =
-    simp (sym e1.before.in_allowance-burst.ensures ∙ e1.if-burst.false, light, sym e3.before.small-little.ensures ∙ e3.if-little.false) in
-    rw none-spared d.verdict_value
-
 pub returns-clause-accumulated_value : goal.returns-clause-accumulated_value
-unfolding drop_decision
 returns-clause-accumulated_value c =
-    let d = c.draw.ensures in
-    let e3 = c.before in
-    let e2 = e3.before.before in
-    let e1 = e2.before.before.before in
-    let a = e1.before.before.before.args in
-    let light = rw (e2.before.before.short.ensures, e2.before.light.ensures) at e2.if-lightly_loaded.false in
-    let none-spared : spared a.self a.target.0 a.bytes.0 ≡ false =
-    simp (sym e1.before.in_allowance-burst.ensures ∙ e1.if-burst.false, light, sym e3.before.small-little.ensures ∙ e3.if-little.false) in
-    d.accumulated_value ∙ rw d.verdict_value (ap prob (drawn-sum a.self a.target.0 a.bytes.0 a.ecn a.u none-spared))
+    let a = c.before.before.before.before.before.args in
+    let none-spared : spared a.self a.target.0 a.bytes.0 ≡ false = search rules in
+    c.draw.ensures.accumulated_value
+    ∙ rw c.draw.ensures.verdict_value (ap prob (drawn-sum a.self a.target.0 a.bytes.0 a.ecn a.u none-spared))
