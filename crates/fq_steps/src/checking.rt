@@ -64,7 +64,12 @@ pub(crate) fn check_arrival(
 }
 
 // Refusals 3, 4 and 6 of a departure.
-pub(crate) fn check_departure(common: Common, handles: u64, sizes: u64, clock: Micros) -> Result<(), Refusal>
+pub(crate) fn check_departure(
+    common: Common,
+    handles: u64,
+    sizes: u64,
+    clock: Micros,
+) -> Result<(), Refusal>
     ensures { (s : State) → s.common ≡ common → well_formed s ≡ true →
         refusal_in result ≡ first_refusal (before_choosing s handles sizes clock.0) }
 {

@@ -33,9 +33,9 @@ pub(crate) fn pick(
         let wrong = head_word_refused slots (flow_at (flows_of flows.now) c.flow) sizes.now in
         MatchResult result
         (λ flow. (flow ≡ c.flow) × (flow < 64) × (wrong ≡ false)
-            × (schedule_of lists.exit.now order.new deficits.new ≡ chosen_in s c))
+        × (schedule_of lists.exit.now order.new deficits.new ≡ chosen_in s c))
         (λ refusal. (refusal ≡ Head) × (wrong ≡ true)
-            × (schedule_of lists.exit.now order.new deficits.new ≡ s)) }
+        × (schedule_of lists.exit.now order.new deficits.new ≡ s)) }
 {
     let mut at = *lists;
     let passed = pass(order, deficits, counts, &mut at);

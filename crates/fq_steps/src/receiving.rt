@@ -18,13 +18,7 @@ use store::write_packet;
 use units::{Bytes, Micros};
 
 // A flow that had `count` packets is listed: with any, it is already.
-fn list(
-    order: &mut [u64; 64],
-    deficits: &mut [u32; 64],
-    lists: &mut Lists,
-    flow: usize,
-    count: u64,
-)
+fn list(order: &mut [u64; 64], deficits: &mut [u32; 64], lists: &mut Lists, flow: usize, count: u64)
     requires lists_value { (lists_fit lists.now ≡ true) × (flow < 64) }
     requires flow_value { 0 < count → is_listed (two_lists (schedule_of lists.now order.old deficits.old)) flow ≡ true }
     ensures { let s = schedule_of lists.entry.now order.old deficits.old in

@@ -94,7 +94,7 @@ module _ (c : Common) (fs : List Flow) (sized : length fs ≡ 64) (counts : List
         let k = bounds c f w h in
         let here : i < length counts = rw b.long low in
         record {
-              fit = sym (rest ∙ ap (λ t. t && flows_fit c (drop (i + 1) fs)) h);
+          fit = sym (rest ∙ ap (λ t. t && flows_fit c (drop (i + 1) fs)) h);
           count-is = omega (arith, b.count-is, total-next count_of fs i inside, ap count_of f-is);
           bytes-is = omega (arith, b.bytes-is, total-next bytes_of fs i inside, ap bytes_of f-is);
           count-le = omega (arith, b.count-le, k.0);

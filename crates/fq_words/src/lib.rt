@@ -20,9 +20,7 @@ pub struct Made {
     pub lists: Lists,
 }
 
-pub use layout::{
-    BYTES, CLOCK, COUNT, ENQUEUED, FIRST, FREED, LAST, LISTED, OLD, SPARE, USED,
-};
+pub use layout::{BYTES, CLOCK, COUNT, ENQUEUED, FIRST, FREED, LAST, LISTED, OLD, SPARE, USED};
 pub use making::fresh;
 pub use reading::{flow_at, set_flow};
 pub use records::{decode, decode_lists, encode, numbered};

@@ -17,9 +17,9 @@ fn add_up(flows: &[u64; 768], counts: &mut [u32; 64], c: Common) -> Option<Backl
     requires { all (common_conditions c) ≡ true }
     ensures { MatchOption result (flows_fit c (flows_of flows.now) ≡ false)
         (λ sum. (flows_fit c (flows_of flows.now) ≡ true)
-            × (sum.count ≡ total (counts_of (flows_of flows.now)))
-            × (sum.bytes.0 ≡ total (each_bytes (flows_of flows.now)))
-            × (counts.new ≡ counts_of (flows_of flows.now))) }
+        × (sum.count ≡ total (counts_of (flows_of flows.now)))
+        × (sum.bytes.0 ≡ total (each_bytes (flows_of flows.now)))
+        × (counts.new ≡ counts_of (flows_of flows.now))) }
 {
     let mut count: u64 = 0;
     let mut bytes: u64 = 0;

@@ -18,7 +18,12 @@ pub(crate) fn is_negative(deficit: u32) -> bool
 }
 
 // A look at the head of the new list, this flow: the flow where choosing ends at it.
-fn look_new(deficits: &mut [u32; 64], counts: &[u32; 64], lists: &mut Lists, flow: usize) -> Option<usize>
+fn look_new(
+    deficits: &mut [u32; 64],
+    counts: &[u32; 64],
+    lists: &mut Lists,
+    flow: usize,
+) -> Option<usize>
     requires { (lists_fit lists.now ≡ true) × (lists.now.old < lists.now.listed) × (flow < 64) }
     ensures by_index { (order rest old : List ℕ) (again : Schedule → spec.Found) →
         let s = schedule_of lists.entry.now order deficits.old in
@@ -87,7 +92,12 @@ fn look_old(
 }
 
 // A look at the head of the new list, or of the old list where the new one is empty. With no flow in either list choosing ends at flow 0.
-fn look(order: &mut [u64; 64], deficits: &mut [u32; 64], counts: &[u32; 64], lists: &mut Lists) -> Option<usize>
+fn look(
+    order: &mut [u64; 64],
+    deficits: &mut [u32; 64],
+    counts: &[u32; 64],
+    lists: &mut Lists,
+) -> Option<usize>
     requires { HoldsFlows lists.now order.old }
     ensures s_after { (again : Schedule → spec.Found) →
         let s = schedule_of lists.entry.now order.old deficits.old in

@@ -48,7 +48,12 @@ fn without_head(lists: Lists) -> Lists
 
 // Looks at the heads of the lists until a flow is found: the flow, or how many looks are left at one whose deficit is below 0, since to
 // move that one is to write.
-pub fn pass(order: &[u64; 64], deficits: &[u32; 64], counts: &[u32; 64], lists: &mut Lists) -> Result<usize, usize>
+pub fn pass(
+    order: &[u64; 64],
+    deficits: &[u32; 64],
+    counts: &[u32; 64],
+    lists: &mut Lists,
+) -> Result<usize, usize>
     requires { HoldsFlows lists.now order.now }
     ensures s_value { let s = schedule_of lists.entry.now order.now deficits.now in
         found_by (choose counts.now (two_lists s)) s

@@ -1,4 +1,4 @@
-use mathlib.Core.Path.{◌≡◌, sym, ◌∙◌}
+use mathlib.Core.Path.{sym, ◌∙◌}
 use Rattle.schedule.specs.Ring.{schedule_of}
 use Rattle.schedule.proofs.Tallied.{each-flow, entries, no-flows, no-lists, tally-tests}
 use Rattle.schedule.proofs.testing.fits.Goals as goal
