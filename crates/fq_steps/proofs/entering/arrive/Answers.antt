@@ -27,10 +27,6 @@ arrival_of-answer-requires-clause-flows_value c =
     let formed : well_formed s ≡ true = rw (c.decode-values.ensures, c.decode_lists-lists.ensures) c.requires.flows_value in
     formed
 
-pub arrival_of-answer-requires-clause-flow_bound : goal.arrival_of-answer-requires-clause-flow_bound
-arrival_of-answer-requires-clause-flow_bound c =
-    c.flow_of-flow.ensures.1
-
 pub arrival_of-answer-requires-clause-verdicts_bound : goal.arrival_of-answer-requires-clause-verdicts_bound
 arrival_of-answer-requires-clause-verdicts_bound c =
     rw c.decode-values.ensures c.requires.common_bound

@@ -7,12 +7,6 @@ use Rattle.fq_rules.specs.Departure.{head_word_refused}
 use Rattle.fq_words.specs.Words.{flows_of}
 use Rattle.fq_steps.proofs.picking.pick.Goals as goal
 
-pub pass-passed-requires : goal.pass-passed-requires
-pass-passed-requires c = c.requires.lists_value
-
-pub flow_at-f-requires : goal.flow_at-f-requires
-flow_at-f-requires c = c.in-Ok.ensures.flow_bound
-
 pub wrong_word-wrong-requires : goal.wrong_word-wrong-requires
 wrong_word-wrong-requires c = rw c.flow_at-f.ensures (c.requires.by_index _ c.in-Ok.ensures.flow_bound)
 
@@ -34,12 +28,6 @@ returns-else-wrong c =
       ap (λ (f : Flow). head_word_refused c.args.slots f c.args.sizes.now) (sym same) ∙ sym c.wrong_word-wrong.ensures ∙ c.if-wrong.false,
       sym (ap (λ (k : Found). k.schedule) all),
     )
-
-pub choose-flow-requires : goal.choose-flow-requires
-choose-flow-requires c = c.pass-passed.ensures.places
-
-pub flow_at-f-requires-in-Err : goal.flow_at-f-requires-in-Err
-flow_at-f-requires-in-Err c = c.choose-flow.ensures.flow_bound
 
 pub wrong_word-wrong-requires-in-Err : goal.wrong_word-wrong-requires-in-Err
 wrong_word-wrong-requires-in-Err c = rw c.flow_at-f-in-Err.ensures (c.requires.by_index _ c.choose-flow.ensures.flow_bound)

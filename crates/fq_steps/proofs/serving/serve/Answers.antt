@@ -54,10 +54,6 @@ returns-in_err-flow-clause-fact c =
       lost.2,
     )
 
-pub flow_at-f-requires : goal.flow_at-f-requires
-flow_at-f-requires c =
-    c.in_ok-flow.ensures.1
-
 pub offset_bounds-handles-f : goal.offset_bounds-handles-f
 offset_bounds-handles-f c =
     let s = state_of c.args.common.now c.args.lists.now c.args.order.now c.args.deficits.now c.args.flows.now in
@@ -114,14 +110,6 @@ write_freed-requires c =
       omega (arith, k.common.freed-high, k.common.settings.slots-high),
     )
 
-pub charge-requires : goal.charge-requires
-charge-requires c =
-    c.in_ok-flow.ensures.1
-
-pub overflow_cast-result : goal.overflow_cast-result
-overflow_cast-result c =
-    omega (arith, c.in_ok-flow.ensures.1)
-
 pub taken-requires : goal.taken-requires
 taken-requires c =
     let s = state_of c.args.common.now c.args.lists.now c.args.order.now c.args.deficits.now c.args.flows.now in
@@ -160,5 +148,3 @@ returns-clause-fact c =
     c.set_flow.ensures
     c.write_freed.ensures
 
-pub returns-clause-flow_bound : goal.returns-clause-flow_bound
-returns-clause-flow_bound c = c.in_ok-flow.ensures.1

@@ -10,9 +10,6 @@ pub loop-i-init : goal.loop-i-init
 loop-i-init c =
     let a = c.args in start a.c (flows_of a.flows.now) a.counts.now c.told-counts
 
-pub fits-fine-requires : goal.fits-fine-requires
-fits-fine-requires c = c.requires
-
 pub returns-then-not-fine : goal.returns-then-not-fine
 returns-then-not-fine c =
     let a = c.args in

@@ -19,9 +19,6 @@ loop-init c =
     let none : a.looks - 0 ≡ a.looks = omega arith in
     (c.requires, c.told-order, ap (λ n. found_in n a.counts.now (schedule_of a.lists.now a.order.now a.deficits.now)) none)
 
-pub look-found-requires : goal.look-found-requires
-look-found-requires c = c.loop.invariant.0
-
 -- what the caller gets
 gives : (looks : ℕ) (counts : List ℕ) (s t : Schedule) (flow : ℕ) → lists_fit s.lists ≡ true → length s.order ≡ 64 →
     found flow t ≡ found_in looks counts s →

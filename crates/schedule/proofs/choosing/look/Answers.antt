@@ -40,15 +40,6 @@ returns-then-none-clause-s_after c =
     let f = facts a.lists.now c.requires.0 in
     rw (look_none (schedule_of a.lists.now a.order.now a.deficits.now) a.counts.now (omega (arith, none, f.old-le)) none) (λ again. refl)
 
-pub returns-then-none-clause-places : goal.returns-then-none-clause-places
-returns-then-none-clause-places c = (c.requires, refl)
-
-pub offset_bounds-order-first : goal.offset_bounds-order-first
-offset_bounds-order-first c = let f = facts c.args.lists.now c.requires.0 in omega (arith, f.first-lt)
-
-pub bounds-order-first : goal.bounds-order-first
-bounds-order-first c = let f = facts c.args.lists.now c.requires.0 in f.first-lt
-
 pub look_old-requires-clause-lists_value : goal.look_old-requires-clause-lists_value
 look_old-requires-clause-lists_value c =
     let l = c.args.lists.now in
@@ -69,5 +60,3 @@ returns-clause-s_after c =
     let some = above_zero l.listed c.if-none.false in
     rw (look-old o a.counts.now f.first-lt (omega (arith, c.if-new.false, f.old-le)) some) (c.look_old.ensures.by_index (others_of o))
 
-pub returns-clause-places : goal.returns-clause-places
-returns-clause-places c = c.look_old.ensures.places

@@ -70,5 +70,3 @@ returns-clause-by_index c =
     let high : ltb (get_or a.deficits.now a.flow 0) zero_deficit ≡ false = sym c.is_negative-negative.ensures ∙ c.if-negative.false in
     λ rest again. simp (high, ne_eqb _ _ c.if-empty.false) refl
 
-pub returns-clause-places : goal.returns-clause-places
-returns-clause-places c = ((c.requires.lists_value.0, c.requires.listed_value.0), refl)

@@ -16,12 +16,6 @@ returns-then-new c =
     let e = c.if-new.true in
     rw (lt-ltb l.old l.listed e) (refl, flow-at c.args.order.now l.first l.old l.listed e c.requires.0.1)
 
-pub offset_bounds-order-first : goal.offset_bounds-order-first
-offset_bounds-order-first c = let f = facts c.args.lists c.requires.0.0 in omega (arith, f.first-lt)
-
-pub bounds-order-first : goal.bounds-order-first
-bounds-order-first c = (facts c.args.lists c.requires.0.0).first-lt
-
 pub returns : goal.returns
 returns c =
     let l = c.args.lists in

@@ -23,29 +23,11 @@ returns-then-none-clause-s_value c =
     let s = schedule_of l.lists c.args.order.now c.args.deficits.now in
     sym l.invariant.1 ∙ none-listed c.args.counts.now s (most_looks - l.passed) (omega arith) (facts l.lists l.invariant.0.0) (eq-eqb _ _ c.if-none.true)
 
-pub returns-then-none-clause-places : goal.returns-then-none-clause-places
-returns-then-none-clause-places c = c.loop-passed.invariant.0
-
 pub head-flow-requires : goal.head-flow-requires
 head-flow-requires c = (c.loop-passed.invariant.0, above_zero c.loop-passed.lists.listed c.if-none.false)
 
-pub offset_bounds-deficits-flow : goal.offset_bounds-deficits-flow
-offset_bounds-deficits-flow c = omega (arith, c.head-flow.ensures.1)
-
-pub bounds-deficits-flow : goal.bounds-deficits-flow
-bounds-deficits-flow c = c.head-flow.ensures.1
-
 pub returns-then-negative-clause-s_value : goal.returns-then-negative-clause-s_value
 returns-then-negative-clause-s_value c = sym c.loop-passed.invariant.1
-
-pub returns-then-negative-clause-places : goal.returns-then-negative-clause-places
-returns-then-negative-clause-places c = c.loop-passed.invariant.0
-
-pub offset_bounds-counts-flow : goal.offset_bounds-counts-flow
-offset_bounds-counts-flow c = omega (arith, c.head-flow.ensures.1)
-
-pub bounds-counts-flow : goal.bounds-counts-flow
-bounds-counts-flow c = c.head-flow.ensures.1
 
 pub returns-then-not-empty-clause-s_value : goal.returns-then-not-empty-clause-s_value
 returns-then-not-empty-clause-s_value c =
@@ -56,12 +38,6 @@ returns-then-not-empty-clause-s_value c =
     c.head-flow.ensures.0 (ne_eqb _ _ c.if-none.false)
     (sym c.is_negative-negative.ensures ∙ c.if-negative.false)
     (ne_eqb _ _ c.if-not-empty.true)
-
-pub returns-then-not-empty-clause-flow_bound : goal.returns-then-not-empty-clause-flow_bound
-returns-then-not-empty-clause-flow_bound c = c.head-flow.ensures.1
-
-pub returns-then-not-empty-clause-places : goal.returns-then-not-empty-clause-places
-returns-then-not-empty-clause-places c = c.loop-passed.invariant.0
 
 pub without_head-requires : goal.without_head-requires
 without_head-requires c = (c.loop-passed.invariant.0.0, above_zero c.loop-passed.lists.listed c.if-none.false)
@@ -86,5 +62,3 @@ returns-clause-s_value c =
     let none : most_looks - l.passed ≡ 0 = omega arith in
     sym l.invariant.1 ∙ ap (λ n. found_in n c.args.counts.now s) none
 
-pub returns-clause-places : goal.returns-clause-places
-returns-clause-places c = c.loop-passed.invariant.0

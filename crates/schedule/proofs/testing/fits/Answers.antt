@@ -7,9 +7,6 @@ pub returns-then-not-fit : goal.returns-then-not-fit
 returns-then-not-fit c =
     let a = c.args in sym (no-lists a.counts.now (schedule_of a.lists a.order.now a.deficits.now) c.if-not-fit.true)
 
-pub count_listed-requires : goal.count_listed-requires
-count_listed-requires c = c.if-not-fit.false
-
 pub returns-in-None : goal.returns-in-None
 returns-in-None c = let a = c.args in sym (no-flows a.counts.now (schedule_of a.lists a.order.now a.deficits.now) c.if-not-fit.false c.in-None.ensures)
 
