@@ -1,9 +1,6 @@
 -- `note`: the flow's count, which is small.
-use mathlib.Core.Path.{ap}
 use Prim.Native.Nat.{◌≤◌}
 use native.Mathlib.Omega.{arith}
-use lib.ListN.{set}
-use Rattle.fq_state.specs.declared.Flow.{Flow}
 use Rattle.fq_steps.proofs.entering.note.Goals as goal
 
 pub overflow_cast-counts : goal.overflow_cast-counts

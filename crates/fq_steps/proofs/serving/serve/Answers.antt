@@ -1,5 +1,5 @@
 -- `serve`: a flow is chosen, and its head is handed out and its slot freed, or refused by 9.
-use mathlib.Core.Path.{◌≡◌, ap, refl, sym, ◌∙◌}
+use mathlib.Core.Path.{◌≡◌, ap, refl, ◌∙◌}
 use mathlib.Core.Bool.{false}
 use Rattle.std.proofs.lemmas.Result.{err_from_is_err_and}
 use mathlib.Core.List.{List}
