@@ -16,9 +16,9 @@ ghost use Rattle.fq_words.specs.Written.{flow_words};
 
 use fq_state::Settings;
 use fq_steps::{arrive, depart, update};
-use fq_words::{encode, fits, fresh, sized};
+use fq_words::{encode, fits, fresh};
 use hash::flow_of;
-use refusals::{Accepted, Refusal, refused};
+use refusals::{Refusal, refused};
 use units::{Bytes, Micros};
 
 #[unsafe(no_mangle)]
@@ -54,14 +54,13 @@ pub extern "C" fn obikuteru_fq_fresh_of(
         salt: salt as u64,
     };
     let r = fresh(order, deficits, flows, settings, Micros(clock));
-    sized(*flows);
     let made = r.common;
     let lists = r.lists;
     let accepted = r.accepted;
     encode(common, made, lists);
     match accepted {
-        Accepted::Yes => 0,
-        Accepted::No(refusal) => refused(refusal),
+        Ok(()) => 0,
+        Err(refusal) => refused(refusal),
     }
 }
 

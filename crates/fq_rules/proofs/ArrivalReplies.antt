@@ -6,10 +6,8 @@ use Prim.Native.Nat.{ℕ}
 use lib.ListN.{length, set}
 use Rattle.pie.specs.Verdicts.{admitted}
 use Rattle.pie.specs.declared.Verdict.{Verdict}
-use Rattle.refusals.specs.Numbers.{number_of, refusal_in}
+use Rattle.refusals.specs.Numbers.{number_of}
 use Rattle.refusals.specs.Rows.{first_refusal}
-use Rattle.refusals.specs.declared.Accepted.{Accepted}
-use Rattle.refusals.specs.declared.Accepted.TheVariants.{No}
 use Rattle.refusals.specs.declared.Refusal.{Refusal}
 use Rattle.schedule.specs.Entering.{is_listed}
 use Rattle.schedule.specs.Ring.{Schedule, entered_in, two_lists}
@@ -76,10 +74,10 @@ module _ (s : State) (handles sizes : List ℕ) (clock : ℕ) (key : List ℕ) (
   unfolding arrival arrival_refusal
   arrival-reply = refl
 
-  pub arrival-refused : (checked : Accepted) (r : Refusal) → refusal_in checked ≡ first_refusal rows → checked ≡ No r →
+  pub arrival-refused : (r : Refusal) → number_of r ≡ first_refusal rows →
       Arrives s handles sizes clock key handle size ecn u (refused (number_of r)) s handles sizes
-  arrival-refused checked r e found =
-      let number : first_refusal (rows ++ last) ≡ number_of r = first-refuses rows last (number_of r) (above r) (rw found at e) in
+  arrival-refused r e =
+      let number : first_refusal (rows ++ last) ≡ number_of r = first-refuses rows last (number_of r) (above r) e in
       rw (arrival-reply, number, refused-reply) (refl, refl, refl, refl)
 
   module _ (passed : first_refusal rows ≡ 0) (flow : ℕ) (f : Flow) (v : Verdict) (el : flow ≡ flow_number s key)

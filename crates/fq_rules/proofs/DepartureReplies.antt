@@ -4,10 +4,8 @@ use mathlib.Core.Bool.{Bool, true, false}
 use mathlib.Core.List.{List, [], ◌∷◌, ◌++◌}
 use Prim.Native.Nat.{ℕ, ◌-◌}
 use lib.ListN.{get_or, length, set}
-use Rattle.refusals.specs.Numbers.{number_of, refusal_in}
+use Rattle.refusals.specs.Numbers.{number_of}
 use Rattle.refusals.specs.Rows.{first_refusal}
-use Rattle.refusals.specs.declared.Accepted.{Accepted}
-use Rattle.refusals.specs.declared.Accepted.TheVariants.{No}
 use Rattle.refusals.specs.declared.Refusal.{Refusal}
 use Rattle.schedule.specs.Choosing.{choose}
 use Rattle.schedule.specs.Ring.{charged_in, chosen_in, schedule_of, two_lists}
@@ -16,7 +14,7 @@ use Rattle.store.specs.Take.{sizes_after_take}
 use Rattle.fq_state.specs.State.{State, counts_of, flow_at}
 use Rattle.fq_state.specs.declared.Common.{Common}
 use Rattle.fq_state.specs.declared.Flow.{Flow}
-use Rattle.fq_rules.specs.Answer.{Answer, departed, flow_in, handle_in, refused, size_in, unless_refused}
+use Rattle.fq_rules.specs.Answer.{Answer, departed, refused, unless_refused}
 use Rattle.fq_rules.specs.Departure.{
   choice_of,
   departed_common,
@@ -35,11 +33,10 @@ use Rattle.fq_rules.proofs.Rows.{above, first-refuses, none-refuses-yet}
 
 -- what a departure promises of its answer, the record and the sizes
 abbrev pub Departs : (s : State) (handles sizes : List ℕ) (clock : ℕ)
-    (answer : Answer) (flow handle size : ℕ) (after : State) (sizes' : List ℕ) → Type 0
-Departs s handles sizes clock answer flow handle size after sizes' =
+    (answer : Answer) (after : State) (sizes' : List ℕ) → Type 0
+Departs s handles sizes clock answer after sizes' =
     let reply = departure s handles sizes clock in
     (answer ≡ reply.answer)
-    × (flow ≡ flow_in reply.answer) × (handle ≡ handle_in reply.answer) × (size ≡ size_in reply.answer)
     × (after ≡ reply.state)
     × (sizes' ≡ departed_sizes s reply.answer sizes)
 
@@ -64,11 +61,11 @@ module _ (s : State) (handles sizes : List ℕ) (clock : ℕ) where
   unfolding departure departure_refusal
   departure-reply = refl
 
-  pub departure-refused : (checked : Accepted) (r : Refusal) → refusal_in checked ≡ first_refusal rows → checked ≡ No r →
-      Departs s handles sizes clock (refused (number_of r)) 0 0 0 s sizes
-  departure-refused checked r e found =
-      let given : first_refusal (rows ++ last) ≡ number_of r = first-refuses rows last (number_of r) (above r) (rw found at e) in
-      rw (departure-reply, given, refused-reply) (refl, refl, refl, refl, refl, refl)
+  pub departure-refused : (r : Refusal) → number_of r ≡ first_refusal rows →
+      Departs s handles sizes clock (refused (number_of r)) s sizes
+  departure-refused r e =
+      let given : first_refusal (rows ++ last) ≡ number_of r = first-refuses rows last (number_of r) (above r) e in
+      rw (departure-reply, given, refused-reply) (refl, refl, refl)
 
   module _ (passed : first_refusal rows ≡ 0) (counts : List ℕ) (flow : ℕ) (f : Flow) (ec : counts ≡ counts_of s.flows)
       (el : flow ≡ (choose counts (two_lists s.schedule)).flow) (ef : f ≡ flow_at s.flows flow) where
@@ -81,11 +78,10 @@ module _ (s : State) (handles sizes : List ℕ) (clock : ℕ) where
     served : served_flow s ≡ f
     served = ap (flow_at s.flows) chosen ∙ sym ef
 
-    pub departure-lost : head_word_refused s.common.settings.slots f sizes ≡ true → Departs s handles sizes clock (refused 9) 0 0 0 s
-        sizes
+    pub departure-lost : head_word_refused s.common.settings.slots f sizes ≡ true → Departs s handles sizes clock (refused 9) s sizes
     departure-lost wrong =
         let given : first_refusal last ≡ 9 = rw (served, wrong) in
-        rw (departure-reply, past ∙ given) (refl, refl, refl, refl, refl, refl)
+        rw (departure-reply, past ∙ given) (refl, refl, refl)
 
     pub departure-taken : (lists : Lists) (order deficits deficits' : List ℕ) (handle size : ℕ) (common : Common) (next : Flow)
         (flows : List Flow) (sizes' : List ℕ) →
@@ -96,9 +92,9 @@ module _ (s : State) (handles sizes : List ℕ) (clock : ℕ) where
         deficits' ≡ set deficits flow (get_or deficits flow 0 - size) →
         next ≡ departed_flow f sizes clock size → flows ≡ set s.flows flow next →
         sizes' ≡ sizes_after_take sizes f.head s.common.store.freed →
-        Departs s handles sizes clock (departed flow handle size) flow handle size
+        Departs s handles sizes clock (departed flow handle size)
         (record { common = common; schedule = schedule_of lists order deficits'; flows = flows }) sizes'
     departure-taken lists order deficits deficits' handle size common next flows sizes' right es eh ez eo ed en ew et =
         let given : first_refusal last ≡ 0 = rw (served, right) in
         let moved : chosen_in s.schedule (choice_of s) ≡ schedule_of lists order deficits = sym (rw ec at es) in
-        rw (departure-reply, past ∙ given, moved, served, chosen, eo, ed, ew, en, et, eh, ez) (refl, refl, refl, refl, refl, refl)
+        rw (departure-reply, past ∙ given, moved, served, chosen, eo, ed, ew, en, et, eh, ez) (refl, refl, refl)

@@ -2,9 +2,7 @@
 use mathlib.Core.Path.{◌≡◌, refl}
 use mathlib.Core.List.{List, map}
 use Prim.Native.Nat.{ℕ}
-use Rattle.refusals.specs.Numbers.{number_of, refusal_in}
-use Rattle.refusals.specs.declared.Accepted.{Accepted}
-use Rattle.refusals.specs.declared.Accepted.TheVariants.{No, Yes}
+use Rattle.refusals.specs.Numbers.{number_of}
 use Rattle.refusals.specs.declared.Refusal.{Refusal}
 use Rattle.refusals.specs.declared.Refusal.TheVariants.{Settings, Malformed, Tables, Clock, TooSoon, Empty, Size, Counts, Head}
 use Rattle.fq_state.specs.State.{State}
@@ -26,16 +24,14 @@ refused-reply Head given accepted = refl
 
 -- ── a tick ──
 
-pub tick-refused : (s : State) (clock : ℕ) (checked : Accepted) (r : Refusal) →
-    refusal_in checked ≡ tick_refusal s clock → checked ≡ No r →
+pub tick-refused : (s : State) (clock : ℕ) (r : Refusal) → number_of r ≡ tick_refusal s clock →
     (refused (number_of r) ≡ (tick s clock).answer) × (s ≡ (tick s clock).state)
 unfolding tick
-tick-refused s clock checked r e found = rw (← e, found, refused-reply) (refl, refl)
+tick-refused s clock r e = rw (← e, refused-reply) (refl, refl)
 
-pub tick-taken : (s : State) (clock : ℕ) (checked : Accepted) (flows : List Flow) →
-    refusal_in checked ≡ tick_refusal s clock → checked ≡ Yes →
+pub tick-taken : (s : State) (clock : ℕ) (flows : List Flow) → 0 ≡ tick_refusal s clock →
     flows ≡ map (ticked_flow s.common.settings.target.0) s.flows →
     (ticked ≡ (tick s clock).answer)
     × (record { common = ticked_common s.common clock; schedule = s.schedule; flows = flows } ≡ (tick s clock).state)
 unfolding tick
-tick-taken s clock checked flows e found ef = rw (← e, found, ef) (refl, refl)
+tick-taken s clock flows e ef = rw (← e, ef) (refl, refl)

@@ -1,13 +1,11 @@
 -- What a call on 64 flows answers and returns.
-use Rattle.std.specs.Prelude.{Bool, true, false, ℕ, zero, suc}
+use Rattle.std.specs.Prelude.{Bool, true, false, ℕ, zero, suc, Result, Ok, Err, ⊤}
 use Rattle.pie.specs.declared.Verdict.{Verdict}
 use Rattle.pie.specs.Verdicts.{admitted}
-use Rattle.refusals.specs.declared.ArrivalAnswer.{ArrivalAnswer}
-use Rattle.refusals.specs.declared.ArrivalAnswer.TheVariants.{Decided, Refused}
 use Rattle.refusals.specs.Numbers.{number_of}
-use Rattle.refusals.specs.declared.Accepted.{Accepted}
-use Rattle.refusals.specs.declared.Accepted.TheVariants.{Yes, No}
+use Rattle.refusals.specs.declared.Refusal.{Refusal}
 use Rattle.fq_state.specs.State.{State}
+use Rattle.fq_rules.specs.declared.Served.{Served}
 
 pub data Answer : Type 0 where
   -- any call, with the number
@@ -63,11 +61,17 @@ size_in ticked = 0
 
 -- ── what the library's own values say ──
 
--- an answer that is `accepted` unless it is a refusal
-abbrev pub accepted_answer : Accepted → (accepted : Answer) → Answer
-accepted_answer Yes accepted = accepted
-accepted_answer (No r) accepted = refused (number_of r)
+-- an answer by what an accepted call of its kind answers
+abbrev pub answer_by : {T : Type 0} → (T → Answer) → Result T Refusal → Answer
+answer_by accepted (Ok x) = accepted x
+answer_by accepted (Err r) = refused (number_of r)
 
-abbrev pub arrival_answer : ArrivalAnswer → Answer
-arrival_answer (Decided v) = verdict v
-arrival_answer (Refused r) = refused (number_of r)
+-- an answer that is `accepted` unless it is a refusal
+abbrev pub accepted_answer : Result ⊤ Refusal → (accepted : Answer) → Answer
+accepted_answer r accepted = answer_by (λ x. accepted) r
+
+abbrev pub arrival_answer : Result Verdict Refusal → Answer
+arrival_answer r = answer_by verdict r
+
+abbrev pub departure_answer : Result Served Refusal → Answer
+departure_answer r = answer_by (λ s. departed s.flow s.packet.handle s.packet.size) r

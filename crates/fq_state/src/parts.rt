@@ -1,4 +1,4 @@
-// The parts of a flow.
+// The parts of a flow: three, so each has its name and none is a `From`.
 ghost use Rattle.std.specs.Prelude.{◌≡◌};
 ghost use Rattle.fq_state.specs.Flow.{backlog_of, ends_of, flow_with, pie_of};
 

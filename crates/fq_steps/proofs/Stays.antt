@@ -1,10 +1,11 @@
 -- What a call leaves as it was, of what all flows have in common and of where the lists stand.
-use mathlib.Core.Path.{◌≡◌, refl}
+use mathlib.Core.Path.{◌≡◌, refl, ap, ◌∙◌}
 use mathlib.Core.Bool.{Bool, not, ◌&&◌}
 use mathlib.Core.List.{List, [], ◌∷◌}
-use Prim.Native.Nat.{ℕ, ◌+◌, ◌≤◌}
+use Prim.Native.Nat.{ℕ, zero, suc, ◌+◌, ◌≤◌}
 use native.Mathlib.Omega.{arith}
-use lib.ListN.{get_or, set}
+use lib.ListN.{drop, drop_of_length-le, get_or, length, set}
+use lib.Seq.{drop-cons}
 use Rattle.laws.proofs.Choice.{either}
 use Rattle.pie.specs.Verdicts.{admitted, place_of, raised, total}
 use Rattle.pie.specs.declared.Verdict.{Verdict}
@@ -21,6 +22,46 @@ use Rattle.fq_rules.specs.Tick.{tick}
 use Rattle.fq_words.specs.Words.{common_of, lists_of}
 use Rattle.fq_words.specs.Written.{common_words}
 use Rattle.fq_rules.proofs.Cases.{arrival-cases, departure-cases, tick-cases}
+
+-- ── nineteen words ──
+
+-- n words, from this place on
+unfoldable words_from : (n k : ℕ) (w : List ℕ) → List ℕ
+words_from zero k w = []
+words_from (suc n) k w = get_or w k 0 ∷ words_from n (suc k) w
+
+all_words : (n k : ℕ) (w : List ℕ) → length w ≡ k + n → drop k w ≡ words_from n k w
+unfolding words_from
+all_words zero k w e = drop_of_length-le w (omega arith)
+all_words (suc n) k w e = drop-cons w k 0 (omega arith) ∙ ap (λ l. get_or w k 0 ∷ l) (all_words n (suc k) w (omega arith))
+
+-- the words, each by its place
+abbrev pub placed : List ℕ → List ℕ
+placed w =
+    get_or w 0 0
+    ∷ get_or w 1 0
+    ∷ get_or w 2 0
+    ∷ get_or w 3 0
+    ∷ get_or w 4 0
+    ∷ get_or w 5 0
+    ∷ get_or w 6 0
+    ∷ get_or w 7 0
+    ∷ get_or w 8 0
+    ∷ get_or w 9 0
+    ∷ get_or w 10 0
+    ∷ get_or w 11 0
+    ∷ get_or w 12 0
+    ∷ get_or w 13 0
+    ∷ get_or w 14 0
+    ∷ get_or w 15 0
+    ∷ get_or w 16 0
+    ∷ get_or w 17 0
+    ∷ get_or w 18 0
+    ∷ []
+
+pub nineteen : (w : List ℕ) → length w ≡ 19 → w ≡ placed w
+unfolding words_from
+nineteen w e = all_words 19 0 w e
 
 -- ── an arrival ──
 
@@ -103,6 +144,15 @@ by-verdict w c l Marked s t r f o = rw (s, t, r, f, o)
 by-verdict w c l DroppedBytes s t r f o = rw (s, t, r, f, o)
 by-verdict w c l DroppedSlots s t r f o = rw (s, t, r, f, o)
 by-verdict w c l DroppedEarly s t r f o = rw (s, t, r, f, o)
+
+-- what is written
+abbrev pub arrived_in : (w : List ℕ) → Common → Lists → List ℕ
+arrived_in w c l =
+    set (set (set (set (set (set (set w 4 c.clock.0) 6 c.backlog.count) 7 c.backlog.bytes.0) 8 c.store.used) 9 c.store.freed) 10 c.store.spare)
+    18 l.listed
+
+pub arrived-in : (w : List ℕ) (c : Common) (l : Lists) → length w ≡ 19 → arrived_in w c l ≡ arrived_words w c l
+arrived-in w c l long = ap (λ (x : List ℕ). arrived_in x c l) (nineteen w long)
 
 pub arrived-words : (w : List ℕ) (c : Common) (l : Lists) (v : Verdict) (at : ℕ) → at ≡ place_of v → c.settings ≡ (common_of w).settings →
     c.last ≡ (common_of w).last → c.verdicts ≡ raised (common_of w).verdicts v → l.first ≡ (lists_of w).first → l.old ≡ (lists_of w).old →

@@ -1,10 +1,10 @@
 // The calls, on a record that is well formed.
-ghost use Rattle.std.specs.Prelude.{◌≡◌, true, List, ℕ, ◌<◌};
+ghost use Rattle.std.specs.Prelude.{◌≡◌, IfOk, true, List, ℕ, ◌<◌};
 ghost use Rattle.pie.specs.Constants.{most_verdicts};
 ghost use Rattle.pie.specs.Verdicts.{total};
 ghost use Rattle.fq_state.specs.State.{counts_of};
 ghost use Rattle.fq_state.specs.WellFormed.{well_formed};
-ghost use Rattle.fq_rules.specs.Answer.{accepted_answer, arrival_answer, departed, flow_in, handle_in, size_in, ticked};
+ghost use Rattle.fq_rules.specs.Answer.{accepted_answer, arrival_answer, departure_answer, ticked};
 ghost use Rattle.fq_rules.specs.Arrival.{arrival, arrived_handles, arrived_sizes, flow_number};
 ghost use Rattle.fq_rules.specs.Departure.{departed_sizes, departure};
 ghost use Rattle.fq_rules.specs.Tick.{tick};
@@ -12,18 +12,19 @@ ghost use Rattle.fq_words.specs.Words.{flows_of, state_of};
 
 use crate::checking::{check_arrival, check_departure, check_tick};
 use crate::receiving::receive;
-use crate::serving::{refuse, serve};
+use crate::serving::serve;
 use crate::ticking::tick_all;
-use crate::{Arrived, Departed, Ticked};
+use fq_rules::Served;
 use fq_state::Common;
-use refusals::{Accepted, ArrivalAnswer};
+use pie::Verdict;
+use refusals::Refusal;
 use schedule::Lists;
 use units::{Bytes, Micros};
 
 // A packet of this flow, of `size` bytes, arrives; `u` is its random number. Where `room`, the counts are not full.
 pub(crate) fn arrival_of(
-    common: Common,
-    lists: Lists,
+    common: &mut Common,
+    lists: &mut Lists,
     order: &mut [u64; 64],
     deficits: &mut [u32; 64],
     flows: &mut [u64; 768],
@@ -36,43 +37,35 @@ pub(crate) fn arrival_of(
     ecn: bool,
     u: u32,
     room: bool,
-) -> Arrived
-    requires flows_value { well_formed (state_of common lists order.old deficits.old flows.old) ≡ true }
+) -> Result<Verdict, Refusal>
+    requires flows_value { well_formed (state_of common.old lists.now order.old deficits.old flows.old) ≡ true }
     requires flow_bound { flow < 64 }
-    requires verdicts_bound { (room ≡ true) → (total common.verdicts < most_verdicts) }
-    ensures { let s = state_of common lists order.old deficits.old flows.old in
+    requires verdicts_bound { (room ≡ true) → (total common.old.verdicts < most_verdicts) }
+    ensures { let s = state_of common.old lists.entry.now order.old deficits.old flows.old in
         (key : List ℕ) → flow ≡ flow_number s key →
         let a = arrival s handles.old sizes.old clock.0 key size.0 ecn u in
-        (arrival_answer result.answer ≡ a.answer)
-        × (state_of result.common result.lists order.new deficits.new flows.new ≡ a.state)
+        (arrival_answer result ≡ a.answer)
+        × (state_of common.new lists.exit.now order.new deficits.new flows.new ≡ a.state)
         × (handles.new ≡ arrived_handles s a.answer handles.old handle)
         × (sizes.new ≡ arrived_sizes s a.answer sizes.old key size.0) }
 {
-    let checked = check_arrival(
-        common,
+    check_arrival(
+        *common,
         handles.len() as u64,
         sizes.len() as u64,
         clock,
         size,
         room,
-    );
-    match checked {
-        Accepted::No(refusal) => Arrived {
-            answer: ArrivalAnswer::Refused(refusal),
-            common,
-            lists,
-        },
-        Accepted::Yes => receive(
-            common, lists, order, deficits, flows, handles, sizes, clock, flow, handle, size, ecn,
-            u,
-        ),
-    }
+    )?;
+    receive(
+        common, lists, order, deficits, flows, handles, sizes, clock, flow, handle, size, ecn, u,
+    )
 }
 
 // The packet that is served next leaves. The counts are the flows'.
 pub(crate) fn departure_of(
-    common: Common,
-    lists: Lists,
+    common: &mut Common,
+    lists: &mut Lists,
     order: &mut [u64; 64],
     deficits: &mut [u32; 64],
     flows: &mut [u64; 768],
@@ -80,57 +73,40 @@ pub(crate) fn departure_of(
     handles: &[u32],
     sizes: &mut [u32],
     clock: Micros,
-) -> Departed
-    requires flows_value { well_formed (state_of common lists order.old deficits.old flows.old) ≡ true }
+) -> Result<Served, Refusal>
+    requires flows_value { well_formed (state_of common.old lists.now order.old deficits.old flows.old) ≡ true }
     requires counts_value { counts.now ≡ counts_of (flows_of flows.old) }
-    ensures fact { let s = state_of common lists order.old deficits.old flows.old in
+    ensures fact { let s = state_of common.old lists.entry.now order.old deficits.old flows.old in
         let a = departure s handles.now sizes.old clock.0 in
-        (accepted_answer result.accepted (departed result.flow result.handle result.size) ≡ a.answer)
-        × (result.flow ≡ flow_in a.answer) × (result.handle ≡ handle_in a.answer) × (result.size ≡ size_in a.answer)
-        × (state_of result.common result.lists order.new deficits.new flows.new ≡ a.state)
+        (departure_answer result ≡ a.answer)
+        × (state_of common.new lists.exit.now order.new deficits.new flows.new ≡ a.state)
         × (sizes.new ≡ departed_sizes s a.answer sizes.old) }
-    ensures flow_bound { result.flow < 64 }
+    ensures flow_bound { IfOk result (λ served. served.flow < 64) }
 {
-    let checked = check_departure(common, handles.len() as u64, sizes.len() as u64, clock);
-    match checked {
-        Accepted::No(refusal) => refuse(refusal, common, lists),
-        Accepted::Yes => serve(
-            common, lists, order, deficits, flows, counts, handles, sizes, clock,
-        ),
-    }
+    check_departure(*common, handles.len() as u64, sizes.len() as u64, clock)?;
+    serve(
+        common, lists, order, deficits, flows, counts, handles, sizes, clock,
+    )
 }
 
 // The periodic update of all flows.
 pub(crate) fn tick_of(
-    common: Common,
+    common: &mut Common,
     lists: Lists,
     order: &[u64; 64],
     deficits: &[u32; 64],
     flows: &mut [u64; 768],
     clock: Micros,
-) -> Ticked
-    requires { well_formed (state_of common lists order.now deficits.now flows.old) ≡ true }
-    ensures { let s = state_of common lists order.now deficits.now flows.old in
+) -> Result<(), Refusal>
+    requires { well_formed (state_of common.old lists order.now deficits.now flows.old) ≡ true }
+    ensures { let s = state_of common.old lists order.now deficits.now flows.old in
         let a = tick s clock.0 in
-        (accepted_answer result.accepted ticked ≡ a.answer)
-        × (state_of result.common lists order.now deficits.now flows.new ≡ a.state) }
+        (accepted_answer result ticked ≡ a.answer)
+        × (state_of common.new lists order.now deficits.now flows.new ≡ a.state) }
 {
-    let accepted = check_tick(common, clock);
-    match accepted {
-        Accepted::No(refusal) => Ticked {
-            accepted: Accepted::No(refusal),
-            common,
-        },
-        Accepted::Yes => {
-            tick_all(flows, common);
-            Ticked {
-                accepted: Accepted::Yes,
-                common: Common {
-                    clock,
-                    last: clock,
-                    ..common
-                },
-            }
-        }
-    }
+    check_tick(*common, clock)?;
+    tick_all(flows, *common);
+    common.clock = clock;
+    common.last = clock;
+    Ok(())
 }

@@ -13,7 +13,7 @@ ghost use Rattle.laws.specs.Tests.{all};
 
 use fq_state::Common;
 use pie::{LARGEST, LATEST, PERIOD};
-use refusals::{Accepted, Refusal, counts_full};
+use refusals::{Refusal, counts_full};
 use units::{Bytes, Micros};
 
 // Refusal 8, which is not due where there is known to be room.
@@ -36,7 +36,7 @@ pub(crate) fn check_arrival(
     clock: Micros,
     size: Bytes,
     room: bool,
-) -> Accepted
+) -> Result<(), Refusal>
     requires common_value { all (common_conditions common) ≡ true }
     requires verdicts_bound { (room ≡ true) → (total common.verdicts < most_verdicts) }
     ensures { (s : State) → s.common ≡ common → well_formed s ≡ true →
@@ -45,57 +45,62 @@ pub(crate) fn check_arrival(
     let slots = common.settings.slots;
     let fit = (handles == slots) & (sizes == slots);
     if !fit {
-        return Accepted::No(Refusal::Tables);
+        return Err(Refusal::Tables);
     }
     let wrong_clock = (clock.0 < common.clock.0) | (LATEST < clock.0);
     if wrong_clock {
-        return Accepted::No(Refusal::Clock);
+        return Err(Refusal::Clock);
     }
     let wrong_size = (size.0 == 0) | (LARGEST < size.0);
     if wrong_size {
-        return Accepted::No(Refusal::Size);
+        return Err(Refusal::Size);
     }
     let verdicts = common.verdicts;
     let full = are_full(verdicts, room);
     if full {
-        return Accepted::No(Refusal::Counts);
+        return Err(Refusal::Counts);
     }
-    Accepted::Yes
+    Ok(())
 }
 
 // Refusals 3, 4 and 6 of a departure.
-pub(crate) fn check_departure(common: Common, handles: u64, sizes: u64, clock: Micros) -> Accepted
+pub(crate) fn check_departure(
+    common: Common,
+    handles: u64,
+    sizes: u64,
+    clock: Micros,
+) -> Result<(), Refusal>
     ensures { (s : State) → s.common ≡ common → well_formed s ≡ true →
         refusal_in result ≡ first_refusal (before_choosing s handles sizes clock.0) }
 {
     let slots = common.settings.slots;
     let fit = (handles == slots) & (sizes == slots);
     if !fit {
-        return Accepted::No(Refusal::Tables);
+        return Err(Refusal::Tables);
     }
     let wrong_clock = (clock.0 < common.clock.0) | (LATEST < clock.0);
     if wrong_clock {
-        return Accepted::No(Refusal::Clock);
+        return Err(Refusal::Clock);
     }
     let empty = common.backlog.count == 0;
     if empty {
-        return Accepted::No(Refusal::Empty);
+        return Err(Refusal::Empty);
     }
-    Accepted::Yes
+    Ok(())
 }
 
 // Refusals 4 and 5 of a tick.
-pub(crate) fn check_tick(common: Common, clock: Micros) -> Accepted
+pub(crate) fn check_tick(common: Common, clock: Micros) -> Result<(), Refusal>
     requires { all (common_conditions common) ≡ true }
     ensures { (s : State) → s.common ≡ common → well_formed s ≡ true → refusal_in result ≡ tick_refusal s clock.0 }
 {
     let wrong_clock = (clock.0 < common.clock.0) | (LATEST < clock.0);
     if wrong_clock {
-        return Accepted::No(Refusal::Clock);
+        return Err(Refusal::Clock);
     }
     let too_soon = clock.0 < common.last.0 + PERIOD;
     if too_soon {
-        return Accepted::No(Refusal::TooSoon);
+        return Err(Refusal::TooSoon);
     }
-    Accepted::Yes
+    Ok(())
 }

@@ -12,9 +12,9 @@ ghost use Rattle.fq_words.specs.Words.{common_of, flows_of, lent};
 
 use crate::calling::{arrival_of, departure_of, tick_of};
 use crate::writing::{write_arrived, write_left, write_ticked};
-use fq_words::{decode, decode_lists, flow_at, numbered, sized};
+use fq_words::{decode, decode_lists, flow_at, numbered};
 use hash::flow_of;
-use refusals::{Accepted, ArrivalAnswer, refused};
+use refusals::refused;
 use units::{Bytes, Micros};
 
 // Notes the count of one flow anew.
@@ -57,13 +57,12 @@ pub fn arrive(
         × (sizes.new ≡ arrived_sizes s a.answer sizes.old key.now size) }
     ensures counts_after { counts.new ≡ counts_of (flows_of flows.new) }
 {
-    sized(*flows);
-    let c = decode(*common);
-    let l = decode_lists(*common);
-    let flow = flow_of(key, c.settings.salt as u32) as usize;
-    let r = arrival_of(
-        c,
-        l,
+    let mut values = decode(*common);
+    let mut lists = decode_lists(*common);
+    let flow = flow_of(key, values.settings.salt as u32) as usize;
+    let answer = arrival_of(
+        &mut values,
+        &mut lists,
         order,
         deficits,
         flows,
@@ -77,15 +76,11 @@ pub fn arrive(
         u,
         room,
     );
-    sized(*flows);
     note(flows, counts, flow);
-    let arrived = r.common;
-    let lists = r.lists;
-    let answer = r.answer;
     match answer {
-        ArrivalAnswer::Refused(refusal) => refused(refusal),
-        ArrivalAnswer::Decided(v) => {
-            write_arrived(common, arrived, lists, v);
+        Err(refusal) => refused(refusal),
+        Ok(v) => {
+            write_arrived(common, values, lists, v);
             numbered(v)
         }
     }
@@ -115,12 +110,11 @@ pub fn depart(
         × (packet.new ≡ packet_of a.answer) }
     ensures counts_after { counts.new ≡ counts_of (flows_of flows.new) }
 {
-    sized(*flows);
-    let c = decode(*common);
-    let l = decode_lists(*common);
-    let r = departure_of(
-        c,
-        l,
+    let mut values = decode(*common);
+    let mut lists = decode_lists(*common);
+    let served = departure_of(
+        &mut values,
+        &mut lists,
         order,
         deficits,
         flows,
@@ -129,19 +123,15 @@ pub fn depart(
         sizes,
         Micros(clock),
     );
-    sized(*flows);
-    let left = r.common;
-    let lists = r.lists;
-    let flow = r.flow;
-    note(flows, counts, flow as usize);
-    let handle = r.handle;
-    let size = r.size;
-    let accepted = r.accepted;
-    *packet = [flow, handle, size];
-    match accepted {
-        Accepted::No(refusal) => refused(refusal),
-        Accepted::Yes => {
-            write_left(common, left, lists);
+    match served {
+        Err(refusal) => {
+            *packet = [0, 0, 0];
+            refused(refusal)
+        }
+        Ok(s) => {
+            note(flows, counts, s.flow as usize);
+            *packet = [s.flow, s.packet.handle, s.packet.size];
+            write_left(common, values, lists);
             0
         }
     }
@@ -162,17 +152,13 @@ pub fn update(
         × (flows.new ≡ flows_after a flows.old) }
     ensures flows_unchanged { counts_of (flows_of flows.new) ≡ counts_of (flows_of flows.old) }
 {
-    sized(*flows);
-    let c = decode(*common);
-    let l = decode_lists(*common);
-    let r = tick_of(c, l, order, deficits, flows, Micros(clock));
-    sized(*flows);
-    let ticked = r.common;
-    let accepted = r.accepted;
-    match accepted {
-        Accepted::No(refusal) => refused(refusal),
-        Accepted::Yes => {
-            write_ticked(common, ticked);
+    let mut values = decode(*common);
+    let lists = decode_lists(*common);
+    let answer = tick_of(&mut values, lists, order, deficits, flows, Micros(clock));
+    match answer {
+        Err(refusal) => refused(refusal),
+        Ok(()) => {
+            write_ticked(common, values);
             0
         }
     }

@@ -8,43 +8,37 @@ ghost use Rattle.fq_rules.specs.Answer.{arrival_answer};
 ghost use Rattle.fq_rules.specs.Arrival.{arrival, arrived_handles, arrived_sizes, before_verdict, flow_number};
 ghost use Rattle.fq_words.specs.Words.{state_of};
 
-use crate::Arrived;
 use fq_rules::{arrived, counted, decide, lost};
 use fq_state::Common;
 use fq_words::{flow_at, set_flow};
-use refusals::{ArrivalAnswer, Refusal};
+use pie::Verdict;
+use refusals::Refusal;
 use schedule::{Lists, enter, is_listed};
 use store::write_packet;
 use units::{Bytes, Micros};
 
-// The lists with this flow, which had `count` packets: with any, it is listed already.
-fn list(
-    order: &mut [u64; 64],
-    deficits: &mut [u32; 64],
-    lists: Lists,
-    flow: usize,
-    count: u64,
-) -> Lists
-    requires lists_value { (lists_fit lists ≡ true) × (flow < 64) }
-    requires flow_value { 0 < count → is_listed (two_lists (schedule_of lists order.old deficits.old)) flow ≡ true }
-    ensures { let s = schedule_of lists order.old deficits.old in
-        schedule_of result order.new deficits.new ≡ cond (not (is_listed (two_lists s) flow)) (entered_in s flow) s }
+// A flow that had `count` packets is listed: with any, it is already.
+fn list(order: &mut [u64; 64], deficits: &mut [u32; 64], lists: &mut Lists, flow: usize, count: u64)
+    requires lists_value { (lists_fit lists.now ≡ true) × (flow < 64) }
+    requires flow_value { 0 < count → is_listed (two_lists (schedule_of lists.now order.old deficits.old)) flow ≡ true }
+    ensures { let s = schedule_of lists.entry.now order.old deficits.old in
+        schedule_of lists.exit.now order.new deficits.new ≡ cond (not (is_listed (two_lists s) flow)) (entered_in s flow) s }
 {
     if 0 < count {
-        return lists;
+        return;
     }
-    let listed = is_listed(order, lists, flow as u64);
+    let listed = is_listed(order, *lists, flow as u64);
     if listed {
-        return lists;
+        return;
     }
-    enter(order, deficits, lists, flow)
+    enter(order, deficits, lists, flow);
 }
 
 // The packet is decided on, and refused by 9, or counted; where its verdict admits, it is written and its flow listed. `flow` is that of
 // its key.
 pub(crate) fn receive(
-    common: Common,
-    lists: Lists,
+    common: &mut Common,
+    lists: &mut Lists,
     order: &mut [u64; 64],
     deficits: &mut [u32; 64],
     flows: &mut [u64; 768],
@@ -56,47 +50,35 @@ pub(crate) fn receive(
     size: Bytes,
     ecn: bool,
     u: u32,
-) -> Arrived
-    requires size_value { first_refusal (before_verdict (state_of common lists order.old deficits.old flows.old)
+) -> Result<Verdict, Refusal>
+    requires size_value { first_refusal (before_verdict (state_of common.old lists.now order.old deficits.old flows.old)
         (length handles.old) (length sizes.old) clock.0 size.0) ≡ 0 }
     requires flow_bound { flow < 64 }
-    ensures { let s = state_of common lists order.old deficits.old flows.old in
+    ensures { let s = state_of common.old lists.entry.now order.old deficits.old flows.old in
         (key : List ℕ) → flow ≡ flow_number s key →
         let a = arrival s handles.old sizes.old clock.0 key size.0 ecn u in
-        (arrival_answer result.answer ≡ a.answer)
-        × (state_of result.common result.lists order.new deficits.new flows.new ≡ a.state)
+        (arrival_answer result ≡ a.answer)
+        × (state_of common.new lists.exit.now order.new deficits.new flows.new ≡ a.state)
         × (handles.new ≡ arrived_handles s a.answer handles.old handle)
         × (sizes.new ≡ arrived_sizes s a.answer sizes.old key size.0) }
 {
+    let before = *common;
     let f = flow_at(flows, flow);
-    let decided = decide(common, f, size, ecn, u);
+    let decided = decide(before, f, size, ecn, u);
     let v = decided.verdict;
-    let nowhere = lost(common, sizes, v);
+    let nowhere = lost(before, sizes, v);
     if nowhere {
-        return Arrived {
-            answer: ArrivalAnswer::Refused(Refusal::Head),
-            common,
-            lists,
-        };
+        return Err(Refusal::Head);
     }
-    let store = common.store;
+    let store = before.store;
     let place = store.free_place();
     set_flow(flows, flow, arrived(f, size, place, v, decided.accumulated));
-    let after = counted(common, sizes, clock, size, v);
-    let answer = ArrivalAnswer::Decided(v);
+    *common = counted(before, sizes, clock, size, v);
     let admits = v.admits();
-    if !admits {
-        return Arrived {
-            answer,
-            common: after,
-            lists,
-        };
+    if admits {
+        let word = size.0 as u32;
+        write_packet(handles, sizes, f.ends(), f.count, place, handle, word);
+        list(order, deficits, lists, flow, f.count);
     }
-    let word = size.0 as u32;
-    write_packet(handles, sizes, f.ends(), f.count, place, handle, word);
-    Arrived {
-        answer,
-        common: after,
-        lists: list(order, deficits, lists, flow, f.count),
-    }
+    Ok(v)
 }

@@ -14,11 +14,9 @@ pub(crate) fn tick_all(flows: &mut [u64; 768], common: Common)
     requires { (all (common_conditions common) ≡ true) × (flows_fit common (flows_of flows.old) ≡ true) }
     ensures { flows_of flows.new ≡ map (ticked_flow common.settings.target.0) (flows_of flows.old) }
 {
-    let mut i: usize = 0;
-    while i < 64 {
+    for i in 0..64 {
         let f = flow_at(flows, i);
         let next = tick_flow(f, common);
         set_flow(flows, i, next);
-        i += 1;
     }
 }

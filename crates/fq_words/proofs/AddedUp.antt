@@ -47,7 +47,6 @@ noted-next fs counts i h k e =
 -- ── what holds before place i ──
 
 pub record Before (c : Common) (fs : List Flow) (counts : List ℕ) (count bytes i : ℕ) : Type 0 where
-  pub at_most : i ≤ 64
   pub fit : flows_fit c (drop i fs) ≡ flows_fit c fs
   pub count-is : count + total (counts_of (drop i fs)) ≡ total (counts_of fs)
   pub bytes-is : bytes + total (each_bytes (drop i fs)) ≡ total (each_bytes fs)
@@ -59,7 +58,6 @@ pub record Before (c : Common) (fs : List Flow) (counts : List ℕ) (count bytes
 pub start : (c : Common) (fs : List Flow) (counts : List ℕ) → length counts ≡ 64 → Before c fs counts 0 0 0
 start c fs counts long =
     record {
-      at_most = omega arith;
       fit = refl;
       count-is = omega arith;
       bytes-is = omega arith;
@@ -96,7 +94,6 @@ module _ (c : Common) (fs : List Flow) (sized : length fs ≡ 64) (counts : List
         let k = bounds c f w h in
         let here : i < length counts = rw b.long low in
         record {
-          at_most = omega arith;
           fit = sym (rest ∙ ap (λ t. t && flows_fit c (drop (i + 1) fs)) h);
           count-is = omega (arith, b.count-is, total-next count_of fs i inside, ap count_of f-is);
           bytes-is = omega (arith, b.bytes-is, total-next bytes_of fs i inside, ap bytes_of f-is);
@@ -108,14 +105,11 @@ module _ (c : Common) (fs : List Flow) (sized : length fs ≡ 64) (counts : List
         }
 
   pub ended : 64 ≤ i →
-      (true ≡ flows_fit c fs)
-      × (true ≡ true → (count ≡ total (counts_of fs)) × (bytes ≡ total (each_bytes fs)) × (counts ≡ counts_of fs))
+      (flows_fit c fs ≡ true) × (count ≡ total (counts_of fs)) × (bytes ≡ total (each_bytes fs)) × (counts ≡ counts_of fs)
   ended high =
       let past : length fs ≤ i = rw sized high in (
-        sym (fit_none c fs i past) ∙ b.fit,
-        λ e. (
-          omega (arith, b.count-is, total-none count_of fs i past),
-          omega (arith, b.bytes-is, total-none bytes_of fs i past),
-          sym (take_all i counts (rw b.long high)) ∙ b.noted ∙ take_all i (counts_of fs) (rw (length-map fs count_of) past),
-        ),
+        sym b.fit ∙ fit_none c fs i past,
+        omega (arith, b.count-is, total-none count_of fs i past),
+        omega (arith, b.bytes-is, total-none bytes_of fs i past),
+        sym (take_all i counts (rw b.long high)) ∙ b.noted ∙ take_all i (counts_of fs) (rw (length-map fs count_of) past),
       )

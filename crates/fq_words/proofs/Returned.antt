@@ -5,8 +5,7 @@ use mathlib.Core.List.{List}
 use Prim.Native.Nat.{ℕ, zero, suc, ◌+◌}
 use lib.ListN.{length}
 use Rattle.refusals.specs.Numbers.{number_of, refusal_in}
-use Rattle.refusals.specs.declared.Accepted.{Accepted}
-use Rattle.refusals.specs.declared.Accepted.TheVariants.{Yes, No}
+use Rattle.std.specs.Prelude.{Result, Ok, Err, ⊤}
 use Rattle.refusals.specs.declared.Refusal.{Refusal}
 use Rattle.refusals.specs.declared.Refusal.TheVariants.{Settings, Malformed, Tables, Clock, TooSoon, Empty, Size, Counts, Head}
 use Rattle.schedule.specs.declared.Lists.{Lists}
@@ -15,7 +14,7 @@ use Rattle.fq_words.specs.Words.{state_of}
 use Rattle.fq_state.specs.declared.Common.{Common}
 use Rattle.fq_words.specs.Written.{flow_words}
 use Rattle.fq_words.proofs.Words.{words_are}
-use Rattle.fq_rules.specs.Answer.{Answer, Reply, accepted_answer, departed, refused, ticked, unless_refused, verdict}
+use Rattle.fq_rules.specs.Answer.{Answer, Reply, departed, refused, ticked, unless_refused, verdict}
 use Rattle.fq_words.specs.Codes.{code_of, common_after, deficits_after, flows_after, fresh_code, order_after, words_for, words_of}
 use Rattle.fq_words.specs.Written.{common_words}
 
@@ -105,13 +104,6 @@ module _ (a : Reply) (code : ℕ) (common : Common) (lists : Lists) (words order
               ∙ sym (left-of a.answer number flows (flow_words a.state.flows) given);
         }
 
--- what the library's own values say, with the answer that it would be
-pub told-no : (q : Accepted) (r : Refusal) (x : Answer) → q ≡ No r → accepted_answer q x ≡ refused (number_of r)
-told-no q r x e = ap (λ (b : Accepted). accepted_answer b x) e
-
-pub told-yes : (q : Accepted) (x : Answer) → q ≡ Yes → accepted_answer q x ≡ x
-told-yes q x e = ap (λ (b : Accepted). accepted_answer b x) e
-
 -- ── the number of a fresh call ──
 
 coded : (r : Refusal) → 100 + number_of r ≡ fresh_code (number_of r)
@@ -125,10 +117,10 @@ coded Size = refl
 coded Counts = refl
 coded Head = refl
 
-pub made_code : (a : Accepted) (number : ℕ) → refusal_in a ≡ number → a ≡ Yes → 0 ≡ fresh_code number
-made_code a number e f = ap (λ (b : Accepted). fresh_code (refusal_in b)) (sym f) ∙ ap fresh_code e
+pub made_code : (a : Result ⊤ Refusal) (number : ℕ) → refusal_in a ≡ number → a ≡ Ok tt → 0 ≡ fresh_code number
+made_code a number e f = ap (λ (b : Result ⊤ Refusal). fresh_code (refusal_in b)) (sym f) ∙ ap fresh_code e
 
-pub refused-code : (a : Accepted) (number code : ℕ) (r : Refusal) → refusal_in a ≡ number → a ≡ No r → code ≡ 100 + number_of r →
+pub refused-code : (a : Result ⊤ Refusal) (number code : ℕ) (r : Refusal) → refusal_in a ≡ number → a ≡ Err r → code ≡ 100 + number_of r →
     code ≡ fresh_code number
 refused-code a number code r e given f =
-    f ∙ coded r ∙ ap (λ (b : Accepted). fresh_code (refusal_in b)) (sym given) ∙ ap fresh_code e
+    f ∙ coded r ∙ ap (λ (b : Result ⊤ Refusal). fresh_code (refusal_in b)) (sym given) ∙ ap fresh_code e

@@ -20,16 +20,8 @@ pub const USED: usize = 8;
 pub const FREED: usize = 9;
 
 pub const SPARE: usize = 10;
-// How many arrivals had each verdict.
+// How many arrivals had each verdict: five words, in the order of `Verdict`.
 pub const ENQUEUED: usize = 11;
-
-pub const MARKED: usize = 12;
-
-pub const DROPPED_BYTES: usize = 13;
-
-pub const DROPPED_SLOTS: usize = 14;
-
-pub const DROPPED_EARLY: usize = 15;
 
 pub const FIRST: usize = 16;
 

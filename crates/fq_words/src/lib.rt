@@ -3,7 +3,7 @@
 #![tactic(auto)]
 
 use fq_state::Common;
-use refusals::Accepted;
+use refusals::Refusal;
 use schedule::Lists;
 
 mod layout;
@@ -12,18 +12,16 @@ mod reading;
 mod records;
 mod testing;
 
+// What a fresh call gives: the record also where it is refused, and all zero then.
 #[derive(Clone, Copy)]
 pub struct Made {
-    pub accepted: Accepted,
+    pub accepted: Result<(), Refusal>,
     pub common: Common,
     pub lists: Lists,
 }
 
-pub use layout::{
-    BUFFER, BYTES, COUNT, DROPPED_BYTES, DROPPED_EARLY, DROPPED_SLOTS, ENQUEUED, FIRST, FREED,
-    LAST, LISTED, MARKED, OLD, SALT, SLOTS, SPARE, TARGET, USED,
-};
+pub use layout::{BYTES, CLOCK, COUNT, ENQUEUED, FIRST, FREED, LAST, LISTED, OLD, SPARE, USED};
 pub use making::fresh;
 pub use reading::{flow_at, set_flow};
-pub use records::{decode, decode_lists, encode, numbered, sized};
+pub use records::{decode, decode_lists, encode, numbered};
 pub use testing::fits;

@@ -8,7 +8,7 @@ ghost use Rattle.fq_words.specs.Words.{flows_of, state_of};
 use crate::{Made, set_flow};
 use fq_state::{Flow, Settings, empty};
 use pie::{FULL_ALLOWANCE, LATEST};
-use refusals::{Accepted, Refusal};
+use refusals::Refusal;
 use schedule::Lists;
 use units::{Bytes, Micros};
 
@@ -30,10 +30,8 @@ fn clear(flows: &mut [u64; 768], allowance: u64)
         head: 0,
         tail: 0,
     };
-    let mut i: usize = 0;
-    while i < 64 {
+    for i in 0..64 {
         set_flow(flows, i, flow);
-        i += 1;
     }
 }
 
@@ -59,7 +57,7 @@ pub fn fresh(
         *deficits = [65_535u32; 64];
         clear(flows, FULL_ALLOWANCE);
         return Made {
-            accepted: Accepted::Yes,
+            accepted: Ok(()),
             common: empty(settings, clock),
             lists,
         };
@@ -73,7 +71,7 @@ pub fn fresh(
         salt: 0,
     };
     Made {
-        accepted: Accepted::No(Refusal::Settings),
+        accepted: Err(Refusal::Settings),
         common: empty(none, Micros(0)),
         lists,
     }

@@ -1,5 +1,5 @@
 // The flows as words, twelve to a flow.
-ghost use Rattle.std.specs.Prelude.{◌≡◌, ◌<◌, ◌*◌, length, set};
+ghost use Rattle.std.specs.Prelude.{◌≡◌, ◌<◌, ◌*◌, set};
 ghost use Rattle.fq_state.specs.State.{flow_at};
 ghost use Rattle.fq_words.specs.Words.{flow_from, flows_of};
 ghost use Rattle.fq_words.specs.Written.{fields_of, written};
@@ -51,11 +51,6 @@ fn write(w: &mut [u64; 768], i: usize, f: Flow)
     w[at + TAIL] = f.tail;
 }
 
-// That the words are 768, which a reference does not say. The copy is compiled away.
-fn sized(w: [u64; 768])
-    ensures { length w ≡ 768 }
-{}
-
 // The flow of this number.
 pub fn flow_at(w: &[u64; 768], i: usize) -> Flow
     requires { i < 64 }
@@ -69,6 +64,5 @@ pub fn set_flow(w: &mut [u64; 768], i: usize, f: Flow)
     requires { i < 64 }
     ensures { flows_of w.new ≡ set (flows_of w.old) i f }
 {
-    sized(*w);
     write(w, i, f);
 }

@@ -1,15 +1,17 @@
 // The record as words: those that a call is lent, and those that it writes back.
-ghost use Rattle.std.specs.Prelude.{◌≡◌, length};
+// Two values stand in the same words, so each reading has a name and none is a `From`.
+ghost use Rattle.std.specs.Prelude.{◌≡◌};
 ghost use Rattle.pie.specs.Verdicts.{place_of};
 ghost use Rattle.fq_words.specs.Words.{common_of, lists_of};
 ghost use Rattle.fq_words.specs.Written.{common_words};
 
 use crate::layout::{
-    BUFFER, BYTES, CLOCK, COUNT, DROPPED_BYTES, DROPPED_EARLY, DROPPED_SLOTS, ENQUEUED, FIRST,
-    FREED, LAST, LISTED, MARKED, OLD, SALT, SLOTS, SPARE, TARGET, USED,
+    BUFFER, BYTES, CLOCK, COUNT, ENQUEUED, FIRST, FREED, LAST, LISTED, OLD, SALT, SLOTS, SPARE,
+    TARGET, USED,
 };
 use fq_state::{Common, Settings};
 use pie::{Backlog, Verdict};
+use pie_words::counts_at;
 use schedule::Lists;
 use store::Store;
 use units::{Bytes, Micros};
@@ -33,13 +35,7 @@ pub fn decode(w: [u64; 19]) -> Common
         freed: w[FREED],
         spare: w[SPARE],
     };
-    let verdicts = [
-        w[ENQUEUED],
-        w[MARKED],
-        w[DROPPED_BYTES],
-        w[DROPPED_SLOTS],
-        w[DROPPED_EARLY],
-    ];
+    let verdicts = counts_at(&w, ENQUEUED);
     Common {
         settings,
         clock: Micros(w[CLOCK]),
@@ -65,11 +61,7 @@ pub fn decode_lists(w: [u64; 19]) -> Lists
 pub fn encode(w: &mut [u64; 19], c: Common, l: Lists)
     ensures { w.new ≡ common_words c l }
 {
-    let v0 = c.verdicts[0];
-    let v1 = c.verdicts[1];
-    let v2 = c.verdicts[2];
-    let v3 = c.verdicts[3];
-    let v4 = c.verdicts[4];
+    let [v0, v1, v2, v3, v4] = c.verdicts;
     *w = [
         c.settings.target.0,
         c.settings.buffer.0,
@@ -92,11 +84,6 @@ pub fn encode(w: &mut [u64; 19], c: Common, l: Lists)
         l.listed as u64,
     ];
 }
-
-// That the flows' words are 768, which a reference does not say. The copy is compiled away.
-pub fn sized(w: [u64; 768])
-    ensures { length w ≡ 768 }
-{}
 
 // The number of a verdict.
 pub fn numbered(v: Verdict) -> u32

@@ -1,6 +1,6 @@
 -- Choosing goes on after a look.
 use mathlib.Core.Path.{◌≡◌, refl, ap, ◌∙◌}
-use mathlib.Core.Bool.{Bool, true, false, cond}
+use Rattle.std.specs.Prelude.{Option, Some, None}
 use mathlib.Core.List.{List, [], ◌∷◌, foldl}
 use Prim.Native.Nat.{ℕ, suc, ◌-◌, ◌<◌}
 use native.Mathlib.Omega.{arith}
@@ -22,14 +22,14 @@ use Rattle.schedule.specs.Choosing.{
   old_leaves,
   serves,
 }
-use Rattle.schedule.specs.Passing.{Found, after_look, found, found_in}
+use Rattle.schedule.specs.Passing.{Found, after_look, found, found_in, found_or}
 use Rattle.schedule.specs.Ring.{Schedule, chosen_in, moved_in, schedule_of, turned, two_lists}
 use Rattle.schedule.specs.TwoLists.{TwoLists}
 use Rattle.schedule.proofs.Looks.{Reads}
 
 -- a look that finds this ends choosing at a flow, or goes on from another ring
-abbrev pub GoesTo : Schedule → Look → (ends : Bool) (flow : ℕ) → Schedule → Type 0
-GoesTo s l ends flow t = (again : Schedule → Found) → after_look again s l ≡ cond ends (found flow t) (again t)
+abbrev pub GoesTo : Schedule → Look → Option ℕ → Schedule → Type 0
+GoesTo s l o t = (again : Schedule → Found) → after_look again s l ≡ found_or again o t
 
 -- ── the moves of a choice ──
 
@@ -77,15 +77,15 @@ looked counts s looks l e r = rw e (go l r)
     go (serves flow) r = ap (found flow) (unmoved s flow)
     go (moves m next) r = rw (r, led-in s m next.deficits (choose_in looks counts next))
 
-module _ (counts : List ℕ) (s t : Schedule) (looks flow : ℕ) (ends : Bool) (some : 0 < looks) (l : Look)
-    (e : look counts (two_lists s) ≡ l) (r : Reads s l) (k : GoesTo s l ends flow t) where
-  from : found_in looks counts s ≡ cond ends (found flow t) (found_in (looks - 1) counts t)
+module _ (counts : List ℕ) (s t : Schedule) (looks : ℕ) (o : Option ℕ) (some : 0 < looks) (l : Look)
+    (e : look counts (two_lists s) ≡ l) (r : Reads s l) (k : GoesTo s l o t) where
+  from : found_in looks counts s ≡ found_or (found_in (looks - 1) counts) o t
   from =
       let n : looks ≡ suc (looks - 1) = omega arith in
       ap (λ n. found_in n counts s) n ∙ looked counts s (looks - 1) l e r ∙ k (found_in (looks - 1) counts)
 
-  pub ends_at : ends ≡ true → found_in looks counts s ≡ found flow t
-  ends_at e = from ∙ ap (λ b. cond b (found flow t) (found_in (looks - 1) counts t)) e
+  pub ends_at : (flow : ℕ) → o ≡ Some flow → found_in looks counts s ≡ found flow t
+  ends_at flow e = from ∙ ap (λ p. found_or (found_in (looks - 1) counts) p t) e
 
-  pub goes_on : ends ≡ false → found_in looks counts s ≡ found_in (looks - 1) counts t
-  goes_on e = from ∙ ap (λ b. cond b (found flow t) (found_in (looks - 1) counts t)) e
+  pub goes_on : o ≡ None → found_in looks counts s ≡ found_in (looks - 1) counts t
+  goes_on e = from ∙ ap (λ p. found_or (found_in (looks - 1) counts) p t) e

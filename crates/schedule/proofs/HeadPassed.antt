@@ -1,5 +1,6 @@
 -- A look at the head of the lists that writes nothing: it ends the choosing, or passes an emptied flow.
 use mathlib.Core.Path.{◌≡◌, refl, ap, sym, ◌∙◌}
+use Rattle.std.specs.Prelude.{Some, None}
 use mathlib.Core.Bool.{Bool, true, false, cond}
 use mathlib.Core.List.{List, [], ◌∷◌, ◌++◌}
 use Prim.Native.Nat.{ℕ, ◌+◌, ◌-◌, ◌<◌}
@@ -24,7 +25,7 @@ module _ (counts : List ℕ) (s : Schedule) (looks : ℕ) (some : 0 < looks) (f 
   pub none-listed : eqb s.lists.listed 0 ≡ true → found_in looks counts s ≡ found 0 s
   none-listed e =
       let none : s.lists.listed ≡ 0 = eqb-true s.lists.listed 0 e in
-      ends_at counts s s looks 0 true some nobody (look_none s counts (omega (arith, none, f.old-le)) none) tt (λ again. refl) refl
+      ends_at counts s s looks (Some 0) some nobody (look_none s counts (omega (arith, none, f.old-le)) none) tt (λ again. refl) 0 refl
 
   module _ (flow : ℕ) (at : flow ≡ head_of s) (listed : eqb s.lists.listed 0 ≡ false)
       (high : ltb (deficit_of s flow) zero_deficit ≡ false) where
@@ -38,7 +39,7 @@ module _ (counts : List ℕ) (s : Schedule) (looks : ℕ) (some : 0 < looks) (f 
     -- a flow at the head that is not below 0 and has a packet is served
     pub head-served : eqb (get_or counts flow 0) 0 ≡ false → found_in looks counts s ≡ found flow s
     head-served full =
-        ends_at counts s s looks flow true some (serves flow) (go (ltb s.lists.old s.lists.listed) refl) tt (λ again. refl) refl
+        ends_at counts s s looks (Some flow) some (serves flow) (go (ltb s.lists.old s.lists.listed) refl) tt (λ again. refl) flow refl
       where
         go : (b : Bool) → ltb s.lists.old s.lists.listed ≡ b → look counts (two_lists s) ≡ serves flow
         go true e =
@@ -67,7 +68,7 @@ module _ (counts : List ℕ) (s : Schedule) (looks : ℕ) (some : 0 < looks) (f 
             simp (rw new at high, rw new at empty) refl in
             let k : look counts (two_lists s) ≡ l =
             look-new s counts (ltb-true s.lists.old s.lists.listed e) ∙ found ∙ ap (moves new_goes_old) read in
-            goes_on counts s passed looks flow false some l k (rw e refl) (λ again. rw e refl) refl
+            goes_on counts s passed looks None some l k (rw e refl) (λ again. rw e refl) refl
         go false e =
             let old : flow ≡ old_head s = at ∙ ap (λ b. cond b (new_head s) (old_head s)) e in
             let o = only-old e in
@@ -76,7 +77,7 @@ module _ (counts : List ℕ) (s : Schedule) (looks : ℕ) (some : 0 < looks) (f 
             let found : at_old counts (old_head s) (others_of s) s.deficits ≡ moves old_leaves (lists [] (others_of s) s.deficits) =
             simp (rw old at high, rw old at empty) refl in
             let k : look counts (two_lists s) ≡ l = look-old s counts f.first-lt o.0 o.1 ∙ found ∙ ap (moves old_leaves) read in
-            goes_on counts s passed looks flow false some l k (rw e refl) (λ again. rw e refl) refl
+            goes_on counts s passed looks None some l k (rw e refl) (λ again. rw e refl) refl
 
 -- then the lists are as well formed as before
 pub still-fit : (order : List ℕ) (l : Lists) → lists_fit l ≡ true → 0 < l.listed → are_flows (ring_of order l.first l.listed) ≡ true →

@@ -1,5 +1,5 @@
 -- A look at the ring, and the choosing as far as it writes nothing: what inner functions give. No rule cites it.
-use Rattle.std.specs.Prelude.{cond, List, ℕ, ◌+◌, ◌-◌, ltb, get_or}
+use Rattle.std.specs.Prelude.{cond, Option, Some, None, Result, Ok, Err, List, ℕ, ◌+◌, ◌-◌, ltb, get_or}
 use Rattle.schedule.specs.Choosing.{Choice, Look, choose_in, moves, nobody, serves}
 use Rattle.schedule.specs.Ring.{Schedule, chosen_in, moved_in, place, two_lists}
 use Rattle.schedule.specs.declared.Lists.{Lists}
@@ -24,6 +24,16 @@ abbrev pub after_look : (again : Schedule → Found) → Schedule → Look → F
 after_look again s nobody = found 0 s
 after_look again s (serves flow) = found flow s
 after_look again s (moves m next) = again (moved_in s m next.deficits)
+
+-- a look ends at a flow, or choosing goes on
+abbrev pub found_or : (again : Schedule → Found) → Option ℕ → Schedule → Found
+found_or again (Some flow) t = found flow t
+found_or again None t = again t
+
+-- the flow, or how many looks are left
+abbrev pub passed_to : (counts : List ℕ) → Result ℕ ℕ → Schedule → Found
+passed_to counts (Ok flow) t = found flow t
+passed_to counts (Err looks) t = found_in looks counts t
 
 -- the heads, where there are any
 abbrev pub new_head : Schedule → ℕ

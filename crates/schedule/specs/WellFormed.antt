@@ -1,7 +1,7 @@
 -- 23, lists: each deficit from −65,535 to 1,514, listed or not; the first place below 64; at most 64 flows in both lists; each entry below
 -- 64; no entry equals another, in its list or the other; each flow with a packet is listed.
-use Rattle.std.specs.Prelude.{Bool, true, ◌&&◌, ◌||◌, List, [], ◌∷◌, ℕ, zero, suc, ◌+◌, eqb, leb, ltb, get_or}
-use Rattle.schedule.specs.Ring.{Schedule, two_lists}
+use Rattle.std.specs.Prelude.{Bool, true, ◌≡◌, ◌&&◌, ◌||◌, List, [], ◌∷◌, ℕ, zero, suc, ◌+◌, eqb, leb, ltb, get_or}
+use Rattle.schedule.specs.Ring.{Schedule, ring_of, two_lists}
 use Rattle.schedule.specs.TwoLists.{TwoLists, deficit_of, listed, quantum, zero_deficit}
 use Rattle.schedule.specs.declared.Lists.{Lists}
 
@@ -29,6 +29,10 @@ lists_well counts l =
 -- where the lists stand in the ring
 abbrev pub lists_fit : Lists → Bool
 lists_fit l = ltb l.first 64 && leb l.old l.listed && leb l.listed 64
+
+-- they stand there, and only flows do
+abbrev pub HoldsFlows : Lists → (order : List ℕ) → Type 0
+HoldsFlows l order = (lists_fit l ≡ true) × (are_flows (ring_of order l.first l.listed) ≡ true)
 
 unfoldable pub well_listed : (counts : List ℕ) → Schedule → Bool
 well_listed counts s = lists_fit s.lists && lists_well counts (two_lists s)

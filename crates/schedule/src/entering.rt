@@ -12,31 +12,23 @@ pub fn is_listed(order: &[u64; 64], lists: Lists, flow: u64) -> bool
     ensures { result ≡ is_listed (two_lists (schedule_of lists order.now [])) flow }
 {
     let first = lists.first;
-    let listed = lists.listed;
-    let mut i: usize = 0;
-    while i < listed {
-        let at = (first + i) % 64;
-        let here = order[at] == flow;
+    for i in 0..lists.listed {
+        let here = order[(first + i) % 64] == flow;
         if here {
             return true;
         }
-        i += 1;
     }
     false
 }
 
 // A flow in neither list enters at the new list's end, with one quantum.
-pub fn enter(order: &mut [u64; 64], deficits: &mut [u32; 64], lists: Lists, flow: usize) -> Lists
-    requires { (lists_fit lists ≡ true) × (flow < 64) }
-    ensures { schedule_of result order.new deficits.new
-        ≡ entered_in (schedule_of lists order.old deficits.old) flow }
+pub fn enter(order: &mut [u64; 64], deficits: &mut [u32; 64], lists: &mut Lists, flow: usize)
+    requires { (lists_fit lists.now ≡ true) × (flow < 64) }
+    ensures { schedule_of lists.exit.now order.new deficits.new
+        ≡ entered_in (schedule_of lists.entry.now order.old deficits.old) flow }
 {
     let end = (lists.first + lists.listed) % 64;
     order[end] = flow as u64;
     deficits[flow] = ONE_QUANTUM;
-    Lists {
-        first: lists.first,
-        old: lists.old,
-        listed: lists.listed + 1,
-    }
+    lists.listed = lists.listed + 1;
 }

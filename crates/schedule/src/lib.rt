@@ -17,27 +17,12 @@ pub(crate) const ONE_QUANTUM: u32 = 67_049;
 pub(crate) const MOST_LOOKS: usize = 2_880;
 
 // Where the lists stand: the place of the first flow, how many flows are in the old list, and how many in both.
+// No invariant: a C caller's words are read into it, and `fits` tests them.
 #[derive(Clone, Copy)]
 pub struct Lists {
     pub first: usize,
     pub old: usize,
     pub listed: usize,
-}
-
-// The flow to serve, and the lists after the moves that led to it.
-#[derive(Clone, Copy)]
-pub struct Choice {
-    pub flow: usize,
-    pub lists: Lists,
-}
-
-// What is found before a flow is moved: the flow to serve, or where the lists stand and how many looks are left.
-#[derive(Clone, Copy)]
-pub struct Passed {
-    pub ends: bool,
-    pub flow: usize,
-    pub lists: Lists,
-    pub looks: usize,
 }
 
 pub use choosing::{charge, choose};

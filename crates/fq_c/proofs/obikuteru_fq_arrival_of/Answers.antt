@@ -12,17 +12,3 @@ returns-then-not-formed c =
     let malformed : well_formed s ≡ false = sym c.fits-formed.ensures.value ∙ c.if-not-formed.true in
     rw (malformed-arrival s c.args.handles.now c.args.sizes.now c.args.clock c.args.key.now c.args.size c.args.ecn c.args.u malformed) (c.refused.ensures, refl, refl, refl, refl, refl, refl)
 
-pub arrive-requires-clause-flows_value : goal.arrive-requires-clause-flows_value
-arrive-requires-clause-flows_value c =
-    sym c.fits-formed.ensures.value ∙ c.if-not-formed.false
-
-pub arrive-requires-clause-counts_value : goal.arrive-requires-clause-counts_value
-arrive-requires-clause-counts_value c =
-    c.fits-formed.ensures.counts_after c.if-not-formed.false
-
-pub arrive-requires-clause-common_bound : goal.arrive-requires-clause-common_bound
-arrive-requires-clause-common_bound c =
-    λ z. absurd (false≢true z)
-
-pub returns : goal.returns
-returns c = c.arrive.ensures.fact

@@ -12,13 +12,3 @@ returns-then-not-formed c =
     let malformed : well_formed s ≡ false = sym c.fits-formed.ensures.value ∙ c.if-not-formed.true in
     rw (malformed-departure s c.args.handles.now c.args.sizes.now c.args.clock malformed) (c.refused.ensures, refl, refl, refl, refl, refl, refl)
 
-pub depart-requires-clause-flows_value : goal.depart-requires-clause-flows_value
-depart-requires-clause-flows_value c =
-    sym c.fits-formed.ensures.value ∙ c.if-not-formed.false
-
-pub depart-requires-clause-counts_value : goal.depart-requires-clause-counts_value
-depart-requires-clause-counts_value c =
-    c.fits-formed.ensures.counts_after c.if-not-formed.false
-
-pub returns : goal.returns
-returns c = c.depart.ensures.fact

@@ -12,9 +12,3 @@ returns-then-not-formed c =
     let malformed : well_formed s ≡ false = sym c.fits-formed.ensures.value ∙ c.if-not-formed.true in
     rw (malformed-tick s c.args.clock malformed) (c.refused.ensures, refl, refl)
 
-pub update-requires : goal.update-requires
-update-requires c =
-    sym c.fits-formed.ensures.value ∙ c.if-not-formed.false
-
-pub returns : goal.returns
-returns c = c.update.ensures.fact

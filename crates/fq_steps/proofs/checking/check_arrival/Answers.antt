@@ -17,10 +17,6 @@ pub are_full-full-requires-clause-counts_bound : goal.are_full-full-requires-cla
 are_full-full-requires-clause-counts_bound c =
     (common-fits c.args.common c.requires.common_value).total-high
 
-pub are_full-full-requires-clause-counts_bound_2 : goal.are_full-full-requires-clause-counts_bound_2
-are_full-full-requires-clause-counts_bound_2 c =
-    c.requires.verdicts_bound
-
 pub returns-then-full : goal.returns-then-full
 returns-then-full c s e formed =
     rw (formed, e, c.if-not-fit.false, c.if-wrong_clock.false, c.if-wrong_size.false, ← c.are_full-full.ensures, c.if-full.true)

@@ -1,15 +1,9 @@
 -- `note`: the flow's count, which is small.
-use mathlib.Core.Path.{ap}
 use Prim.Native.Nat.{◌≤◌}
 use native.Mathlib.Omega.{arith}
-use lib.ListN.{set}
-use Rattle.fq_state.specs.declared.Flow.{Flow}
 use Rattle.fq_steps.proofs.entering.note.Goals as goal
 
 pub overflow_cast-counts : goal.overflow_cast-counts
 overflow_cast-counts c =
     let small : c.flow_at-f.result.count ≤ 65537 = rw c.flow_at-f.ensures c.requires.1 in omega (arith, small)
 
-pub returns : goal.returns
-returns c =
-    let a = c.args in ap (λ (g : Flow). set a.counts.now a.flow g.count) c.flow_at-f.ensures

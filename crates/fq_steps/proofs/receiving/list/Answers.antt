@@ -10,9 +10,9 @@ returns-then-count-gt0 c = rw (c.requires.flow_value c.if-count-gt0.true)
 
 pub returns-then-listed : goal.returns-then-listed
 returns-then-listed c =
-    let yes : is_listed (two_lists (schedule_of c.args.lists c.args.order.now c.args.deficits.now)) c.args.flow ≡ true = sym c.is_listed-listed.ensures ∙ c.if-listed.true in rw yes
+    let yes : is_listed (two_lists (schedule_of c.args.lists.now c.args.order.now c.args.deficits.now)) c.args.flow ≡ true = sym c.is_listed-listed.ensures ∙ c.if-listed.true in rw yes
 
 pub returns : goal.returns
 returns c =
-    let none : is_listed (two_lists (schedule_of c.args.lists c.args.order.now c.args.deficits.now)) c.args.flow ≡ false = sym c.is_listed-listed.ensures ∙ c.if-listed.false in
+    let none : is_listed (two_lists (schedule_of c.args.lists.now c.args.order.now c.args.deficits.now)) c.args.flow ≡ false = sym c.is_listed-listed.ensures ∙ c.if-listed.false in
     rw none c.enter.ensures

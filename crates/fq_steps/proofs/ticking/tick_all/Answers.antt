@@ -3,7 +3,6 @@ use mathlib.Core.Path.{◌≡◌, sym, ap, ◌∙◌}
 use mathlib.Core.List.{List}
 use Prim.Native.Nat.{ℕ, ◌+◌, ◌<◌}
 use native.Mathlib.Omega.{arith}
-use borrow.Author.Rules.{rules}
 use lib.ListN.{length, set}
 use Rattle.fq_state.specs.Flow.{empty_flow}
 use Rattle.fq_state.specs.State.{flow_at}
@@ -23,7 +22,7 @@ turn change before now after i f next long en ef ex ea =
     rw (ea, ex, read, en) (mapped_next change (empty_flow 0) i before long)
 
 pub loop-i-init : goal.loop-i-init
-loop-i-init c = (omega arith, sym (mapped-none _ (flows_of c.args.flows.now)))
+loop-i-init c = sym (mapped-none _ (flows_of c.args.flows.now))
 
 pub tick_flow-next-requires : goal.tick_flow-next-requires
 tick_flow-next-requires c =
@@ -31,7 +30,7 @@ tick_flow-next-requires c =
     let fs = flows_of c.args.flows.now in
     let change = ticked_flow c.args.common.settings.target.0 in
     let read : c.flow_at-f.result ≡ flow_at fs at.i =
-    c.flow_at-f.ensures ∙ ap (λ l. flow_at l at.i) at.invariant.1 ∙ mapped_at change (empty_flow 0) at.i fs in
+    c.flow_at-f.ensures ∙ ap (λ l. flow_at l at.i) at.invariant ∙ mapped_at change (empty_flow 0) at.i fs in
     let long : at.i < length fs = rw (length-flows 64 c.args.flows.now) (omega (arith, c.loop-i-test.true)) in
     (c.requires.0, rw read (each_fits c.args.common fs at.i c.requires.1 long))
 
@@ -39,16 +38,14 @@ pub loop-i-preserved : goal.loop-i-preserved
 loop-i-preserved c =
     let at = c.loop-i in
     let w = c.args.flows.now in
-    let long : at.i < length (flows_of w) = rw (length-flows 64 w) (omega (arith, c.loop-i-test.true)) in (
-      search rules,
-      turn (ticked_flow c.args.common.settings.target.0) (flows_of w) (flows_of at.flows) _ at.i _ _ long
-          at.invariant.1 c.flow_at-f.ensures c.tick_flow-next.ensures c.set_flow.ensures,
-    )
+    let long : at.i < length (flows_of w) = rw (length-flows 64 w) (omega (arith, c.loop-i-test.true)) in
+    turn (ticked_flow c.args.common.settings.target.0) (flows_of w) (flows_of at.flows) _ at.i _ _ long
+    at.invariant c.flow_at-f.ensures c.tick_flow-next.ensures c.set_flow.ensures
 
 pub returns : goal.returns
 returns c =
     let at = c.loop-i in
     let w = c.args.flows.now in
-    at.invariant.1
+    at.invariant
     ∙ mapped-all (ticked_flow c.args.common.settings.target.0) at.i (flows_of w)
     (rw (length-flows 64 w) (omega (arith, c.loop-i-test.false)))

@@ -1,7 +1,7 @@
 -- `clear`: before place i the flows below it are set.
 use mathlib.Core.Path.{refl, ap, ◌∙◌}
 use Prim.Native.Nat.{◌+◌, ◌<◌}
-use borrow.Author.Rules.{rules}
+use native.Mathlib.Omega.{arith}
 use lib.ListN.{length, take}
 use Rattle.fq_state.specs.Flow.{empty_flow}
 use Rattle.fq_words.specs.Words.{flows_of}
@@ -10,7 +10,7 @@ use Rattle.fq_words.proofs.Words.{length-flows}
 use Rattle.fq_words.proofs.making.clear.Goals as goal
 
 pub loop-i-init : goal.loop-i-init
-loop-i-init c = (search rules, refl)
+loop-i-init c = refl
 
 pub loop-i-preserved : goal.loop-i-preserved
 loop-i-preserved c =
@@ -18,13 +18,10 @@ loop-i-preserved c =
     let a = c.args in
     let fs = flows_of l.flows in
     let inside : l.i < length fs = rw (length-flows 64 l.flows) c.loop-i-test.true in
-    (search rules, ap (take (l.i + 1)) c.set_flow.ensures ∙ filled_next (empty_flow a.allowance) fs l.i inside l.invariant.1)
+    ap (take (l.i + 1)) c.set_flow.ensures ∙ filled_next (empty_flow a.allowance) fs l.i inside l.invariant
 
 pub returns : goal.returns
 returns c =
     let l = c.loop-i in
     let a = c.args in
-    filled-all (empty_flow a.allowance) (flows_of l.flows) l.i 64 (length-flows 64 l.flows)
-    c.loop-i-test.false
-    l.invariant.0
-    l.invariant.1
+    filled-all (empty_flow a.allowance) (flows_of l.flows) l.i 64 (length-flows 64 l.flows) c.loop-i-test.false (omega arith) l.invariant

@@ -6,4 +6,4 @@ use Rattle.fq_words.proofs.reading.set_flow.Goals as goal
 
 pub returns : goal.returns
 returns c =
-    ap flows_of c.write.ensures ∙ flow-set c.args.w.now c.args.i c.args.f c.sized.ensures c.requires
+    ap flows_of c.write.ensures ∙ flow-set c.args.w.now c.args.i c.args.f c.told-w c.requires

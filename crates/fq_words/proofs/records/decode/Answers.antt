@@ -1,8 +1,7 @@
 -- `decode`: each field is its word.
-use mathlib.Core.Path.{refl}
 use Rattle.fq_words.specs.Words.{common_of}
 use Rattle.fq_words.proofs.records.decode.Goals as goal
 
 pub returns : goal.returns
 unfolding common_of
-returns c = refl
+returns c = rw c.counts_at-verdicts.ensures

@@ -1,6 +1,5 @@
 -- `add_up`: before place i the flows below it fit and are added up.
-use mathlib.Core.Path.{◌≡◌, sym, ◌∙◌}
-use Prim.Native.Nat.{ℕ}
+use mathlib.Core.Path.{sym, ◌∙◌}
 use native.Mathlib.Omega.{arith}
 use Rattle.fq_words.specs.Words.{flows_of}
 use Rattle.fq_words.proofs.AddedUp.{bounds, broken, ended, next, start}
@@ -9,24 +8,15 @@ use Rattle.fq_words.proofs.testing.add_up.Goals as goal
 
 pub loop-i-init : goal.loop-i-init
 loop-i-init c =
-    let a = c.args in start a.c (flows_of a.flows.now) a.counts.now c.sized.ensures
+    let a = c.args in start a.c (flows_of a.flows.now) a.counts.now c.told-counts
 
-pub fits-fine-requires : goal.fits-fine-requires
-fits-fine-requires c = c.requires
-
-pub returns-then-not-fine-clause-fit_value : goal.returns-then-not-fine-clause-fit_value
-returns-then-not-fine-clause-fit_value c =
+pub returns-then-not-fine : goal.returns-then-not-fine
+returns-then-not-fine c =
     let a = c.args in
     let l = c.loop-i in
-    let fs = flows_of a.flows.now in sym (broken a.c fs (length-flows 64 a.flows.now) l.counts l.count l.bytes l.i l.invariant
+    broken a.c (flows_of a.flows.now) (length-flows 64 a.flows.now) l.counts l.count l.bytes l.i l.invariant
     c.loop-i-test.true c.flow_at-f.result c.flow_at-f.ensures
-    (sym c.fits-fine.ensures ∙ c.if-not-fine.true))
-
-pub returns-then-not-fine-clause-count_value : goal.returns-then-not-fine-clause-count_value
-returns-then-not-fine-clause-count_value c =
-    let a = c.args in
-    let l = c.loop-i in
-    let fs = flows_of a.flows.now in λ z. absurd (let q : ◌≡◌ {A = ℕ} 0 1 = cc in omega arith)
+    (sym c.fits-fine.ensures ∙ c.if-not-fine.true)
 
 pub overflow_cast-counts : goal.overflow_cast-counts
 overflow_cast-counts c =
@@ -53,6 +43,5 @@ loop-i-preserved c =
 
 pub returns : goal.returns
 returns c =
-    let e = ended c.args.c (flows_of c.args.flows.now) (length-flows 64 c.args.flows.now) c.loop-i.counts c.loop-i.count c.loop-i.bytes c.loop-i.i
-    c.loop-i.invariant c.loop-i-test.false in
-    record { fit_value = e.0; count_value = e.1 }
+    ended c.args.c (flows_of c.args.flows.now) (length-flows 64 c.args.flows.now) c.loop-i.counts c.loop-i.count c.loop-i.bytes c.loop-i.i
+    c.loop-i.invariant c.loop-i-test.false

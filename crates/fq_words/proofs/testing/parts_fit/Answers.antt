@@ -1,6 +1,5 @@
 -- `parts_fit`: part by part.
-use borrow.Author.Tests.{not-true, not-false}
-use mathlib.Core.Path.{◌≡◌, sym, ◌∙◌}
+use mathlib.Core.Path.{◌≡◌, refl, sym, ◌∙◌}
 use mathlib.Core.Bool.{Bool, true, false, ◌&&◌, false≢true}
 use mathlib.Core.List.{List}
 use Prim.Native.Nat.{ℕ}
@@ -17,17 +16,13 @@ use Rattle.fq_state.specs.declared.Flow.{Flow}
 use Rattle.fq_state.proofs.Facts.{Passes, passes}
 use Rattle.fq_words.proofs.testing.parts_fit.Goals as goal
 
--- what `add_up` promises
-abbrev Sum : (flows : List Flow) (counts : List ℕ) (count bytes : ℕ) → Type 0
-Sum flows counts count bytes = (count ≡ total (counts_of flows)) × (bytes ≡ total (each_bytes flows)) × (counts ≡ counts_of flows)
-
 abbrev same : Common → (count bytes : ℕ) → Bool
 same c count bytes =
     eqb count c.backlog.count && eqb bytes c.backlog.bytes.0 && leb c.backlog.bytes.0 c.settings.buffer.0
 
-same-is : (c : Common) (flows : List Flow) (counts : List ℕ) (count bytes : ℕ) → Sum flows counts count bytes →
+same-is : (c : Common) (flows : List Flow) (count bytes : ℕ) → count ≡ total (counts_of flows) → bytes ≡ total (each_bytes flows) →
     same c count bytes ≡ all (totals_conditions c flows)
-same-is c flows counts count bytes e = rw (e.0, e.1)
+same-is c flows count bytes e f = rw (e, f)
 
 module _ (s : State) where
   -- a part that passes in each well-formed record: where it fails, the record is not well formed
@@ -52,44 +47,24 @@ pub returns-then-not-common_fits-clause-counts_after : goal.returns-then-not-com
 returns-then-not-common_fits-clause-counts_after c =
     let s = state_of c.args.common c.args.lists c.args.order.now c.args.deficits.now c.args.flows.now in λ z. never s z
 
-pub add_up-sums-requires : goal.add_up-sums-requires
-add_up-sums-requires c = sym c.fits-common_fits.ensures ∙ c.if-not-common_fits.false
-
-pub returns-then-not-sums-clause-value : goal.returns-then-not-sums-clause-value
-returns-then-not-sums-clause-value c =
+pub returns-in_default-clause-value : goal.returns-in_default-clause-value
+returns-in_default-clause-value c =
     let s = state_of c.args.common c.args.lists c.args.order.now c.args.deficits.now c.args.flows.now in
-    fails s _ _ (λ p. p.flows) c.add_up-sums.ensures.fit_value (not-true _ c.if-not-sums.true)
-
-pub returns-then-not-sums-clause-counts_after : goal.returns-then-not-sums-clause-counts_after
-returns-then-not-sums-clause-counts_after c =
-    let s = state_of c.args.common c.args.lists c.args.order.now c.args.deficits.now c.args.flows.now in
-    λ z. never s z
+    fails s _ _ (λ p. p.flows) refl c.in_default.ensures
 
 pub returns-then-not-same-clause-value : goal.returns-then-not-same-clause-value
 returns-then-not-same-clause-value c =
     let s = state_of c.args.common c.args.lists c.args.order.now c.args.deficits.now c.args.flows.now in
-    let fit = not-false _ c.if-not-sums.false in
-    fails s _ _ (λ p. p.totals) (same-is s.common s.flows _ _ _ (c.add_up-sums.ensures.count_value fit)) c.if-not-same.true
-
-pub returns-then-not-same-clause-counts_after : goal.returns-then-not-same-clause-counts_after
-returns-then-not-same-clause-counts_after c =
-    let s = state_of c.args.common c.args.lists c.args.order.now c.args.deficits.now c.args.flows.now in
-    let fit = not-false _ c.if-not-sums.false in
-    λ z. never s z
+    let sum = c.in-Some.ensures in
+    fails s _ _ (λ p. p.totals) (same-is s.common s.flows _ _ sum.1 sum.2) c.if-not-same.true
 
 pub returns-clause-value : goal.returns-clause-value
 returns-clause-value c =
     let s = state_of c.args.common c.args.lists c.args.order.now c.args.deficits.now c.args.flows.now in
-    let fit = not-false _ c.if-not-sums.false in
-    let sum = c.add_up-sums.ensures.count_value fit in lists-decide s _ _
+    let sum = c.in-Some.ensures in
+    lists-decide s _ _
     (sym c.fits-common_fits.ensures ∙ c.if-not-common_fits.false)
-    (sym c.add_up-sums.ensures.fit_value ∙ fit)
-    (sym (same-is s.common s.flows _ _ _ sum) ∙ c.if-not-same.false)
-    sum.2
+    sum.0
+    (sym (same-is s.common s.flows _ _ sum.1 sum.2) ∙ c.if-not-same.false)
+    sum.3
     c.fits.ensures
-
-pub returns-clause-counts_after : goal.returns-clause-counts_after
-returns-clause-counts_after c =
-    let s = state_of c.args.common c.args.lists c.args.order.now c.args.deficits.now c.args.flows.now in
-    let fit = not-false _ c.if-not-sums.false in
-    let sum = c.add_up-sums.ensures.count_value fit in λ z. sum.2

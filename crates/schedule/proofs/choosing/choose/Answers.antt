@@ -1,7 +1,7 @@
 use mathlib.Core.Path.{◌≡◌, ap, refl, sym, ◌∙◌}
 use mathlib.Core.Bool.{true}
 use mathlib.Core.List.{List}
-use Prim.Native.Nat.{ℕ}
+use Prim.Native.Nat.{ℕ, ◌+◌, ◌-◌}
 use native.Mathlib.Omega.{arith}
 use lib.ListN.{length}
 use Rattle.schedule.specs.Choosing.{choose_in, look}
@@ -13,11 +13,11 @@ use Rattle.schedule.proofs.InRing.{read_found}
 use Rattle.schedule.proofs.Looks.{leads-reads, look-leads}
 use Rattle.schedule.proofs.choosing.choose.Goals as goal
 
-pub loop-left-init : goal.loop-left-init
-loop-left-init c = (c.before.before.requires.0, (c.before.before.requires.1, (c.sized.ensures, (c.sized.ensures, refl))))
-
-pub look-found-requires : goal.look-found-requires
-look-found-requires c = let at = c.before.before.before.loop-left in (at.invariant.0, at.invariant.1.0)
+pub loop-init : goal.loop-init
+loop-init c =
+    let a = c.args in
+    let none : a.looks - 0 ≡ a.looks = omega arith in
+    (c.requires, c.told-order, ap (λ n. found_in n a.counts.now (schedule_of a.lists.now a.order.now a.deficits.now)) none)
 
 -- what the caller gets
 gives : (looks : ℕ) (counts : List ℕ) (s t : Schedule) (flow : ℕ) → lists_fit s.lists ≡ true → length s.order ≡ 64 →
@@ -27,51 +27,38 @@ gives looks counts s t flow h long e =
     let same = ap (λ (k : Found). k.schedule) e in
     (ap (λ (k : Found). k.flow) e, read_found looks counts s t (record { long = long; fits = h }) same, same)
 
-pub returns-then-found : goal.returns-then-found
-returns-then-found c =
-    let l = c.before.before.look-found in
-    let at = c.before.before.before.before.before.before.loop-left in
-    let b = c.before.before.before.before.before.before.before.before.before in
-    let a = b.args in
-    let s = schedule_of at.at at.order at.deficits in
-    let t = schedule_of l.result.lists l.new.order l.new.deficits in
-    let some = c.before.before.before.before.before.loop-left-test.true in
-    let leads = look-leads a.counts.now s (record { long = at.invariant.1.1.0; fits = at.invariant.0 }) in
-    let end = ends_at a.counts.now s t at.left l.result.flow l.result.ends some (look a.counts.now (two_lists s)) refl
-    (leads-reads s (look a.counts.now (two_lists s)) leads) l.ensures.s_after c.if-found.true in
-    record {
-      fact = gives a.looks a.counts.now (schedule_of a.lists a.order.now a.deficits.now) t l.result.flow b.requires.0
-          at.invariant.1.1.1.0 (sym end ∙ at.invariant.1.1.1.1);
-      flow_bound = l.ensures.flow_bound.0;
-    }
+pub returns-in-Some-clause-fact : goal.returns-in-Some-clause-fact
+returns-in-Some-clause-fact c =
+    let a = c.args in
+    let at = c.loop in
+    let s = schedule_of at.lists at.order at.deficits in
+    let n = c.look-found.new in
+    let t = schedule_of n.lists n.order n.deficits in
+    let l = look a.counts.now (two_lists s) in
+    let leads = look-leads a.counts.now s (record { long = at.invariant.1; fits = at.invariant.0.0 }) in
+    let end = ends_at a.counts.now s t (a.looks - at.counter) c.look-found.result (omega arith) l refl (leads-reads s l leads)
+    c.look-found.ensures.s_after c.in-Some.flow c.in-Some.is in
+    gives a.looks a.counts.now (schedule_of a.lists.now a.order.now a.deficits.now) t c.in-Some.flow c.requires.0 c.told-order
+    (sym end ∙ at.invariant.2)
 
-pub loop-left-preserved : goal.loop-left-preserved
-loop-left-preserved c =
-    let l = c.before.before.look-found in
-    let at = c.before.before.before.before.before.before.loop-left in
-    let b = c.before.before.before.before.before.before.before.before.before in
-    let a = b.args in
-    let s = schedule_of at.at at.order at.deficits in
-    let t = schedule_of l.result.lists l.new.order l.new.deficits in
-    let some = c.before.before.before.before.before.loop-left-test.true in
-    let leads = look-leads a.counts.now s (record { long = at.invariant.1.1.0; fits = at.invariant.0 }) in
-    let on = goes_on a.counts.now s t at.left l.result.flow l.result.ends some (look a.counts.now (two_lists s)) refl
-    (leads-reads s (look a.counts.now (two_lists s)) leads) l.ensures.s_after c.if-found.false in
-    (l.ensures.flow_bound.1, (l.ensures.flow_bound.2, (l.ensures.flow_bound.3 ∙ at.invariant.1.1.0, (at.invariant.1.1.1.0, sym on ∙ at.invariant.1.1.1.1))))
+pub loop-preserved : goal.loop-preserved
+loop-preserved c =
+    let a = c.args in
+    let at = c.loop in
+    let s = schedule_of at.lists at.order at.deficits in
+    let n = c.look-found.new in
+    let t = schedule_of n.lists n.order n.deficits in
+    let l = look a.counts.now (two_lists s) in
+    let leads = look-leads a.counts.now s (record { long = at.invariant.1; fits = at.invariant.0.0 }) in
+    let on = goes_on a.counts.now s t (a.looks - at.counter) c.look-found.result (omega arith) l refl (leads-reads s l leads)
+    c.look-found.ensures.s_after c.in_default.is in
+    let fewer : a.looks - (at.counter + 1) ≡ a.looks - at.counter - 1 = omega arith in
+    rw fewer (c.look-found.ensures.places.0, c.look-found.ensures.places.1 ∙ at.invariant.1, sym on ∙ at.invariant.2)
 
 pub returns-clause-fact : goal.returns-clause-fact
 returns-clause-fact c =
-    let at = c.before.loop-left in
-    let b = c.before.before.before.before in
-    let a = b.args in
-    let s = schedule_of at.at at.order at.deficits in
-    let all = sym (used-up a.counts.now s at.left (omega (arith, c.loop-left-test.false))) ∙ at.invariant.1.1.1.1 in gives a.looks a.counts.now (schedule_of a.lists a.order.now a.deficits.now) s 0 b.requires.0 at.invariant.1.1.1.0
-    all
-
-pub returns-clause-flow_bound : goal.returns-clause-flow_bound
-returns-clause-flow_bound c =
-    let at = c.before.loop-left in
-    let b = c.before.before.before.before in
-    let a = b.args in
-    let s = schedule_of at.at at.order at.deficits in
-    let all = sym (used-up a.counts.now s at.left (omega (arith, c.loop-left-test.false))) ∙ at.invariant.1.1.1.1 in omega arith
+    let a = c.args in
+    let at = c.loop in
+    let s = schedule_of at.lists at.order at.deficits in
+    let all = sym (used-up a.counts.now s (a.looks - at.counter) (omega arith)) ∙ at.invariant.2 in
+    gives a.looks a.counts.now (schedule_of a.lists.now a.order.now a.deficits.now) s 0 c.requires.0 c.told-order all

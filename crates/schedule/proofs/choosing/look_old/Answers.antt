@@ -14,75 +14,59 @@ use Rattle.schedule.proofs.Ring.{place-lt}
 use Rattle.schedule.proofs.choosing.look_old.Goals as goal
 
 pub overflow_add-next : goal.overflow_add-next
-overflow_add-next c = let f = facts c.args.lists c.requires.lists_value.0 in omega (arith, f.first-lt)
+overflow_add-next c = let f = facts c.args.lists.now c.requires.lists_value.0 in omega (arith, f.first-lt)
 
 pub overflow_add-end : goal.overflow_add-end
 overflow_add-end c =
-    let s = c.before.before.before in
-    let f = facts s.args.lists s.requires.lists_value.0 in
+    let f = facts c.args.lists.now c.requires.lists_value.0 in
     omega (arith, f.first-lt, f.listed_le)
 
 pub overflow_add-deficits : goal.overflow_add-deficits
 overflow_add-deficits c =
-    let a = c.before.before.before.args in
-    let d = get_or a.deficits.now a.flow 0 in
-    omega (arith, ltb-true d zero_deficit (sym c.before.is_negative-negative.ensures ∙ c.if-negative.true))
+    let d = get_or c.args.deficits.now c.args.flow 0 in
+    omega (arith, ltb-true d zero_deficit (sym c.is_negative-negative.ensures ∙ c.if-negative.true))
 
 pub returns-then-negative-clause-by_index : goal.returns-then-negative-clause-by_index
 returns-then-negative-clause-by_index c =
-    let s = c.before.before.before in
-    let a = s.args in
-    let negative : ltb (get_or a.deficits.now a.flow 0) zero_deficit ≡ true = sym c.before.is_negative-negative.ensures ∙ c.if-negative.true in
-    let f = facts a.lists s.requires.lists_value.0 in λ rest again.
-    last_written a.counts.now (schedule_of a.lists a.order.now a.deficits.now) a.flow rest again s.requires.listed_value.1
-    negative
+    let a = c.args in
+    let negative : ltb (get_or a.deficits.now a.flow 0) zero_deficit ≡ true = sym c.is_negative-negative.ensures ∙ c.if-negative.true in
+    λ rest again.
+    last_written a.counts.now (schedule_of a.lists.now a.order.now a.deficits.now) a.flow rest again c.requires.listed_value.1 negative
 
-pub returns-then-negative-clause-flow_bound : goal.returns-then-negative-clause-flow_bound
-returns-then-negative-clause-flow_bound c =
-    let s = c.before.before.before in
-    let a = s.args in
-    let negative : ltb (get_or a.deficits.now a.flow 0) zero_deficit ≡ true = sym c.before.is_negative-negative.ensures ∙ c.if-negative.true in
-    let f = facts a.lists s.requires.lists_value.0 in (
-      s.requires.lists_value.3,
-      lists-fit (rotated_lists a.lists) (place-lt a.lists.first 1) f.old-le f.listed_le,
-      rotated a.order.now a.lists.first a.lists.listed a.flow f.first-lt s.requires.lists_value.2 f.listed_le s.requires.lists_value.3
-          s.requires.listed_value.0,
+pub returns-then-negative-clause-places : goal.returns-then-negative-clause-places
+returns-then-negative-clause-places c =
+    let a = c.args in
+    let l = a.lists.now in
+    let f = facts l c.requires.lists_value.0 in (
+      (
+        lists-fit (rotated_lists l) (place-lt l.first 1) f.old-le f.listed_le,
+        rotated a.order.now l.first l.listed a.flow f.first-lt c.requires.lists_value.2 f.listed_le c.requires.lists_value.3
+            c.requires.listed_value.0,
+      ),
       length-set a.order.now _ _,
     )
 
 pub returns-then-empty-clause-by_index : goal.returns-then-empty-clause-by_index
 returns-then-empty-clause-by_index c =
-    let s = c.before.before.before.before.before.before in
-    let a = s.args in
-    let negative : ltb (get_or a.deficits.now a.flow 0) zero_deficit ≡ false = sym
-    c.before.before.before.before.is_negative-negative.ensures ∙ c.before.before.before.if-negative.false in
-    let f = facts a.lists s.requires.lists_value.0 in λ rest again. simp (negative, eq-eqb _ _ c.before.if-empty.true) refl
+    let a = c.args in
+    let high : ltb (get_or a.deficits.now a.flow 0) zero_deficit ≡ false = sym c.is_negative-negative.ensures ∙ c.if-negative.false in
+    λ rest again. simp (high, eq-eqb _ _ c.if-empty.true) refl
 
-pub returns-then-empty-clause-flow_bound : goal.returns-then-empty-clause-flow_bound
-returns-then-empty-clause-flow_bound c =
-    let s = c.before.before.before.before.before.before in
-    let a = s.args in
-    let negative : ltb (get_or a.deficits.now a.flow 0) zero_deficit ≡ false = sym
-    c.before.before.before.before.is_negative-negative.ensures ∙ c.before.before.before.if-negative.false in
-    let f = facts a.lists s.requires.lists_value.0 in (
-      s.requires.lists_value.3,
-      lists-fit (left_lists a.lists) (place-lt a.lists.first 1) (omega (arith, f.old-le)) (omega (arith, f.listed_le)),
-      (flows-first a.order.now a.lists.first a.lists.listed f.first-lt s.requires.lists_value.2 s.requires.listed_value.0).1,
+pub returns-then-empty-clause-places : goal.returns-then-empty-clause-places
+returns-then-empty-clause-places c =
+    let a = c.args in
+    let l = a.lists.now in
+    let f = facts l c.requires.lists_value.0 in (
+      (
+        lists-fit (left_lists l) (place-lt l.first 1) (omega (arith, f.old-le)) (omega (arith, f.listed_le)),
+        (flows-first a.order.now l.first l.listed f.first-lt c.requires.lists_value.2 c.requires.listed_value.0).1,
+      ),
       refl,
     )
 
 pub returns-clause-by_index : goal.returns-clause-by_index
 returns-clause-by_index c =
-    let s = c.before.before.before.before.before in
-    let a = s.args in
-    let negative : ltb (get_or a.deficits.now a.flow 0) zero_deficit ≡ false = sym c.before.before.before.is_negative-negative.ensures
-    ∙ c.before.before.if-negative.false in
-    λ rest again. simp (negative, ne_eqb _ _ c.if-empty.false) refl
+    let a = c.args in
+    let high : ltb (get_or a.deficits.now a.flow 0) zero_deficit ≡ false = sym c.is_negative-negative.ensures ∙ c.if-negative.false in
+    λ rest again. simp (high, ne_eqb _ _ c.if-empty.false) refl
 
-pub returns-clause-flow_bound : goal.returns-clause-flow_bound
-returns-clause-flow_bound c =
-    let s = c.before.before.before.before.before in
-    let a = s.args in
-    let negative : ltb (get_or a.deficits.now a.flow 0) zero_deficit ≡ false = sym c.before.before.before.is_negative-negative.ensures
-    ∙ c.before.before.if-negative.false in
-    (s.requires.lists_value.3, s.requires.lists_value.0, s.requires.listed_value.0, refl)

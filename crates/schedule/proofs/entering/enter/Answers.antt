@@ -6,10 +6,10 @@ use Rattle.schedule.proofs.Facts.{facts}
 use Rattle.schedule.proofs.entering.enter.Goals as goal
 
 pub overflow_add-end : goal.overflow_add-end
-overflow_add-end c = let f = facts c.before.args.lists c.before.requires.0 in omega (arith, f.first-lt, f.listed_le)
+overflow_add-end c = let f = facts c.args.lists.now c.requires.0 in omega (arith, f.first-lt, f.listed_le)
 
-pub overflow_add-result : goal.overflow_add-result
-overflow_add-result c = let f = facts c.before.before.args.lists c.before.before.requires.0 in omega (arith, f.listed_le)
+pub overflow_add-lists : goal.overflow_add-lists
+overflow_add-lists c = let f = facts c.args.lists.now c.requires.0 in omega (arith, f.listed_le)
 
 pub returns : goal.returns
 unfolding entered_in entered

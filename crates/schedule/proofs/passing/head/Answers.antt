@@ -8,31 +8,16 @@ use Rattle.schedule.proofs.passing.head.Goals as goal
 
 pub overflow_add-at : goal.overflow_add-at
 overflow_add-at c =
-    let s = c.before.before in
-    let f = facts s.args.lists s.requires.lists_value.0 in
-    omega (arith, f.first-lt, f.old-le, f.listed_le)
+    let f = facts c.args.lists c.requires.0.0 in omega (arith, f.first-lt, f.old-le, f.listed_le)
 
 pub returns-then-new : goal.returns-then-new
 returns-then-new c =
-    let s = c.before.before.before in
-    let l = s.args.lists in
-    let e = c.before.if-new.true in
-    rw (lt-ltb l.old l.listed e) (refl, flow-at s.args.order.now l.first l.old l.listed e s.requires.listed_value)
-
-pub offset_bounds-order-first : goal.offset_bounds-order-first
-offset_bounds-order-first c =
-    let s = c.before.before in
-    let f = facts s.args.lists s.requires.lists_value.0 in
-    omega (arith, f.first-lt)
-
-pub bounds-order-first : goal.bounds-order-first
-bounds-order-first c =
-    let s = c.before.before in
-    (facts s.args.lists s.requires.lists_value.0).first-lt
+    let l = c.args.lists in
+    let e = c.if-new.true in
+    rw (lt-ltb l.old l.listed e) (refl, flow-at c.args.order.now l.first l.old l.listed e c.requires.0.1)
 
 pub returns : goal.returns
 returns c =
-    let s = c.before.before.before in
-    let l = s.args.lists in
-    let f = facts l s.requires.lists_value.0 in
-    rw (le-ltb l.old l.listed c.before.if-new.false) (refl, (flows-first s.args.order.now l.first l.listed f.first-lt s.requires.lists_value.1 s.requires.listed_value).0)
+    let l = c.args.lists in
+    let f = facts l c.requires.0.0 in
+    rw (le-ltb l.old l.listed c.if-new.false) (refl, (flows-first c.args.order.now l.first l.listed f.first-lt c.requires.1 c.requires.0.1).0)

@@ -1,6 +1,5 @@
 use mathlib.Core.Path.{◌≡◌}
 use mathlib.Core.Bool.{true}
-use Prim.Native.Nat.{◌-◌, ◌≤◌}
 use lib.ListN.{length}
 use Rattle.schedule.specs.Ring.{ring_of}
 use Rattle.schedule.specs.WellFormed.{are_flows}
@@ -9,8 +8,4 @@ use Rattle.schedule.proofs.testing.count_listed.Given as goal
 
 abbrev pub invariant-loop-i : goal.invariant-loop-i
 invariant-loop-i l =
-    (l.i ≤ l.listed)
-    × ((length l.times ≡ 64) × ((are_flows (ring_of l.order l.first l.i) ≡ true) × Tallied l.times (ring_of l.order l.first l.i)))
-
-abbrev pub decreases-loop-i : goal.decreases-loop-i
-decreases-loop-i l = l.listed - l.i
+    (length l.times ≡ 64) × (are_flows (ring_of l.order l.first l.i) ≡ true) × Tallied l.times (ring_of l.order l.first l.i)
