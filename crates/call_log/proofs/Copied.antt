@@ -1,11 +1,10 @@
--- Bytes that are copied one by one, and are bytes.
-use mathlib.Core.Path.{◌≡◌, ap, sym, subst, ◌∙◌}
-use mathlib.Core.List.{List, [], ◌∷◌, ◌++◌}
-use Prim.Native.Nat.{ℕ, ◌+◌, ◌*◌, ◌<◌, ◌≤◌}
-use native.Mathlib.Numerals.{add-one}
+-- A record's own bytes.
+use mathlib.Core.Path.{◌≡◌, ap, sym, ◌∙◌}
+use mathlib.Core.List.{List, [], ◌∷◌}
+use Prim.Native.Nat.{ℕ, suc, ◌+◌, ◌*◌, ◌<◌}
 use native.Mathlib.Omega.{arith}
-use lib.ListN.{get_or, length, replicate, set, take}
-use lib.Seq.{sets, take_all, take-suc}
+use lib.ListN.{get_or, length, replicate}
+use lib.Seq.{sets, take_all}
 use Rattle.log_codec.specs.Fields.{AreBytes}
 use Rattle.log_codec.specs.Records.{InRange, decoded, encoded}
 use Rattle.log_codec.specs.declared.Record.{Record}
@@ -13,25 +12,12 @@ use Rattle.log_codec.proofs.RoundTrip.{reads-back, writes-back}
 use Rattle.call_log.specs.Layout.{trailer_of}
 use Rattle.call_log.specs.Writer.{added}
 use Rattle.call_log.specs.declared.Writer.{Writer}
-use Rattle.call_log.proofs.Stores.{one_more, record-and-trailer}
+use Rattle.call_log.proofs.Stores.{record-and-trailer}
 
-append-bytes : (a b : List ℕ) → AreBytes a → AreBytes b → AreBytes (a ++ b)
-append-bytes [] b p q = q
-append-bytes (x ∷ a) b p q = (p.0, append-bytes a b p.1 q)
-
--- one more of a list
-pub next-byte : (l : List ℕ) (i : ℕ) → i < length l → AreBytes (take i l) → get_or l i 0 < 256 → AreBytes (take (i + 1) l)
-next-byte l i h p b =
-    subst AreBytes (sym (take-suc l i 0 h) ∙ ap (λ (n : ℕ). take n l) (sym (add-one i))) (append-bytes (take i l) (get_or l i 0 ∷ []) p (b, tt))
-
--- the store of one more
-pub next-bytes : (l call : List ℕ) (at i : ℕ) → i < length call → {m : List ℕ} {x : ℕ} → m ≡ sets l at (take i call) → x ≡ get_or call i 0 →
-    set m (at + i) x ≡ sets l at (take (i + 1) call)
-next-bytes l call at i h e f = rw (e, f) (one_more l call at i h)
-
--- all of it
-pub all-bytes : (l : List ℕ) (i : ℕ) → length l ≤ i → AreBytes (take i l) → AreBytes l
-all-bytes l i h p = subst AreBytes (take_all i l h) p
+-- a list whose elements are each a byte
+pub all-bytes : (l : List ℕ) → ((i : ℕ) → get_or l i 0 < 256) → AreBytes l
+all-bytes [] h = tt
+all-bytes (x ∷ l) h = (h 0, all-bytes l (λ i. h (suc i)))
 
 -- a record's own bytes and the trailer
 pub call-and-trailer : (l : List ℕ) (w : Writer) (call : List ℕ) → length call ≡ 40 → AreBytes call → {l1 l2 : List ℕ} →

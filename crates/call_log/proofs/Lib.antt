@@ -7,3 +7,4 @@ pub mod Replies
 pub mod Shape
 pub mod Stores
 pub mod Copied
+pub mod Opened

@@ -1,5 +1,5 @@
 -- The writer (Q-1). Its state is the trailer's first two numbers: the bytes are a whole log after every accepted call.
-use Rattle.std.specs.Prelude.{Bool, not, ◌||◌, List, [], ◌∷◌, ◌++◌, ℕ, zero, suc, ◌+◌, ◌*◌, leb, ltb, length}
+use Rattle.std.specs.Prelude.{Bool, not, ◌||◌, List, [], ◌∷◌, ◌++◌, ℕ, zero, suc, ◌+◌, ◌*◌, leb, ltb, length, Result, ⊤}
 use Rattle.std.proofs.lemmas.List.Edits.{sets}
 use Rattle.refusals.specs.Rows.{first_refusal}
 use Rattle.laws.specs.Tests.{all}
@@ -10,8 +10,8 @@ use Rattle.log_codec.specs.declared.Record.{Record}
 use Rattle.call_log.specs.Answers.{refusal_in}
 use Rattle.call_log.specs.Faults.{faulty, header_refused}
 use Rattle.call_log.specs.Layout.{length_of, trailer_of}
+use Rattle.call_log.specs.declared.Refusal.{Refusal}
 use Rattle.call_log.specs.declared.Writer.{Writer}
-use Rattle.call_log.specs.declared.Written.{Written}
 
 -- what a call gives: the refusal's number (0: accepted), the writer's state and the bytes
 pub record Reply : Type 0 where
@@ -19,9 +19,9 @@ pub record Reply : Type 0 where
   pub writer : Writer
   pub bytes : List ℕ
 
--- the library's own value, and the bytes as it left them
-abbrev pub reply_of : Written → (bytes : List ℕ) → Reply
-reply_of w bytes = record { refusal = refusal_in w.accepted; writer = w.writer; bytes = bytes }
+-- the library's own value, and the writer's state and the bytes as it left them
+abbrev pub reply_of : Result ⊤ Refusal → Writer → (bytes : List ℕ) → Reply
+reply_of accepted w bytes = record { refusal = refusal_in accepted; writer = w; bytes = bytes }
 
 -- a refusal (a number above 0) returns this state, and the bytes as they were
 abbrev pub unless_refused : (number : ℕ) → Writer → (bytes : List ℕ) → Reply → Reply

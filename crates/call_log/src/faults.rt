@@ -22,9 +22,9 @@ pub fn header_refused(h: Header) -> bool
 pub fn faulty(r: Record) -> bool
     ensures { result ≡ faulty_by r }
 {
-    let a = r.kind == 97;
-    let d = r.kind == 100;
-    let t = r.kind == 116;
+    let a = r.kind == b'a';
+    let d = r.kind == b'd';
+    let t = r.kind == b't';
     let arrival = a & (r.ecn <= 1) & (1 <= r.size) & (r.size <= 65_535) & (r.verdict <= 4);
     let other = (r.ecn == 0)
         & (r.handle == 0)

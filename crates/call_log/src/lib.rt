@@ -1,9 +1,6 @@
 // A log of accepted calls over lent bytes: a writer and a reader.
 #![tactic(auto)]
 
-use log_codec::{Header, Record};
-
-mod copying;
 mod faults;
 mod reading;
 mod refusing;
@@ -18,7 +15,7 @@ pub use whole::check;
 pub use writing::{add, add_call, begin};
 
 // One case for each refusal number, in order, from 11.
-#[derive(Clone, Copy)]
+#[derive(Clone, Copy, PartialEq, Eq)]
 pub enum Refusal {
     Trailer,
     Settings,
@@ -26,45 +23,18 @@ pub enum Refusal {
     Room,
 }
 
-#[derive(Clone, Copy)]
-pub enum Accepted {
-    Yes,
-    No(Refusal),
-}
-
 // The offset of the first record and the number of records, as in the trailer.
-#[derive(Clone, Copy)]
+#[derive(Clone, Copy, PartialEq, Eq)]
 pub struct Writer {
     pub offset: u32,
     pub count: u32,
 }
 
-// What `begin` and `add` return.
-#[derive(Clone, Copy)]
+// What `begin` returns: where it is refused, the all-zero state, which no bytes reach.
+#[derive(Clone, Copy, PartialEq, Eq)]
 pub struct Written {
-    pub accepted: Accepted,
+    pub accepted: Result<(), Refusal>,
     pub writer: Writer,
-}
-
-#[derive(Clone, Copy)]
-pub enum Step {
-    // A record, and the place after it.
-    Handed(Record, u64),
-    End,
-    Refused(Refusal),
-}
-
-#[derive(Clone, Copy)]
-pub enum Opened {
-    Read(Header),
-    Refused(Refusal),
-}
-
-#[derive(Clone, Copy)]
-pub enum Checked {
-    // Offset and count.
-    Whole(u32, u32),
-    Refused(Refusal),
 }
 
 #[derive(Clone, Copy)]

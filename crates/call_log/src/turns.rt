@@ -4,7 +4,8 @@ ghost use Rattle.call_log.specs.Answers.{turn_of};
 ghost use Rattle.call_log.specs.Reader.{moved_on, next_of, started};
 
 use crate::reading::{place_after, read_at};
-use crate::{Reader, Step};
+use crate::{Reader, Refusal};
+use log_codec::Record;
 
 pub fn start<'a>(log: &'a [u8]) -> Reader<'a>
     ensures { result ≡ started log.entry }
@@ -13,7 +14,7 @@ pub fn start<'a>(log: &'a [u8]) -> Reader<'a>
 }
 
 // What stands at the reader's place.
-pub fn next<'a>(r: Reader<'a>) -> Step
+pub fn next<'a>(r: Reader<'a>) -> Result<Option<(Record, u64)>, Refusal>
     ensures { turn_of result ≡ next_of r.entry }
 {
     read_at(r.log, r.place)

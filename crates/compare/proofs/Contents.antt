@@ -10,10 +10,10 @@ use Rattle.log_codec.specs.declared.Header.{Header}
 use Rattle.call_log.specs.Layout.{records_from}
 use Rattle.compare.specs.Compare.{Comparison, compare_contents, compare_records, notes_differ, same, same_settings, settings_differ}
 use Rattle.compare.specs.Values.{contents_at}
-use Rattle.compare.proofs.Same.{not_same}
+use Rattle.compare.proofs.Same.{same-length}
 
 -- the note of a log with this offset
-abbrev note : (log : List ℕ) (offset : ℕ) → List ℕ
+abbrev pub note : (log : List ℕ) (offset : ℕ) → List ℕ
 note l offset = take (offset - 32) (drop 32 l)
 
 note-length : (l : List ℕ) (offset : ℕ) → 32 ≤ offset → offset ≤ length l → length (note l offset) ≡ offset - 32
@@ -27,22 +27,17 @@ module _ (first second : List ℕ) (offset count start others : ℕ) {a b : Head
   pub settings-differ : t ≡ false → settings_differ ≡ compare_contents (contents_at first offset count) (contents_at second start others)
   settings-differ e = rw (settings ∙ e) refl
 
-  module _ (alike : t ≡ true) where
-    pub lengths_differ : 32 ≤ offset → offset ≤ length first → 32 ≤ start → start ≤ length second → (offset ≡ start → ⊥) →
-        notes_differ ≡ compare_contents (contents_at first offset count) (contents_at second start others)
-    lengths_differ h k l m d = rw (settings ∙ alike, not_same (note first offset) (note second start) other) refl
-      where
-        other : length (note first offset) ≡ length (note second start) → ⊥
-        other e = d (omega (arith, e, note-length first offset h k, note-length second start l m))
+  module _ (alike : t ≡ true) {u : Bool} (noted : u ≡ same (note first offset) (note second start)) where
+    pub notes-differ : u ≡ false → notes_differ ≡ compare_contents (contents_at first offset count) (contents_at second start others)
+    notes-differ e = rw (settings ∙ alike, sym noted ∙ e) refl
 
-    module _ (placed : offset ≡ start) {u : Bool} (noted : u ≡ same (note first offset) (note second offset)) where
-      notes : same (note first offset) (note second start) ≡ u
-      notes = rw (← placed) (sym noted)
+    pub records-decide : u ≡ true → offset ≡ start → {c : Comparison} →
+        c ≡ compare_records 0 (records_from count first offset) (records_from others second offset) →
+        c ≡ compare_contents (contents_at first offset count) (contents_at second start others)
+    records-decide e p r = rw (settings ∙ alike, sym noted ∙ e, ← p) r
 
-      pub notes-differ : u ≡ false → notes_differ ≡ compare_contents (contents_at first offset count) (contents_at second start others)
-      notes-differ e = rw (settings ∙ alike, notes ∙ e) refl
-
-      pub records-decide : u ≡ true → {c : Comparison} →
-          c ≡ compare_records 0 (records_from count first offset) (records_from others second offset) →
-          c ≡ compare_contents (contents_at first offset count) (contents_at second start others)
-      records-decide e r = rw (settings ∙ alike, notes ∙ e, ← placed) r
+-- notes that are the same end at one place
+pub placed : (first second : List ℕ) (offset start : ℕ) → 32 ≤ offset → offset ≤ length first → 32 ≤ start → start ≤ length second →
+    same (note first offset) (note second start) ≡ true → offset ≡ start
+placed first second offset start h k l m e =
+    omega (arith, same-length (note first offset) (note second start) e, note-length first offset h k, note-length second start l m)

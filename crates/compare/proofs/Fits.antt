@@ -1,5 +1,5 @@
 -- The records that remain stand in the longer log.
-use mathlib.Core.Path.{◌≡◌, refl, ap, sym, ◌∙◌}
+use mathlib.Core.Path.{◌≡◌, refl, ap}
 use mathlib.Core.Bool.{Bool, true, false, cond}
 use mathlib.Core.List.{List, [], ◌∷◌}
 use Prim.Native.Nat.{ℕ, ◌+◌, ◌*◌, ◌≤◌}
@@ -14,7 +14,9 @@ use Rattle.compare.specs.Compare.{record_differs, refused_first, refused_second,
 use Rattle.compare.specs.Compare.{settings_differ, with_first}
 use Rattle.compare.specs.Remaining.{part_for, remaining_of}
 use Rattle.compare.specs.Values.{comparison_of}
+use Rattle.call_log.specs.Reader.{within}
 use Rattle.compare.specs.declared.Compared.{Compared}
+use Rattle.compare.specs.declared.Compared.TheVariants.{FirstEnds, SecondEnds}
 use Rattle.compare.proofs.Whole.{read_whole_lem}
 
 -- one more than what remains of the first log, and of the second; 0 where neither is a beginning of the other
@@ -91,8 +93,14 @@ module _ (a b : List ℕ) where
   unfolding compare
   second_fits g = second-read (read_whole a) (read_whole b) refl refl g
 
--- the part that a found value asks for
-pub part-is : (first second : Bor (List ℕ)) {found v : Compared} →
-    comparison_of found ≡ compare first.now second.now → found ≡ v → part_for first second (comparison_of v) ≡ remaining_of first second
+-- the part that a comparison asks for
+pub part-of : (first second : Bor (List ℕ)) {a : Comparison} → a ≡ compare first.now second.now → part_for first second a ≡ remaining_of first second
 unfolding remaining_of
-part-is first second e f = ap (λ c. part_for first second c) (ap comparison_of (sym f) ∙ e)
+part-of first second e = ap (λ c. part_for first second c) e
+
+-- neither log is a proper beginning of the other
+pub neither : (first second : Bor (List ℕ)) (v : Compared) → ((k n : ℕ) → v ≡ FirstEnds k n → ⊥) → ((k n : ℕ) → v ≡ SecondEnds k n → ⊥) →
+    comparison_of v ≡ compare first.now second.now → within first 0 [] ≡ remaining_of first second
+neither first second (FirstEnds k n) f s e = absurd (f k n refl)
+neither first second (SecondEnds k n) f s e = absurd (s k n refl)
+neither first second _ f s e = part-of first second e

@@ -1,58 +1,47 @@
--- Lists that are the same: byte by byte, and as lists.
-use mathlib.Core.Path.{◌≡◌, refl, ap, ◌∙◌}
+-- What is the same: by the library's equality, and as lists.
+use mathlib.Core.Path.{◌≡◌, refl, ap}
 use mathlib.Core.Bool.{Bool, true, false, ◌&&◌}
 use mathlib.Core.List.{List, [], ◌∷◌}
-use Prim.Native.Nat.{ℕ, suc, ◌+◌, ◌-◌, ◌≤◌, ◌<◌}
-use native.Mathlib.Omega.{arith}
+use Prim.Native.Nat.{ℕ, suc}
 use lib.Dec.{eqb}
-use lib.ListN.{drop, get_or, length, take}
-use lib.Seq.{drop-cons}
-use Rattle.compare.specs.Compare.{same}
+use lib.ListN.{length}
+use lib.Pointwise.{pointwise}
+use Rattle.laws.proofs.Tests.{and_right}
+use Rattle.log_codec.specs.declared.Header.{Header}
+use Rattle.log_codec.specs.declared.Record.{Record}
+use Rattle.compare.specs.Compare.{same, same_record, same_settings}
 
 pub and-true : (a : Bool) → a && true ≡ a
 and-true true = refl
 and-true false = refl
 
--- the bytes from one place up to another
-abbrev pub window : (l : List ℕ) (at end : ℕ) → List ℕ
-window l at end = take (end - at) (drop at l)
+-- equality as the library finds it
+pub list-same : (a b : List ℕ) → pointwise eqb a b ≡ same a b
+list-same [] [] = refl
+list-same [] (b ∷ bs) = refl
+list-same (a ∷ as₁) [] = refl
+list-same (a ∷ as₁) (b ∷ bs) = ap (λ (t : Bool). eqb a b && t) (list-same as₁ bs)
 
-window-next : (l : List ℕ) (at end : ℕ) → at < end → end ≤ length l → window l at end ≡ get_or l at 0 ∷ window l (at + 1) end
-window-next l at end h k = rw (less, drop-cons l at 0 (omega arith), up) refl
-  where
-    less : end - at ≡ suc (end - (at + 1))
-    less = omega arith
+pub header-same : (a b : Header) →
+    eqb a.target b.target && (eqb a.buffer b.buffer && (eqb a.slots b.slots && (eqb a.clock b.clock && (eqb a.profile b.profile && eqb a.unused b.unused))))
+    ≡ same_settings a b
+unfolding same_settings
+header-same a b = simp (and-true)
 
-    up : suc at ≡ at + 1
-    up = omega arith
+pub record-same : (a b : Record) →
+    eqb a.kind b.kind
+    && (eqb a.ecn b.ecn
+    && (eqb a.unused b.unused
+    && (eqb a.handle b.handle
+    && (eqb a.clock b.clock
+    && (eqb a.size b.size && (eqb a.u b.u && (eqb a.verdict b.verdict && (eqb a.bytes b.bytes && eqb a.prob b.prob))))))))
+    ≡ same_record a b
+unfolding same_record
+record-same a b = simp (and-true)
 
-window-done : (l : List ℕ) (at end : ℕ) → end ≤ at → window l at end ≡ []
-window-done l at end h = ap (λ n. take n (drop at l)) none
-  where
-    none : ◌≡◌ {A = ℕ} (end - at) 0
-    none = omega arith
-
-module _ (first second : List ℕ) (at end : ℕ) where
-  module _ (h : at < end) (k : end ≤ length first) (l : end ≤ length second) {t : Bool} (tested : t ≡ eqb (get_or first at 0) (get_or second at 0)) where
-    step : same (window first at end) (window second at end) ≡ t && same (window first (at + 1) end) (window second (at + 1) end)
-    step = rw (window-next first at end h k, window-next second at end h l, tested) refl
-
-    pub byte-same : t ≡ true → same (window first at end) (window second at end) ≡ same (window first (at + 1) end) (window second (at + 1) end)
-    byte-same e = step ∙ rw e refl
-
-    pub byte-differs : t ≡ false → same (window first at end) (window second at end) ≡ false
-    byte-differs e = step ∙ rw e refl
-
-  pub all_same : end ≤ at → same (window first at end) (window second at end) ≡ true
-  all_same h = rw (window-done first at end h, window-done second at end h) refl
-
-and-false : (a : Bool) → a && false ≡ false
-and-false true = refl
-and-false false = refl
-
--- lists of different lengths are not the same
-pub not_same : (a b : List ℕ) → (length a ≡ length b → ⊥) → same a b ≡ false
-not_same [] [] h = absurd (h refl)
-not_same [] (b ∷ bs) h = refl
-not_same (a ∷ as₁) [] h = refl
-not_same (a ∷ as₁) (b ∷ bs) h = rw (not_same as₁ bs (λ e. h (ap suc e))) (and-false (eqb a b))
+-- lists that are the same are of one length
+pub same-length : (a b : List ℕ) → same a b ≡ true → length a ≡ length b
+same-length [] [] e = refl
+same-length [] (b ∷ bs) e = absurd (cc)
+same-length (a ∷ as₁) [] e = absurd (cc)
+same-length (a ∷ as₁) (b ∷ bs) e = ap suc (same-length as₁ bs (and_right (eqb a b) (same as₁ bs) e))

@@ -4,6 +4,7 @@ use Rattle.log_codec.specs.Headers.{decoded_header}
 use Rattle.call_log.specs.Answers.{refusal_number}
 use Rattle.call_log.specs.Layout.{records_from}
 use Rattle.call_log.specs.Whole.{Contents}
+use Rattle.call_log.specs.declared.Writer.{Writer}
 use Rattle.compare.specs.Compare.{Comparison, equal, first_ends, notes_differ, record_differs, refused_first, refused_second}
 use Rattle.compare.specs.Compare.{second_ends, settings_differ}
 use Rattle.compare.specs.declared.Compared.{Compared}
@@ -24,3 +25,6 @@ comparison_of (Equal records) = equal records
 abbrev pub contents_at : (log : List ℕ) (offset count : ℕ) → Contents
 contents_at log offset count =
     record { header = decoded_header log 0; note = take (offset - 32) (drop 32 log); records = records_from count log offset }
+
+abbrev pub contents_in : (log : List ℕ) → Writer → Contents
+contents_in log w = contents_at log w.offset w.count

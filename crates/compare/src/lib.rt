@@ -9,12 +9,11 @@ use call_log::Refusal;
 
 mod comparing;
 mod longer;
-mod sameness;
 
 pub use comparing::compare;
 pub use longer::remaining;
 
-#[derive(Clone, Copy)]
+#[derive(Clone, Copy, PartialEq, Eq)]
 pub enum Compared {
     RefusedFirst(Refusal),
     RefusedSecond(Refusal),

@@ -20,15 +20,9 @@ fn last<'a>(log: &'a [u8], records: u64) -> &'a [u8]
 pub fn remaining<'a>(first: &'a [u8], second: &'a [u8]) -> &'a [u8]
     ensures { part_of result ≡ remaining_of first.entry second.entry }
 {
-    let found = compare(first, second);
-    match found {
+    match compare(first, second) {
         Compared::FirstEnds(_, records) => last(second, records),
         Compared::SecondEnds(_, records) => last(first, records),
-        Compared::RefusedFirst(_) => &first[0..0],
-        Compared::RefusedSecond(_) => &first[0..0],
-        Compared::SettingsDiffer => &first[0..0],
-        Compared::NotesDiffer => &first[0..0],
-        Compared::RecordDiffers(_) => &first[0..0],
-        Compared::Equal(_) => &first[0..0],
+        _ => &first[0..0],
     }
 }

@@ -34,7 +34,7 @@ pub(crate) fn call(w: &mut [u64; 23], r: Record, handles: &mut [u32], sizes: &mu
         × (result.verdict ≡ verdict_in a.answer)
         × (lent w.new handles.new sizes.new ≡ leaves q (request_of r)) }
 {
-    let arrives = r.kind == 97;
+    let arrives = r.kind == b'a';
     if arrives {
         let code = arrive(
             w,
@@ -48,7 +48,7 @@ pub(crate) fn call(w: &mut [u64; 23], r: Record, handles: &mut [u32], sizes: &mu
         );
         return by_code(code, code);
     }
-    let departs = r.kind == 100;
+    let departs = r.kind == b'd';
     if departs {
         let word = depart(w, handles, sizes, r.clock);
         return by_code(word % 65_536, word / 4_294_967_296);

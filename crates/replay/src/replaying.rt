@@ -1,27 +1,15 @@
 // A log over lent bytes and lent tables: read whole, then run from a fresh queue.
 ghost use Rattle.std.specs.Prelude.{◌≡◌, ◌≤◌};
-ghost use Rattle.call_log.specs.Answers.{given, refusal_number};
+ghost use Rattle.call_log.specs.Answers.{given};
 ghost use Rattle.call_log.specs.Whole.{read_whole, shape_in};
 ghost use Rattle.replay.specs.Replay.{refused as refused_by, replay as replay_by};
 ghost use Rattle.replay.specs.Replied.{handles_after, replayed_of, sizes_after};
 
 use crate::Replayed;
 use crate::running::run;
-use call_log::{Checked, Refusal};
 use ring::State;
 use ring_words::encode;
 use units::{Bytes, Micros};
-
-fn number(r: Refusal) -> u32
-    ensures { result ≡ refusal_number r }
-{
-    match r {
-        Refusal::Trailer => 11,
-        Refusal::Settings => 12,
-        Refusal::Fault => 13,
-        Refusal::Room => 14,
-    }
-}
 
 fn refused(number: u32) -> Replayed
     ensures { result ≡ replayed_of (refused_by number) }
@@ -75,11 +63,8 @@ pub fn replay(log: &[u8], handles: &mut [u32], sizes: &mut [u32]) -> Replayed
     ensures fact { let a = replay_by log.now handles.old sizes.old in
         (handles.new ≡ handles_after a handles.old) × (sizes.new ≡ sizes_after a sizes.old) }
 {
-    let checked = call_log::check(log);
-    match checked {
-        Checked::Refused(refusal) => refused(number(refusal)),
-        Checked::Whole(offset, count) => {
-            replay_whole(log, offset as usize, count as usize, handles, sizes)
-        }
+    match call_log::check(log) {
+        Ok(w) => replay_whole(log, w.offset as usize, w.count as usize, handles, sizes),
+        Err(refusal) => refused(refusal.number()),
     }
 }

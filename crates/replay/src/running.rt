@@ -28,10 +28,8 @@ pub(crate) fn run(
         (records_from count log.now offset) in
         (handles.new ≡ handles_after a handles.old) × (sizes.new ≡ sizes_after a sizes.old) }
 {
-    let mut at = offset;
-    let mut i: usize = 0;
-    while i < count {
-        let r = log_codec::get(log, at);
+    for i in 0..count {
+        let r = log_codec::get(log, offset + 40 * i);
         let c = call(w, r, handles, sizes);
         let field = compare(r, c, w[PROB], w[BYTES]);
         if 0 < field {
@@ -45,8 +43,6 @@ pub(crate) fn run(
                 bytes: w[BYTES],
             };
         }
-        at += 40;
-        i += 1;
     }
     Replayed {
         refused: 0,

@@ -2,5 +2,5 @@
 use Rattle.log_c.proofs.Answered.{no_code}
 use Rattle.log_c.proofs.code.Goals as goal
 
-pub returns-in-No : goal.returns-in-No
-returns-in-No c = no_code c.in-No.is c.number.ensures.0
+pub returns-in-Err : goal.returns-in-Err
+returns-in-Err c = no_code c.in-Err.is c.number.ensures.0

@@ -2,8 +2,8 @@
 use Rattle.log_c.proofs.Answered.{note-read, note-refused}
 use Rattle.log_c.proofs.obikuteru_log_note.Goals as goal
 
-pub returns-in-Read : goal.returns-in-Read
-returns-in-Read c = note-read c.args.log c.settings-opened.ensures c.note-note.result c.in-Read.is c.note-note.ensures c.words_of_part.ensures
+pub returns-in-Ok : goal.returns-in-Ok
+returns-in-Ok c = note-read c.args.log c.note-note.result c.in-Ok.ensures c.note-note.ensures c.words_of_part.ensures
 
-pub returns-in-Refused : goal.returns-in-Refused
-returns-in-Refused c = note-refused c.args.log c.settings-opened.ensures c.in-Refused.is c.number.ensures.0
+pub returns-in-Err : goal.returns-in-Err
+returns-in-Err c = note-refused c.args.log c.in-Err.ensures c.number.ensures.0

@@ -1,12 +1,12 @@
 -- `obikuteru_log_read`: the library's `read_at`, in words and bytes.
-use Rattle.log_c.proofs.Answered.{read-end, read-record, read-refused}
+use Rattle.log_c.proofs.Answered.{read-end, read-record, read-refused, told}
 use Rattle.log_c.proofs.obikuteru_log_read.Goals as goal
 
-pub returns-in-Handed : goal.returns-in-Handed
-returns-in-Handed c = read-record c.args.place.now c.read_at-step.ensures c.in-Handed.is c.put.ensures
+pub returns-in-Ok-Some : goal.returns-in-Ok-Some
+returns-in-Ok-Some c = read-record c.args.place.now (told c.in-Ok-Some.field-0-is c.in-Ok-Some.ensures) c.put.ensures
 
-pub returns-in-End : goal.returns-in-End
-returns-in-End c = read-end c.args.place.now c.read_at-step.ensures c.in-End.is
+pub returns-in-Ok-None : goal.returns-in-Ok-None
+returns-in-Ok-None c = read-end c.args.place.now (told c.in-Ok-None.field-0-is c.in-Ok-None.ensures)
 
-pub returns-in-Refused : goal.returns-in-Refused
-returns-in-Refused c = read-refused c.args.place.now c.read_at-step.ensures c.in-Refused.is c.number.ensures.0
+pub returns-in-Err : goal.returns-in-Err
+returns-in-Err c = read-refused c.args.place.now c.in-Err.ensures c.number.ensures.0

@@ -2,8 +2,8 @@
 use Rattle.log_c.proofs.Answered.{settings-read, settings-refused}
 use Rattle.log_c.proofs.obikuteru_log_settings.Goals as goal
 
-pub returns-in-Read : goal.returns-in-Read
-returns-in-Read c = settings-read c.settings-opened.ensures c.in-Read.is c.put_header.ensures
+pub returns-in-Ok : goal.returns-in-Ok
+returns-in-Ok c = settings-read c.in-Ok.ensures c.put_header.ensures
 
-pub returns-in-Refused : goal.returns-in-Refused
-returns-in-Refused c = settings-refused c.settings-opened.ensures c.in-Refused.is c.number.ensures.0
+pub returns-in-Err : goal.returns-in-Err
+returns-in-Err c = settings-refused c.in-Err.ensures c.number.ensures.0

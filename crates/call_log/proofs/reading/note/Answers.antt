@@ -1,36 +1,31 @@
 -- `note` meets its contract.
-use mathlib.Core.Path.{◌∙◌, sym}
 use native.Mathlib.Omega.{arith}
 use Rattle.call_log.specs.Reader.{note_of}
+use Rattle.call_log.specs.Answers.{given}
+use Rattle.call_log.specs.Layout.{note_in}
 use Rattle.call_log.proofs.Facts.{sound}
+use Rattle.call_log.proofs.Opened.{opens, refuses}
 use Rattle.call_log.proofs.reading.note.Goals as goal
 
-pub returns-then-bad : goal.returns-then-bad
-unfolding note_of
-returns-then-bad c = simp (← c.trailer_refused-bad.ensures, c.if-bad.true)
-
-pub get_header-requires : goal.get_header-requires
-get_header-requires c = let s = sound c.args.log.now (sym c.trailer_refused-bad.ensures ∙ c.if-bad.false) in omega arith
-
-pub returns-then-wrong : goal.returns-then-wrong
-unfolding note_of
-returns-then-wrong c = simp (← c.trailer_refused-bad.ensures, c.if-bad.false, ← c.get_header.ensures, ← c.header_refused-wrong.ensures, c.if-wrong.true)
-
-pub overflow_sub-n : goal.overflow_sub-n
-overflow_sub-n c = let s = sound c.args.log.now (sym c.trailer_refused-bad.ensures ∙ c.if-bad.false) in omega arith
+pub overflow_sub-log : goal.overflow_sub-log
+overflow_sub-log c = let s = sound c.args.log.now (opens c.args.log.now c.in-Ok.ensures).trailer in omega arith
 
 pub get4-offset-requires : goal.get4-offset-requires
-get4-offset-requires c = let s = sound c.args.log.now (sym c.trailer_refused-bad.ensures ∙ c.if-bad.false) in omega arith
+get4-offset-requires c = let s = sound c.args.log.now (opens c.args.log.now c.in-Ok.ensures).trailer in omega arith
 
-pub slice_bounds-result-count-2 : goal.slice_bounds-result-count-2
-slice_bounds-result-count-2 c = let s = sound c.args.log.now (sym c.trailer_refused-bad.ensures ∙ c.if-bad.false) in let o = c.get4-offset.ensures in omega arith
+pub slice_bounds-result-count : goal.slice_bounds-result-count
+slice_bounds-result-count c = let s = sound c.args.log.now (opens c.args.log.now c.in-Ok.ensures).trailer in let o = c.get4-offset.ensures in omega arith
 
-pub returns : goal.returns
+pub slice_bounds-result-start : goal.slice_bounds-result-start
+slice_bounds-result-start c = let s = sound c.args.log.now (opens c.args.log.now c.in-Ok.ensures).trailer in let o = c.get4-offset.ensures in omega arith
+
+pub slice_bounds-result-end : goal.slice_bounds-result-end
+slice_bounds-result-end c = let s = sound c.args.log.now (opens c.args.log.now c.in-Ok.ensures).trailer in let o = c.get4-offset.ensures in omega arith
+
+pub returns-in-Ok : goal.returns-in-Ok
 unfolding note_of
-returns c = simp (← c.trailer_refused-bad.ensures, c.if-bad.false, ← c.get_header.ensures, ← c.header_refused-wrong.ensures, c.if-wrong.false, ← c.get4-offset.ensures)
+returns-in-Ok c = let o = opens c.args.log.now c.in-Ok.ensures in simp (o.trailer, o.settings, ← c.get4-offset.ensures)
 
-pub slice_bounds-result-start-2 : goal.slice_bounds-result-start-2
-slice_bounds-result-start-2 c = let s = sound c.args.log.now (sym c.trailer_refused-bad.ensures ∙ c.if-bad.false) in let o = c.get4-offset.ensures in omega arith
-
-pub slice_bounds-result-end-2 : goal.slice_bounds-result-end-2
-slice_bounds-result-end-2 c = let s = sound c.args.log.now (sym c.trailer_refused-bad.ensures ∙ c.if-bad.false) in let o = c.get4-offset.ensures in omega arith
+pub returns-in-Err : goal.returns-in-Err
+unfolding note_of
+returns-in-Err c = rw (← (refuses c.args.log.now (given (note_in c.args.log.now)) c.in-Err.ensures))

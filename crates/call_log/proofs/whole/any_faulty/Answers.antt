@@ -1,27 +1,17 @@
 -- `any_faulty` meets its contract.
-use mathlib.Core.Path.{refl}
+use Prim.Native.Nat.{◌+◌, ◌*◌, ◌-◌}
 use native.Mathlib.Omega.{arith}
-use borrow.Author.Tests.{ltb-false, ltb-true}
-use Rattle.call_log.proofs.Shape.{none_left, none_yet, some-faulty}
+use Rattle.call_log.proofs.Shape.{none_yet, some-faulty}
 use Rattle.call_log.proofs.whole.any_faulty.Goals as goal
-
-pub loop-left-init : goal.loop-left-init
-loop-left-init c = (refl, refl)
 
 pub returns-then-fault : goal.returns-then-fault
 returns-then-fault c =
-    let k = c.loop-left in
-    let l = c.args.log.now in
-    some-faulty l k.at k.left (omega (arith, ltb-true)) k.invariant.1 c.get.ensures c.faulty-fault.ensures c.if-fault.true
+    let k = c.loop-i in
+    let s = c.args in
+    some-faulty s.log.now (s.offset + 40 * k.i) (s.count - (k.i + 1)) (s.count - k.i) (omega arith) k.invariant c.get.ensures c.faulty-fault.ensures c.if-fault.true
 
-pub loop-left-preserved : goal.loop-left-preserved
-loop-left-preserved c =
-    let k = c.loop-left in
-    let l = c.args.log.now in
-    (omega (arith, ltb-true), none_yet l k.at k.left (omega (arith, ltb-true)) k.invariant.1 c.get.ensures c.faulty-fault.ensures c.if-fault.false)
-
-pub returns : goal.returns
-returns c =
-    let k = c.loop-left in
-    let l = c.args.log.now in
-    none_left l k.at k.left (omega (arith, ltb-false)) k.invariant.1
+pub loop-i-preserved : goal.loop-i-preserved
+loop-i-preserved c =
+    let k = c.loop-i in
+    let s = c.args in
+    none_yet s.log.now (s.offset + 40 * k.i) (s.count - (k.i + 1)) (s.count - k.i) (omega arith) k.invariant c.get.ensures c.faulty-fault.ensures c.if-fault.false (omega arith)

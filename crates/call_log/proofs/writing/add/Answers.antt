@@ -11,4 +11,4 @@ pub returns : goal.returns
 returns c =
     let s = c.args in
     let fits : InRange s.r = (omega arith, (omega arith, (omega arith, (omega arith, (omega arith, (omega arith, (omega arith, (omega arith, (omega arith, (omega arith, tt)))))))))) in
-    c.add_call.ensures ∙ ap (λ (r : Record). add s.w r s.bytes.now) (encoded-call s.r fits c.put.ensures)
+    c.add_call.ensures ∙ ap (λ (r : Record). add s.w.now r s.bytes.now) (encoded-call s.r fits c.put.ensures)

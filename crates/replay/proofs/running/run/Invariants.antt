@@ -1,5 +1,5 @@
 use mathlib.Core.Path.{◌≡◌}
-use Prim.Native.Nat.{◌+◌, ◌*◌, ◌-◌, ◌≤◌}
+use Prim.Native.Nat.{◌+◌, ◌*◌, ◌-◌}
 use lib.ListN.{length}
 use Rattle.ring_words.specs.Words.{state_of}
 use Rattle.call_log.specs.Layout.{records_from}
@@ -10,13 +10,8 @@ use Rattle.replay.proofs.running.run.Given as goal
 
 abbrev pub invariant-loop-i : goal.invariant-loop-i
 invariant-loop-i l =
-    (l.i ≤ l.count)
-    × (l.at ≡ l.offset + 40 * l.i)
-    × (length l.handles ≡ length l.initial.handles)
+    (length l.handles ≡ length l.initial.handles)
     × (length l.sizes ≡ length l.initial.sizes)
     × (replay_from 0 (queue_of (state_of l.initial.w) l.initial.handles l.initial.sizes) (records_from l.count l.log l.offset)
-    ≡ replay_from l.i (queue_of (state_of l.w) l.handles l.sizes) (records_from (l.count - l.i) l.log l.at))
+    ≡ replay_from l.i (queue_of (state_of l.w) l.handles l.sizes) (records_from (l.count - l.i) l.log (l.offset + 40 * l.i)))
     × Ready (lent l.w l.handles l.sizes) (l.count - l.i)
-
-abbrev pub decreases-loop-i : goal.decreases-loop-i
-decreases-loop-i l = l.count - l.i
