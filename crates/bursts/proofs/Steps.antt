@@ -2,7 +2,7 @@
 use mathlib.Core.Path.{◌≡◌}
 use mathlib.Core.Bool.{true}
 use mathlib.Core.List.{List}
-use Prim.Native.Nat.{ℕ, suc, ◌+◌, ◌-◌, ◌*◌, ◌/◌, ◌%◌, ◌<◌}
+use Prim.Native.Nat.{ℕ, suc, ◌+◌, ◌*◌, ◌/◌, ◌%◌}
 use native.Mathlib.Nat.{mod-add-div}
 use native.Mathlib.Omega.{arith}
 use lib.Dec.{eqb}
@@ -21,13 +21,6 @@ module _ (k : BurstKind) (q : k.kind.State) (calls answers : List ℕ) (n : ℕ)
       done k next (set said n word) ≡ burst k q calls answers (n + 1)
   unfolding burst
   one_more e (f, g) = let s : n + 1 ≡ suc n = omega arith in rw (s, ← e, f, g)
-
--- what is ready for some calls is, after one, ready for one less
-pub ready-next : (k : BurstKind) (Ready : k.kind.State → ℕ → Type 0) →
-    ((q : k.kind.State) (c : k.kind.Call) (n : ℕ) → Ready q (suc n) → Ready (k.kind.next q c) n) →
-    (given next : k.kind.State) (c : k.kind.Call) (n i : ℕ) → i < n → next ≡ k.kind.next given c → Ready given (n - i) → Ready next (n - (i + 1))
-ready-next k Ready kept given next c n i h g r =
-    let e : n - i ≡ suc (n - (i + 1)) = omega arith in rw g (kept given c (n - (i + 1)) (rw e at r))
 
 pub fitting : (k : BurstKind) (calls answers : List ℕ) → fits k calls answers ≡ true → length calls ≡ k.numbers * length answers
 fitting k calls answers e =

@@ -1,5 +1,5 @@
 // Lists of calls in one entry. What a burst is, over any kind, is defined in specs/; that it is the list of its calls is proved in proofs/.
-// Here are the numbers of calls and answers, and the room for a burst's arrivals.
+// Here are the function that answers the calls of any kind of queue, the numbers of calls and answers, and the room for a burst's arrivals.
 #![tactic(auto)]
 
 mod numbers;

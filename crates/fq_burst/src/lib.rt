@@ -1,7 +1,7 @@
 // One entry for a list of calls on 64 flows: the record is tested once, and each call is answered as the single entries would.
 #![tactic(auto)]
 
-ghost use Rattle.std.specs.Prelude.{◌≡◌, cond, false, true, ◌+◌, ◌*◌, ◌≤◌, ◌<◌, length};
+ghost use Rattle.std.specs.Prelude.{◌≡◌, cond, false, true, ℕ, ◌+◌, ◌*◌, ◌≤◌, ◌<◌, length};
 ghost use Rattle.bursts.specs.Burst.{burst, done, fits, outcome};
 ghost use Rattle.pie.specs.Constants.{most_verdicts};
 ghost use Rattle.pie.specs.Verdicts.{total};
@@ -10,10 +10,10 @@ ghost use Rattle.fq_state.specs.WellFormed.{well_formed};
 ghost use Rattle.fq_words.specs.Words.{common_of, flows_of, lent};
 ghost use Rattle.fq_guarantees.specs.Kept.{Sound};
 ghost use Rattle.fq_burst.specs.Calls.{call_at};
-ghost use Rattle.fq_burst.specs.Burst.{Lent, after, answer_to, answer_word, fq_bursts, held, state_in};
+ghost use Rattle.fq_burst.specs.Burst.{after, answer_to, answer_word, fq_bursts, held};
 
 use crate::numbers::{UNFIT, UNKNOWN, key_of, malformed, word};
-use bursts::{clock_of, has_room, wide};
+use bursts::{Queue, answer_each, clock_of, has_room, wide};
 use fq_steps::{arrive, depart, update};
 use fq_words::{decode, fits};
 
@@ -96,58 +96,62 @@ fn whole(order: [u64; 64], deficits: [u32; 64])
     ensures { (length order ≡ 64) × (length deficits ≡ 64) }
 {}
 
-// All calls, on a well-formed record. The counts are the flows'. Where `room`, those of the verdicts have room for so many arrivals.
-fn all_answered(
-    common: &mut [u64; 19],
-    order: &mut [u64; 64],
-    flows: &mut [u64; 768],
-    deficits: &mut [u32; 64],
-    counts: &mut [u32; 64],
-    handles: &mut [u32],
-    sizes: &mut [u32],
-    calls: &[u32],
-    answers: &mut [u64],
+// The flows as they are lent, with the counts of each. Where `FORMED`, the record is well formed; where `room`, it has room for the calls.
+#[derive(Drop)]
+struct Lent<'a, const FORMED: bool> {
+    common: &'a mut [u64; 19],
+    order: &'a mut [u64; 64],
+    flows: &'a mut [u64; 768],
+    deficits: &'a mut [u32; 64],
+    counts: &'a mut [u32; 64],
+    handles: &'a mut [u32],
+    sizes: &'a mut [u32],
     room: bool,
-)
-    requires sound { Sound (lent common.old order.old deficits.old flows.old) }
-    requires counts_value { counts.old ≡ counts_of (flows_of flows.old) }
-    requires calls_len { length calls.now ≡ 10 * length answers.old }
-    requires answers_bound { (room ≡ true) → (total (common_of common.old).verdicts + length answers.old ≤ most_verdicts) }
-    ensures { done fq_bursts (held common.new order.new flows.new deficits.new
-        handles.new sizes.new) answers.new
-        ≡ burst fq_bursts (held common.old order.old flows.old deficits.old
-        handles.old sizes.old) calls.now answers.old (length answers.old) }
-{
-    let mut i: usize = 0;
-    while i < answers.len() {
-        let answer = answered(
-            common,
-            order,
-            flows,
-            deficits,
-            counts,
-            handles,
-            sizes,
+}
+
+impl Queue for Lent<'_, true> {
+    ghost kind = { fq_bursts };
+
+    ghost state = { λ q. held q.common.now q.order.now q.flows.now q.deficits.now q.handles.now q.sizes.now };
+
+    ghost ready = { λ q n. Sound (lent q.common.now q.order.now q.deficits.now q.flows.now)
+        × (q.counts.now ≡ counts_of (flows_of q.flows.now))
+        × ((q.room ≡ true) → (total (common_of q.common.now).verdicts + n ≤ most_verdicts)) };
+
+    ghost Names = { ℕ × ℕ × ℕ × ℕ × ℕ × ℕ };
+
+    ghost names = { λ q. (q.common.ghost_name, q.order.ghost_name, q.flows.ghost_name, q.deficits.ghost_name, q.handles.ghost_name, q.sizes.ghost_name) };
+
+    fn answer(&mut self, calls: &[u32], i: usize) -> u64 {
+        answered(
+            self.common,
+            self.order,
+            self.flows,
+            self.deficits,
+            self.counts,
+            self.handles,
+            self.sizes,
             calls,
             10 * i,
-            room,
-        );
-        answers[i] = answer;
-        i += 1;
+            self.room,
+        )
     }
 }
 
-// All calls, on a record that is not well formed: none changes it.
-fn all_refused(calls: &[u32], answers: &mut [u64])
-    requires { length calls.now ≡ 10 * length answers.old }
-    ensures { (q : Lent) → well_formed (state_in q) ≡ false →
-        done fq_bursts q answers.new
-        ≡ burst fq_bursts q calls.now answers.old (length answers.old) }
-{
-    let mut i: usize = 0;
-    while i < answers.len() {
-        answers[i] = malformed(calls[10 * i + 5]);
-        i += 1;
+// No call changes a record that is not well formed.
+impl Queue for Lent<'_, false> {
+    ghost kind = { fq_bursts };
+
+    ghost state = { λ q. held q.common.now q.order.now q.flows.now q.deficits.now q.handles.now q.sizes.now };
+
+    ghost ready = { λ q n. well_formed (lent q.common.now q.order.now q.deficits.now q.flows.now) ≡ false };
+
+    ghost Names = { ℕ × ℕ × ℕ × ℕ × ℕ × ℕ };
+
+    ghost names = { λ q. (q.common.ghost_name, q.order.ghost_name, q.flows.ghost_name, q.deficits.ghost_name, q.handles.ghost_name, q.sizes.ghost_name) };
+
+    fn answer(&mut self, calls: &[u32], i: usize) -> u64 {
+        malformed(calls[10 * i + 5])
     }
 }
 
@@ -179,24 +183,39 @@ pub extern "C" fn obikuteru_fq_calls_of(
     let mut counts = [0u32; 64];
     let formed = fits(common, order, deficits, flows, &mut counts);
     if !formed {
-        all_refused(calls, answers);
+        answer_each(
+            &mut Lent::<false> {
+                common,
+                order,
+                flows,
+                deficits,
+                counts: &mut counts,
+                handles,
+                sizes,
+                room: false,
+            },
+            calls,
+            answers,
+        );
         return 0;
     }
     let verdicts = c.verdicts;
     let room = has_room(verdicts, n as u64);
     // A copy, which can stand in registers.
     let mut words = *common;
-    all_answered(
-        &mut words,
-        order,
-        flows,
-        deficits,
-        &mut counts,
-        handles,
-        sizes,
+    answer_each(
+        &mut Lent::<true> {
+            common: &mut words,
+            order,
+            flows,
+            deficits,
+            counts: &mut counts,
+            handles,
+            sizes,
+            room,
+        },
         calls,
         answers,
-        room,
     );
     *common = words;
     0

@@ -26,3 +26,20 @@ flow_bursts flow =
       numbers = 6;
       call_at = call_at;
     }
+
+-- the same of every flow: its number stands beside what is lent
+abbrev pub modem_bursts : BurstKind
+modem_bursts =
+    record {
+      kind =
+          record {
+            State = ℕ × Lent;
+            Call = Call;
+            Answer = Answer;
+            answer = λ q c. answer_to q.0 q.1 c;
+            next = λ q c. (q.0, after q.0 q.1 c);
+          };
+      word = answer_word;
+      numbers = 6;
+      call_at = call_at;
+    }

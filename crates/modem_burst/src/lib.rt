@@ -1,7 +1,7 @@
 // One entry for a list of calls on one flow: record and row are tested once, and each call is answered as the single entries would.
 #![tactic(auto)]
 
-ghost use Rattle.std.specs.Prelude.{◌≡◌, cond, true, ◌+◌, ◌*◌, ◌≤◌, ◌<◌, length};
+ghost use Rattle.std.specs.Prelude.{◌≡◌, cond, true, ℕ, ◌+◌, ◌*◌, ◌≤◌, ◌<◌, length};
 ghost use Rattle.pie.specs.Constants.{most_verdicts};
 ghost use Rattle.pie.specs.Verdicts.{total};
 ghost use Rattle.bursts.specs.Burst.{burst, done, fits, outcome};
@@ -14,9 +14,9 @@ ghost use Rattle.modem_words.specs.Words.{state_of, state_words};
 ghost use Rattle.modem_steps.specs.Fitting.{Ready};
 ghost use Rattle.modem_burst.specs.Calls.{call_at};
 ghost use Rattle.bursts.specs.Answers.{answer_word};
-ghost use Rattle.modem_burst.specs.Burst.{after, answer_to, flow_bursts};
+ghost use Rattle.modem_burst.specs.Burst.{after, answer_to, flow_bursts, modem_bursts};
 
-use bursts::{clock_of, has_room, wide, word};
+use bursts::{Queue, answer_each, clock_of, has_room, wide, word};
 use modem_steps::{arrive, depart, lent_arrival, lent_departure, lent_tick, tick};
 use modem_words::{Code, Word, record_fits};
 
@@ -151,52 +151,61 @@ fn ready(
     has_room(counts[flow as usize], n)
 }
 
-// All calls, of a flow that is ready for so many arrivals.
-fn all_known(
-    words: &mut [u64; 16],
-    counts: &mut [[u64; 5]; 16],
+// A flow as it is lent. Where `TESTED`, it is ready for the calls.
+#[derive(Drop)]
+struct Lent<'a, const TESTED: bool> {
+    words: &'a mut [u64; 16],
+    counts: &'a mut [[u64; 5]; 16],
     flow: u32,
-    handles: &mut [u32],
-    sizes: &mut [u32],
-    calls: &[u32],
-    answers: &mut [u64],
-)
-    requires ready { Ready flow (lent words.old counts.old handles.old sizes.old) (length answers.old) }
-    requires calls_len { length calls.now ≡ 6 * length answers.old }
-    ensures { done (flow_bursts flow) (lent words.new counts.new handles.new sizes.new)
-        answers.new
-        ≡ burst (flow_bursts flow) (lent words.old counts.old handles.old sizes.old)
-        calls.now answers.old (length answers.old) }
-{
-    let mut i: usize = 0;
-    while i < answers.len() {
-        let answer = known(words, counts, flow, handles, sizes, calls, 6 * i);
-        answers[i] = answer;
-        i += 1;
+    handles: &'a mut [u32],
+    sizes: &'a mut [u32],
+}
+
+impl Queue for Lent<'_, true> {
+    ghost kind = { modem_bursts };
+
+    ghost state = { λ q. (q.flow, lent q.words.now q.counts.now q.handles.now q.sizes.now) };
+
+    ghost ready = { λ q n. Ready q.flow (lent q.words.now q.counts.now q.handles.now q.sizes.now) n };
+
+    ghost Names = { ℕ × ℕ × ℕ × ℕ };
+
+    ghost names = { λ q. (q.words.ghost_name, q.counts.ghost_name, q.handles.ghost_name, q.sizes.ghost_name) };
+
+    fn answer(&mut self, calls: &[u32], i: usize) -> u64 {
+        known(
+            self.words,
+            self.counts,
+            self.flow,
+            self.handles,
+            self.sizes,
+            calls,
+            6 * i,
+        )
     }
 }
 
-// All calls, by the single entries.
-fn all_single(
-    words: &mut [u64; 16],
-    counts: &mut [[u64; 5]; 16],
-    flow: u32,
-    handles: &mut [u32],
-    sizes: &mut [u32],
-    calls: &[u32],
-    answers: &mut [u64],
-)
-    requires { length calls.now ≡ 6 * length answers.old }
-    ensures { done (flow_bursts flow) (lent words.new counts.new handles.new sizes.new)
-        answers.new
-        ≡ burst (flow_bursts flow) (lent words.old counts.old handles.old sizes.old)
-        calls.now answers.old (length answers.old) }
-{
-    let mut i: usize = 0;
-    while i < answers.len() {
-        let answer = single(words, counts, flow, handles, sizes, calls, 6 * i);
-        answers[i] = answer;
-        i += 1;
+impl Queue for Lent<'_, false> {
+    ghost kind = { modem_bursts };
+
+    ghost state = { λ q. (q.flow, lent q.words.now q.counts.now q.handles.now q.sizes.now) };
+
+    ghost ready = { λ q n. Unit {0} };
+
+    ghost Names = { ℕ × ℕ × ℕ × ℕ };
+
+    ghost names = { λ q. (q.words.ghost_name, q.counts.ghost_name, q.handles.ghost_name, q.sizes.ghost_name) };
+
+    fn answer(&mut self, calls: &[u32], i: usize) -> u64 {
+        single(
+            self.words,
+            self.counts,
+            self.flow,
+            self.handles,
+            self.sizes,
+            calls,
+            6 * i,
+        )
     }
 }
 
@@ -231,9 +240,29 @@ pub extern "C" fn obikuteru_modem_calls(
         n as u64,
     );
     if ahead {
-        all_known(words, counts, flow, handles, sizes, calls, answers);
+        answer_each(
+            &mut Lent::<true> {
+                words,
+                counts,
+                flow,
+                handles,
+                sizes,
+            },
+            calls,
+            answers,
+        );
         return 0;
     }
-    all_single(words, counts, flow, handles, sizes, calls, answers);
+    answer_each(
+        &mut Lent::<false> {
+            words,
+            counts,
+            flow,
+            handles,
+            sizes,
+        },
+        calls,
+        answers,
+    );
     0
 }

@@ -1,7 +1,7 @@
 // One entry for a list of calls on two queues: the records are tested once, and each call is answered as the single entries would.
 #![tactic(auto)]
 
-ghost use Rattle.std.specs.Prelude.{◌≡◌, cond, false, true, ◌+◌, ◌*◌, ◌≤◌, length};
+ghost use Rattle.std.specs.Prelude.{◌≡◌, cond, false, true, ℕ, ◌+◌, ◌*◌, ◌≤◌, length};
 ghost use Rattle.pair_rules.specs.declared.Which.TheVariants.{Intercom};
 ghost use Rattle.pie.specs.Constants.{most_verdicts};
 ghost use Rattle.pie.specs.Verdicts.{total};
@@ -12,7 +12,7 @@ ghost use Rattle.pair_burst.specs.Burst.{lent, pair_bursts};
 ghost use Rattle.pair_burst.specs.Fitting.{Ready, lent_both};
 
 use crate::one::answer;
-use bursts::has_room;
+use bursts::{Queue, answer_each, has_room};
 use pair_words::{
     DROPPED_BYTES, DROPPED_EARLY, DROPPED_SLOTS, ENQUEUED, MARKED, SLOTS, records_fit,
 };
@@ -71,29 +71,37 @@ fn ready(
     )
 }
 
-// All calls. Where `tested`, the records are ready for so many arrivals.
-fn all(
-    shared: &mut [u64; 6],
-    both: &mut [[u64; 21]; 2],
-    handles: &mut [u32],
-    sizes: &mut [u32],
-    calls: &[u32],
-    answers: &mut [u64],
+// Two queues as they are lent. Where `tested`, the records are ready for the calls.
+#[derive(Drop)]
+struct Lent<'a> {
+    shared: &'a mut [u64; 6],
+    both: &'a mut [[u64; 21]; 2],
+    handles: &'a mut [u32],
+    sizes: &'a mut [u32],
     tested: bool,
-)
-    requires both_len { (length both.old ≡ 2) × (length calls.now ≡ 6 * length answers.old) }
-    requires ready { (tested ≡ true) → Ready (lent_both shared.old both.old handles.old sizes.old) (length answers.old) }
-    ensures both_len_2 { length both.new ≡ 2 }
-    ensures answers_after { done pair_bursts (lent_both shared.new both.new handles.new sizes.new)
-        answers.new
-        ≡ burst pair_bursts (lent_both shared.old both.old handles.old sizes.old)
-        calls.now answers.old (length answers.old) }
-{
-    let mut i: usize = 0;
-    while i < answers.len() {
-        let word = answer(shared, both, handles, sizes, calls, 6 * i, tested);
-        answers[i] = word;
-        i += 1;
+}
+
+impl Queue for Lent<'_> {
+    ghost kind = { pair_bursts };
+
+    ghost state = { λ q. lent_both q.shared.now q.both.now q.handles.now q.sizes.now };
+
+    ghost ready = { λ q n. (length q.both.now ≡ 2) × ((q.tested ≡ true) → Ready (lent_both q.shared.now q.both.now q.handles.now q.sizes.now) n) };
+
+    ghost Names = { ℕ × ℕ × ℕ × ℕ };
+
+    ghost names = { λ q. (q.shared.ghost_name, q.both.ghost_name, q.handles.ghost_name, q.sizes.ghost_name) };
+
+    fn answer(&mut self, calls: &[u32], i: usize) -> u64 {
+        answer(
+            self.shared,
+            self.both,
+            self.handles,
+            self.sizes,
+            calls,
+            6 * i,
+            self.tested,
+        )
     }
 }
 
@@ -128,7 +136,17 @@ pub extern "C" fn obikuteru_pair_calls(
         n as u64,
     );
     let mut both: [[u64; 21]; 2] = [*intercom, *passengers];
-    all(shared, &mut both, handles, sizes, calls, answers, tested);
+    answer_each(
+        &mut Lent {
+            shared,
+            both: &mut both,
+            handles,
+            sizes,
+            tested,
+        },
+        calls,
+        answers,
+    );
     *intercom = both[0];
     *passengers = both[1];
     0

@@ -1,3 +1,2 @@
 -- What the functions' proofs share.
 pub mod Kept
-pub mod Steps

@@ -1,6 +1,8 @@
 // One entry for a list of calls: the state record is tested once, and each call is answered as the single entries would.
 #![tactic(auto)]
 
+mod call;
+
 ghost use Rattle.std.specs.Prelude.{◌≡◌, cond, true, ℕ, ◌+◌, ◌*◌, ◌≤◌, ◌<◌, length};
 ghost use Rattle.pie.specs.Constants.{most_verdicts};
 ghost use Rattle.pie.specs.Verdicts.{total};
@@ -13,7 +15,8 @@ ghost use Rattle.ring_words.specs.Lent.{lent};
 ghost use Rattle.ring_steps.specs.Fitting.{Ready};
 ghost use Rattle.ring_burst.specs.Burst.{after, answer_to, ring_bursts};
 
-use bursts::{Queue, answer_each, clock_of, has_room, wide, word};
+use crate::call::{Read, read_at};
+use bursts::{Queue, answer_each, has_room, wide, word};
 use ring_c::{obikuteru_arrival, obikuteru_departure, obikuteru_tick, obikuteru_well_formed};
 use ring_steps::{arrive, depart, tick};
 use ring_words::{DROPPED_BYTES, DROPPED_EARLY, DROPPED_SLOTS, ENQUEUED, MARKED, SLOTS};
@@ -25,8 +28,7 @@ fn held(w: [u64; 23]) -> bool
     true
 }
 
-// The call at `at`, of a queue that is ready for it. Departures are tested for first: the compiler then keeps what arrivals use in
-// registers (docs/PERFORMANCE.md).
+// The call at `at`, of a queue that is ready for it.
 fn known(w: &mut [u64; 23], handles: &mut [u32], sizes: &mut [u32], calls: &[u32], at: usize) -> u64
     requires ready { Ready (lent w.old handles.old sizes.old) 1 }
     requires at_in_bounds { at + 5 < length calls.now }
@@ -35,30 +37,20 @@ fn known(w: &mut [u64; 23], handles: &mut [u32], sizes: &mut [u32], calls: &[u32
     ensures sizes_after { lent w.new handles.new sizes.new
         ≡ after (lent w.old handles.old sizes.old) (call_at calls.now at) }
 {
-    let clock = clock_of(calls[at], calls[at + 1]);
-    let kind = calls[at + 5];
-    let departs = kind == 2;
-    if departs {
-        return depart(w, handles, sizes, clock);
+    match read_at(calls, at) {
+        Some(Read::Departure { clock }) => depart(w, handles, sizes, clock),
+        Some(
+            Read::Arrival {
+                clock,
+                handle,
+                size,
+                ecn,
+                u,
+            },
+        ) => arrive(w, handles, sizes, clock, handle, size, ecn, u),
+        Some(Read::Tick { clock }) => tick(w, clock),
+        None => 120,
     }
-    let arrives = kind < 2;
-    if arrives {
-        return arrive(
-            w,
-            handles,
-            sizes,
-            clock,
-            calls[at + 2],
-            calls[at + 3],
-            kind == 1,
-            calls[at + 4],
-        );
-    }
-    let ticks = kind == 3;
-    if ticks {
-        return tick(w, clock);
-    }
-    120
 }
 
 // The call at `at`, by the single entries.
@@ -75,33 +67,24 @@ fn single(
     ensures sizes_after { lent w.new handles.new sizes.new
         ≡ after (lent w.old handles.old sizes.old) (call_at calls.now at) }
 {
-    let clock = clock_of(calls[at], calls[at + 1]);
-    let kind = calls[at + 5];
-    let arrives = kind < 2;
-    if arrives {
-        let code = obikuteru_arrival(
-            w,
-            handles,
-            sizes,
-            clock,
-            calls[at + 2],
-            calls[at + 3],
-            kind == 1,
-            calls[at + 4],
-        );
-        return wide(code);
+    match read_at(calls, at) {
+        Some(Read::Departure { clock }) => {
+            let mut packet: [u32; 2] = [0, 0];
+            let code = obikuteru_departure(w, handles, sizes, clock, &mut packet);
+            word(code, packet[1], packet[0])
+        }
+        Some(
+            Read::Arrival {
+                clock,
+                handle,
+                size,
+                ecn,
+                u,
+            },
+        ) => wide(obikuteru_arrival(w, handles, sizes, clock, handle, size, ecn, u)),
+        Some(Read::Tick { clock }) => wide(obikuteru_tick(w, clock)),
+        None => 120,
     }
-    let departs = kind == 2;
-    if departs {
-        let mut packet: [u32; 2] = [0, 0];
-        let code = obikuteru_departure(w, handles, sizes, clock, &mut packet);
-        return word(code, packet[1], packet[0]);
-    }
-    let ticks = kind == 3;
-    if ticks {
-        return wide(obikuteru_tick(w, clock));
-    }
-    120
 }
 
 // Whether a state is well formed, the tables fit it and its counts have room for `n` arrivals. It decides only the cost.

@@ -2,6 +2,7 @@
 use mathlib.Core.Path.{◌≡◌, ap, refl, sym, ◌∙◌}
 use mathlib.Core.Bool.{true, false}
 use Prim.Native.Nat.{◌+◌}
+use Rattle.std.proofs.Common.{rules}
 use lib.ListN.{length}
 use borrow.Author.Tests.{leb-true}
 use Rattle.bursts.specs.Burst.{fits}
@@ -27,8 +28,11 @@ returns-then-not-fit-clause-answers_after c =
     let e : fits fq_bursts c.args.calls.now c.args.answers.now ≡ false = c.if-not-fit.true in
     rw e refl
 
-pub all_refused-requires : goal.all_refused-requires
-all_refused-requires c =
+pub answer_each-requires-clause-ready : goal.answer_each-requires-clause-ready
+answer_each-requires-clause-ready c = sym c.fits-formed.ensures.value ∙ c.if-not-formed.true
+
+pub answer_each-requires-clause-calls_len : goal.answer_each-requires-clause-calls_len
+answer_each-requires-clause-calls_len c =
     let fit : fits fq_bursts c.args.calls.now c.args.answers.now ≡ true = c.if-not-fit.false in
     fitting fq_bursts c.args.calls.now c.args.answers.now fit
 
@@ -40,7 +44,7 @@ returns-then-not-formed-clause-value c =
 pub returns-then-not-formed-clause-answers_after : goal.returns-then-not-formed-clause-answers_after
 returns-then-not-formed-clause-answers_after c =
     let fit : fits fq_bursts c.args.calls.now c.args.answers.now ≡ true = c.if-not-fit.false in
-    rw fit (c.all_refused.ensures _ (sym c.fits-formed.ensures.value ∙ c.if-not-formed.true))
+    rw fit (search rules)
 
 pub has_room-room-requires : goal.has_room-room-requires
 has_room-room-requires c =
@@ -50,28 +54,28 @@ has_room-room-requires c =
     ap (λ (k : Common). total k.verdicts) c.decode-c.ensures in
     omega (arith, counted, (common-fits s.common (passes s formed).common).total-high)
 
-pub all_answered-requires : goal.all_answered-requires
-all_answered-requires c =
+pub answer_each-requires-2-clause-ready : goal.answer_each-requires-2-clause-ready
+answer_each-requires-2-clause-ready c =
     let s = lent c.args.common.now c.args.order.now c.args.deficits.now c.args.flows.now in
     let formed : well_formed s ≡ true = sym c.fits-formed.ensures.value ∙ c.if-not-formed.false in
     let counted : total c.decode-c.result.verdicts ≡ total (common_of c.args.common.now).verdicts =
-    ap (λ (k : Common). total k.verdicts) c.decode-c.ensures in
-    let fit : fits fq_bursts c.args.calls.now c.args.answers.now ≡ true = c.if-not-fit.false in
-    record {
-      sound =
-          record {
-            flows_long = length-flows 64 c.args.flows.now;
-            order-long = c.whole.ensures.0;
-            deficits-long = c.whole.ensures.1;
-            formed = formed;
-          };
-      counts_value = c.fits-formed.ensures.counts_after c.if-not-formed.false;
-      calls_len = fitting fq_bursts c.args.calls.now c.args.answers.now fit;
-      answers_bound =
-          λ h.
+    ap (λ (k : Common). total k.verdicts) c.decode-c.ensures in (
+      record {
+        flows_long = length-flows 64 c.args.flows.now;
+        order-long = c.whole.ensures.0;
+        deficits-long = c.whole.ensures.1;
+        formed = formed;
+      },
+      c.fits-formed.ensures.counts_after c.if-not-formed.false,
+      λ h.
           let sum = total c.decode-c.result.verdicts + length c.args.answers.now in
-          omega (arith, counted, leb-true sum most_verdicts (sym c.has_room-room.ensures ∙ h));
-    }
+          omega (arith, counted, leb-true sum most_verdicts (sym c.has_room-room.ensures ∙ h)),
+    )
+
+pub answer_each-requires-2-clause-calls_len : goal.answer_each-requires-2-clause-calls_len
+answer_each-requires-2-clause-calls_len c =
+    let fit : fits fq_bursts c.args.calls.now c.args.answers.now ≡ true = c.if-not-fit.false in
+    fitting fq_bursts c.args.calls.now c.args.answers.now fit
 
 pub returns-clause-value : goal.returns-clause-value
 returns-clause-value c =
@@ -81,4 +85,4 @@ returns-clause-value c =
 pub returns-clause-answers_after : goal.returns-clause-answers_after
 returns-clause-answers_after c =
     let fit : fits fq_bursts c.args.calls.now c.args.answers.now ≡ true = c.if-not-fit.false in
-    rw fit c.all_answered.ensures
+    rw fit (search rules)

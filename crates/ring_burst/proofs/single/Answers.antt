@@ -1,90 +1,21 @@
--- `single`: each single entry promises its step of the burst.
-use borrow.Author.Tests.{eq-eqb, le-ltb, lt-ltb, ne_eqb}
+-- `single`: the code of an arrival or a tick is the whole of its word.
+use Rattle.ring_burst.proofs.single.Goals as goal
 use mathlib.Core.Path.{◌∙◌}
 use Rattle.ring_words.specs.Words.{state_of}
-use Rattle.ring_steps.proofs.Answers.{departure-small}
-use Rattle.ring_burst.proofs.Steps.{arrival-step, departure-step, tick-step, unknown-step}
-use Rattle.ring_burst.proofs.single.Goals as goal
-
-pub returns-then-arrives-clause-value : goal.returns-then-arrives-clause-value
-returns-then-arrives-clause-value c =
-    let a = c in
-    let w = a.args.w.now in
-    let h = a.args.handles.now in
-    let z = a.args.sizes.now in
-    let k = a.args.calls.now in
-    let t = c.clock_of-clock in
-    let e = c.obikuteru_arrival-code.ensures in
-    (arrival-step w h z k a.args.at t.result t.ensures (lt-ltb _ _ c.if-arrives.true) _ _ _ _ (c.wide.ensures ∙ e.0) e.1 e.2 e.3).0
-
-pub returns-then-arrives-clause-sizes_after : goal.returns-then-arrives-clause-sizes_after
-returns-then-arrives-clause-sizes_after c =
-    let a = c in
-    let w = a.args.w.now in
-    let h = a.args.handles.now in
-    let z = a.args.sizes.now in
-    let k = a.args.calls.now in
-    let t = c.clock_of-clock in
-    let e = c.obikuteru_arrival-code.ensures in
-    (arrival-step w h z k a.args.at t.result t.ensures (lt-ltb _ _ c.if-arrives.true) _ _ _ _ (c.wide.ensures ∙ e.0) e.1 e.2 e.3).1
+use Rattle.ring_steps.proofs.Answers.{departure-small, plain-arrival, plain-tick}
 
 pub word-requires : goal.word-requires
 word-requires c =
-    let a = c in
-    let small = departure-small (state_of a.args.w.now) a.args.handles.now a.args.sizes.now c.clock_of-clock.result in
+    let small = departure-small (state_of c.args.w.now) c.args.handles.now c.args.sizes.now c.in-Some-Departure.clock in
     let e = c.obikuteru_departure-code.ensures in
     (rw e.0 small.0, rw e.2 small.1)
 
-pub returns-then-departs-clause-value : goal.returns-then-departs-clause-value
-returns-then-departs-clause-value c =
-    let a = c in
-    let w = a.args.w.now in
-    let h = a.args.handles.now in
-    let z = a.args.sizes.now in
-    let k = a.args.calls.now in
-    let t = c.clock_of-clock in
-    let e = c.obikuteru_departure-code.ensures in
-    (departure-step w h z k a.args.at t.result t.ensures (eq-eqb _ _ c.if-departs.true) _ _ (rw (e.0, e.2) at c.word.ensures) e.1).0
+pub returns-in-Some-Arrival-clause-value : goal.returns-in-Some-Arrival-clause-value
+returns-in-Some-Arrival-clause-value c =
+    let e = rw c.in-Some-Arrival.field-0-is at c.in-Some-Arrival.ensures in
+    rw (← e) (c.wide.ensures ∙ c.obikuteru_arrival.ensures.0 ∙ plain-arrival _ _ _ _ _ _ _)
 
-pub returns-then-departs-clause-sizes_after : goal.returns-then-departs-clause-sizes_after
-returns-then-departs-clause-sizes_after c =
-    let a = c in
-    let w = a.args.w.now in
-    let h = a.args.handles.now in
-    let z = a.args.sizes.now in
-    let k = a.args.calls.now in
-    let t = c.clock_of-clock in
-    let e = c.obikuteru_departure-code.ensures in
-    (departure-step w h z k a.args.at t.result t.ensures (eq-eqb _ _ c.if-departs.true) _ _ (rw (e.0, e.2) at c.word.ensures) e.1).1
-
-pub returns-then-ticks-clause-value : goal.returns-then-ticks-clause-value
-returns-then-ticks-clause-value c =
-    let a = c in
-    let w = a.args.w.now in
-    let h = a.args.handles.now in
-    let z = a.args.sizes.now in
-    let k = a.args.calls.now in
-    let t = c.clock_of-clock in
-    let e = c.obikuteru_tick.ensures in
-    (tick-step w h z k a.args.at t.result t.ensures (le-ltb _ _ c.if-arrives.false) (ne_eqb _ _ c.if-departs.false) (eq-eqb _ _ c.if-ticks.true) _ _ (c.wide-then-ticks.ensures ∙ e.0) e.1).0
-
-pub returns-then-ticks-clause-sizes_after : goal.returns-then-ticks-clause-sizes_after
-returns-then-ticks-clause-sizes_after c =
-    let a = c in
-    let w = a.args.w.now in
-    let h = a.args.handles.now in
-    let z = a.args.sizes.now in
-    let k = a.args.calls.now in
-    let t = c.clock_of-clock in
-    let e = c.obikuteru_tick.ensures in
-    (tick-step w h z k a.args.at t.result t.ensures (le-ltb _ _ c.if-arrives.false) (ne_eqb _ _ c.if-departs.false) (eq-eqb _ _ c.if-ticks.true) _ _ (c.wide-then-ticks.ensures ∙ e.0) e.1).1
-
-pub returns-clause-value : goal.returns-clause-value
-returns-clause-value c =
-    let a = c in
-    (unknown-step a.args.w.now a.args.handles.now a.args.sizes.now a.args.calls.now a.args.at (le-ltb _ _ c.if-arrives.false) (ne_eqb _ _ c.if-departs.false) (ne_eqb _ _ c.if-ticks.false)).0
-
-pub returns-clause-sizes_after : goal.returns-clause-sizes_after
-returns-clause-sizes_after c =
-    let a = c in
-    (unknown-step a.args.w.now a.args.handles.now a.args.sizes.now a.args.calls.now a.args.at (le-ltb _ _ c.if-arrives.false) (ne_eqb _ _ c.if-departs.false) (ne_eqb _ _ c.if-ticks.false)).1
+pub returns-in-Some-Tick-clause-value : goal.returns-in-Some-Tick-clause-value
+returns-in-Some-Tick-clause-value c =
+    let e = rw c.in-Some-Tick.field-0-is at c.in-Some-Tick.ensures in
+    rw (← e) (c.wide-in-Some-Tick.ensures ∙ c.obikuteru_tick.ensures.0 ∙ plain-tick _ _)

@@ -30,5 +30,5 @@ loop-i-preserved g c =
       long = length-set l.answers l.i c.answer.result ∙ l.invariant.long;
       so_far = one_more k _ c.args.calls.now c.args.answers.now l.i (g.Q.Queue.state l.queue) l.answers c.answer.result _ l.invariant.so_far (e.value, e.after);
       ready = e.ready_after (n - (l.i + 1)) (rw one at l.invariant.ready);
-      names = e.names ∙ l.invariant.names
+      names = e.names ∙ l.invariant.names;
     }

@@ -10,5 +10,5 @@ invariant-loop-i g l = record {
   long : length l.answers ≡ length l.initial.answers;
   so_far : done g.Q.Queue.kind (g.Q.Queue.state l.queue) l.answers ≡ burst g.Q.Queue.kind (g.Q.Queue.state l.initial.queue) l.calls l.initial.answers l.i;
   ready : g.Q.Queue.ready l.queue (length l.initial.answers - l.i);
-  names : g.Q.Queue.names l.queue ≡ g.Q.Queue.names l.initial.queue
+  names : g.Q.Queue.names l.queue ≡ g.Q.Queue.names l.initial.queue;
 }
