@@ -50,7 +50,7 @@ pub fn lightly_loaded(p: Prob, old: Micros, target: Micros) -> bool
     short(old, target) & (5 * p.0 < Prob::WHOLE.0)
 }
 
-// Rule 10.
+// Rule 10. `pie::small` is the same line with its own constant: with the constant as a parameter neither would be plainer.
 pub fn small(bytes: Bytes) -> bool
     ensures { result ≡ is_small bytes.0 }
 {

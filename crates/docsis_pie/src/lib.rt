@@ -10,7 +10,7 @@ mod probability;
 mod queueing_delay;
 mod update;
 
-// Inactive, quiescent or active; in a lent record any number.
+// Inactive, quiescent or active. It is no enum, since C lends a record in which it may be any number.
 #[derive(Clone, Copy, PartialEq, Eq)]
 pub struct Activity(pub u64);
 

@@ -9,7 +9,7 @@ use crate::constants::{CAP, HIGH_DELAY, LOW_DELAY, MOST_PROB};
 use pie::{cap_step, error, in_allowance};
 use units::{Micros, Prob};
 
-// Rule 5.
+// Rule 5. `pie` has the same line with its own scale: with the scale as a parameter neither would be plainer.
 #[tactic(auto, unfolding(crate::specs::Probability::step_of))]
 pub fn step(x: i64, k: u64) -> i64
     requires { (nat_abs x ≤ 300000000) × (0 < k) × (k ≤ 65536) }
@@ -53,7 +53,7 @@ pub fn adjust(p: i64, delay: Micros, old: Micros) -> i64
     }
 }
 
-// Rule 8.
+// Rule 8. `pie` has the same line with its own limit: with the limit as a parameter neither would be plainer.
 #[tactic(auto, unfolding(crate::specs::Probability::limited))]
 pub fn limit(p: i64) -> Prob
     ensures { result ≡ prob (limited p) }

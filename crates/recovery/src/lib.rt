@@ -9,7 +9,7 @@ ghost use Rattle.pie_guarantees.specs.TicksToRecover.{most_left, row_before, tic
 use pie::Pie;
 use units::{Bytes, Micros, Prob};
 
-// The end of the row before b's in the table of tick rule 3.
+// The end of the row before b's in the table of tick rule 3: each row stands beside its answer, as in `pie`'s own match.
 #[tactic(auto, unfolding(pie_guarantees::specs::TicksToRecover::row_before))]
 fn row_before(b: u64) -> u64
     requires { b ≤ whole }

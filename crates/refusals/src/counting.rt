@@ -23,7 +23,7 @@ pub fn counts_fit(counts: [u64; 5]) -> bool
     room_left(counts).is_some()
 }
 
-// Whether the five counts, whose sum is in range, sum to 2^48.
+// Whether the five counts, whose sum is in range, sum to 2^48. It sums them, since `room_left` takes two instructions more.
 pub fn counts_full(counts: [u64; 5]) -> bool
     requires { total counts ≤ most_verdicts }
     ensures { result ≡ eqb (total counts) most_verdicts }
