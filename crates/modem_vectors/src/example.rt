@@ -3,9 +3,10 @@ ghost use Rattle.std.specs.Prelude.{◌≤◌, length};
 
 use crate::letters::*;
 use docsis_pie::{Activity, DocsisPie, Phase};
-use modem::Returned;
-use modem_flow::{Outcome, Replied, Settings, State};
-use pie::Backlog;
+use modem::FlowRefusal;
+use modem_flow::{Settings, State};
+use pie::{Backlog, Verdict};
+use refusals::Packet;
 use units::{Bytes, BytesPerSecond, Micros, Prob};
 
 // 0 packets: as few as the bytes can be.
@@ -49,94 +50,97 @@ pub(crate) fn state(v: [u64; 32]) -> State {
     }
 }
 
+// What an accepted call gives.
+#[derive(Clone, Copy)]
+pub(crate) enum Given {
+    Nothing,
+    Verdict(Verdict),
+    Packet(Packet),
+}
+
 // The call on this state; the tables that it is lent have as many slots as the numbers say, at most all.
 pub(crate) fn call(
-    s: State,
+    s: &mut State,
     v: [u64; 32],
-    counts: [[u64; 5]; 16],
+    counts: &mut [[u64; 5]; 16],
     handles: &mut [u32],
     sizes: &mut [u32],
-) -> Returned
+) -> Result<Given, FlowRefusal>
     requires { (64 ≤ length handles.old) × (64 ≤ length sizes.old) }
 {
     let flow = v[FLOW];
     let clock = Micros(s.clock.0 % 281_474_976_710_657 + v[LATER] % 281_474_976_710_657);
     let size = Bytes(v[SIZE]);
-    let kind = v[CALL];
-    if kind == 0 {
-        return modem::tick(s, counts, flow, clock, size);
-    }
-    if kind == 3 {
-        let asked = state(v);
-        return modem::fresh(counts, flow, asked.settings, clock);
-    }
     let lent = (v[SLOTS] % 65) as usize;
-    if kind == 2 {
-        return modem::departure(s, counts, flow, &handles[..lent], &sizes[..lent], clock);
+    match v[CALL] {
+        0 => {
+            modem::tick(s, counts, flow, clock, size)?;
+            Ok(Given::Nothing)
+        }
+        2 => {
+            let packet = modem::departure(
+                s,
+                counts,
+                flow,
+                &handles[..lent],
+                &sizes[..lent],
+                clock,
+            )?;
+            Ok(Given::Packet(packet))
+        }
+        3 => {
+            let made = modem::fresh(counts, flow, state(v).settings, clock);
+            *s = made.state;
+            made.accepted?;
+            Ok(Given::Nothing)
+        }
+        _ => {
+            let handle = (v[HANDLE] % 4_294_967_296) as u32;
+            let u = (v[RANDOM] % 4_294_967_296) as u32;
+            let verdict = modem::arrival(
+                s,
+                counts,
+                flow,
+                &mut handles[..lent],
+                &mut sizes[..lent],
+                clock,
+                handle,
+                size,
+                u,
+            )?;
+            Ok(Given::Verdict(verdict))
+        }
     }
-    let handle = (v[HANDLE] % 4_294_967_296) as u32;
-    let u = (v[RANDOM] % 4_294_967_296) as u32;
-    modem::arrival(
-        s,
-        counts,
-        flow,
-        &mut handles[..lent],
-        &mut sizes[..lent],
-        clock,
-        handle,
-        size,
-        u,
-    )
 }
 
-// The place of the verdict's count, 6 where the call gave none, or 100 and a refusal's number.
-fn code(outcome: Outcome) -> u64 {
-    match outcome {
-        Outcome::Refused(refusal) => 100 + refusal.number() as u64,
-        Outcome::NoFlow => 110,
-        Outcome::Made => 6,
-        Outcome::Decided(v) => v.place() as u64,
-        Outcome::Departed => 6,
-        Outcome::Ticked => 6,
+// What came, by capital letter: the state, the answer, and the counts of the call's flow. The verdict is the place of its count, 6 where
+// the call gave none, or 100 and a refusal's number.
+pub(crate) fn came(s: State, answer: Result<Given, FlowRefusal>, row: [u64; 5]) -> [u64; 32] {
+    let mut came = [0; 32];
+    came[ACCUMULATED] = s.pie.accumulated.0;
+    came[ALLOWANCE] = s.pie.allowance.0;
+    came[OLD] = s.pie.old.0;
+    came[PROB] = s.pie.prob.0;
+    came[BYTES] = s.backlog.bytes.0;
+    came[RESET] = s.pie.phase.reset.0;
+    came[ACTIVITY] = s.pie.phase.activity.0;
+    came[ENQUEUED] = row[0];
+    came[MARKED] = row[1];
+    came[DROPPED_BYTES] = row[2];
+    came[DROPPED_SLOTS] = row[3];
+    came[DROPPED_EARLY] = row[4];
+    came[VERDICT] = 6;
+    match answer {
+        Ok(Given::Nothing) => {}
+        Ok(Given::Verdict(v)) => came[VERDICT] = v.place() as u64,
+        Ok(Given::Packet(packet)) => {
+            came[HANDLE] = packet.handle as u64;
+            came[SIZE] = packet.size as u64;
+        }
+        Err(refusal) => {
+            came[REFUSAL] = refusal.number() as u64;
+            came[VERDICT] = refusal.code() as u64;
+        }
     }
-}
-
-// What came, by capital letter: the state, the answer, and the counts of the call's flow.
-pub(crate) fn came(replied: Replied, row: [u64; 5]) -> [u64; 32] {
-    let s = replied.state;
-    let outcome = replied.outcome;
-    [
-        0,
-        s.pie.accumulated.0,
-        row[2],
-        0,
-        row[4],
-        row[0],
-        outcome.refusal() as u64,
-        0,
-        replied.handle as u64,
-        0,
-        0,
-        0,
-        s.pie.allowance.0,
-        row[1],
-        0,
-        s.pie.old.0,
-        s.pie.prob.0,
-        s.backlog.bytes.0,
-        s.pie.phase.reset.0,
-        row[3],
-        0,
-        0,
-        code(outcome),
-        0,
-        0,
-        s.pie.phase.activity.0,
-        replied.size as u64,
-        0,
-        0,
-        0,
-        0,
-        0,
-    ]
+    came
 }

@@ -46,3 +46,18 @@ pub(crate) const OTHERS: usize = 24;
 pub(crate) const ACTIVITY: usize = 25;
 
 pub(crate) const SIZE: usize = 26;
+
+// Capital letters alone: the refusal, the verdict, and the counts of the flow.
+pub(crate) const REFUSAL: usize = 6;
+
+pub(crate) const VERDICT: usize = 22;
+
+pub(crate) const ENQUEUED: usize = 5;
+
+pub(crate) const MARKED: usize = 13;
+
+pub(crate) const DROPPED_BYTES: usize = 2;
+
+pub(crate) const DROPPED_SLOTS: usize = 19;
+
+pub(crate) const DROPPED_EARLY: usize = 4;

@@ -1,7 +1,6 @@
 // The notation of the file stdin, read byte by byte.
 use crate::letters::*;
 use crate::{example, print};
-use modem::counts_of;
 use modem_flow::State;
 
 #[derive(Clone, Copy)]
@@ -13,8 +12,8 @@ pub(crate) struct Sheet {
     // Where the template begins, and what is expected.
     pub text: usize,
     pub expected: usize,
-    // The byte that ends a text which is passed over; 0 where none is.
-    pub end: u8,
+    // The byte that ends a text which is passed over.
+    pub end: Option<u8>,
 }
 
 fn blank() -> Sheet {
@@ -24,7 +23,7 @@ fn blank() -> Sheet {
         letter: 0,
         text: 0,
         expected: 0,
-        end: 0,
+        end: None,
     }
 }
 
@@ -45,48 +44,47 @@ fn number(v: [u64; 32], letter: u8, byte: u8) -> [u64; 32] {
     w
 }
 
+// A byte of a text that is passed over.
+fn pass(s: Sheet, byte: u8) -> Sheet {
+    let end = s.end.filter(|end| *end != byte);
+    Sheet { end, ..s }
+}
+
 // A byte that makes no call, before this place.
 fn read(s: Sheet, byte: u8, next: usize) -> Sheet {
-    if s.end != 0 {
-        let end = if byte == s.end { 0 } else { s.end };
-        return Sheet { end, ..s };
-    }
-    let v = s.v;
     match byte {
-        b'#' => Sheet { end: b'\n', ..s },
+        b'#' => Sheet {
+            end: Some(b'\n'),
+            ..s
+        },
         b':' => Sheet {
-            end: b'\n',
+            end: Some(b'\n'),
             text: next,
             ..s
         },
         b'{' => Sheet {
-            end: b'}',
+            end: Some(b'}'),
             expected: next,
             ..s
         },
-        b'=' => Sheet { base: v, ..s },
+        b'=' => {
+            let base = s.v;
+            Sheet { base, ..s }
+        }
         _ => {
             let letter = if byte < b'A' { s.letter } else { byte };
-            let w = number(v, s.letter, byte);
-            Sheet { v: w, letter, ..s }
+            let before = s.v;
+            let v = number(before, s.letter, byte);
+            Sheet { v, letter, ..s }
         }
     }
 }
 
 // A table of counts: the flow's row begins with g, all else is x.
 fn filled(v: [u64; 32]) -> [[u64; 5]; 16] {
-    let others = v[OTHERS];
-    let row = [v[ROW], 0, 0, 0, 0];
-    let mut counts = [[others; 5]; 16];
-    let flow = (v[FLOW] % 16) as usize;
-    counts[flow] = row;
+    let mut counts = [[v[OTHERS]; 5]; 16];
+    counts[(v[FLOW] % 16) as usize] = [v[ROW], 0, 0, 0, 0];
     counts
-}
-
-// The next example starts from the base.
-fn anew(s: Sheet) -> Sheet {
-    let v = s.base;
-    Sheet { v, ..s }
 }
 
 pub(crate) fn run(rt: &impl Print, input: &[u8]) {
@@ -96,31 +94,26 @@ pub(crate) fn run(rt: &impl Print, input: &[u8]) {
     let mut s = blank();
     let mut state = State::zero();
     let mut came = [0u64; 32];
-    let mut i: usize = 0;
-    while i < input.len() {
-        let byte = input[i];
-        i += 1;
+    for (i, &byte) in input.iter().enumerate() {
         let v = s.v;
-        let kind = if s.end == 0 { byte } else { 0 };
-        match kind {
-            b'%' => {
-                let table = filled(v);
-                counts = table;
-            }
+        if s.end.is_some() {
+            s = pass(s, byte);
+            continue;
+        }
+        match byte {
+            b'%' => counts = filled(v),
             b'*' => state = example::state(v),
             b'?' => print::show(rt, input, s.text, s.expected, v, came),
             b'!' => {
-                let r = example::call(state, v, counts, &mut handles, &mut sizes);
-                let table = counts_of(r);
-                let replied = r.replied;
-                let row = table[(v[FLOW] % 16) as usize];
-                let now = example::came(replied, row);
-                counts = table;
-                came = now;
-                state = replied.state;
+                let answer = example::call(&mut state, v, &mut counts, &mut handles, &mut sizes);
+                let row = counts[(v[FLOW] % 16) as usize];
+                came = example::came(state, answer, row);
             }
-            b'.' => s = anew(s),
-            _ => s = read(s, byte, i),
+            b'.' => {
+                let v = s.base;
+                s = Sheet { v, ..s };
+            }
+            _ => s = read(s, byte, i + 1),
         }
     }
 }

@@ -4,53 +4,48 @@ fn say(rt: &impl Print, text: &[u8]) {
 }
 
 fn say_byte(rt: &impl Print, byte: u8) {
-    let one = [byte];
-    say(rt, &one);
+    say(rt, &[byte]);
 }
 
 // The text from here up to this byte.
 fn say_up_to(rt: &impl Print, input: &[u8], from: usize, end: u8) {
-    let mut i = from;
-    while i < input.len() {
-        let byte = input[i];
+    for &byte in input.iter().skip(from) {
         if byte == end {
             return;
         }
         say_byte(rt, byte);
-        i += 1;
     }
 }
 
-// The word of this number, of words that end in commas.
-fn say_word(rt: &impl Print, words: &[u8], number: u64) {
-    let mut i: usize = 0;
-    let mut left = number;
-    while i < words.len() {
-        let byte = words[i];
-        i += 1;
-        if byte == b',' {
-            if left == 0 {
-                return;
-            }
-            left -= 1;
-        } else if left == 0 {
-            say_byte(rt, byte);
-        }
+fn activity(number: u64) -> &'static [u8] {
+    match number {
+        0 => b"inactive",
+        1 => b"quiescent",
+        2 => b"active",
+        _ => b"",
     }
 }
 
-// A letter's number after this mark: as it is, as an activity, or as a verdict by the place of its count.
+// By the place of its count.
+fn verdict(place: u64) -> &'static [u8] {
+    match place {
+        0 => b"enqueued",
+        1 => b"marked",
+        2 => b"dropped-bytes",
+        3 => b"dropped-slots",
+        4 => b"dropped-early",
+        _ => b"",
+    }
+}
+
+// A letter's number after this mark: as it is, as an activity, or as a verdict.
 fn put(rt: &impl Print, mark: u8, n: u64) {
-    if mark == b'$' {
-        let _ = rt.print(n);
-    } else if mark == b'~' {
-        say_word(rt, b"inactive,quiescent,active,", n);
-    } else {
-        say_word(
-            rt,
-            b"enqueued,marked,dropped-bytes,dropped-slots,dropped-early,",
-            n,
-        );
+    match mark {
+        b'$' => {
+            let _ = rt.print(n);
+        }
+        b'~' => say(rt, activity(n)),
+        _ => say(rt, verdict(n)),
     }
 }
 
@@ -63,25 +58,23 @@ pub(crate) fn show(
     v: [u64; 32],
     came: [u64; 32],
 ) {
-    let mut mark = 0u8;
-    let mut i = from;
-    while i < input.len() {
-        let byte = input[i];
-        i += 1;
-        if mark != 0 {
+    let mut marked = None;
+    for &byte in input.iter().skip(from) {
+        if let Some(mark) = marked {
             let place = (byte % 32) as usize;
             let n = if byte < b'a' { came[place] } else { v[place] };
             put(rt, mark, n);
-            mark = 0;
-        } else {
-            match byte {
-                b'$' | b'~' | b'&' => mark = byte,
-                b'@' => say_up_to(rt, input, expected, b'}'),
-                _ => say_byte(rt, byte),
-            }
-            if byte == b'\n' {
+            marked = None;
+            continue;
+        }
+        match byte {
+            b'$' | b'~' | b'&' => marked = Some(byte),
+            b'@' => say_up_to(rt, input, expected, b'}'),
+            b'\n' => {
+                say_byte(rt, byte);
                 return;
             }
+            _ => say_byte(rt, byte),
         }
     }
 }
