@@ -1,6 +1,6 @@
 -- `obikuteru_fq_arrival_of`: refused by 2, or as the call on a well-formed record.
 use mathlib.Core.Path.{◌≡◌, refl, sym, ◌∙◌}
-use mathlib.Core.Bool.{false, false≢true}
+use mathlib.Core.Bool.{false}
 use Rattle.fq_state.specs.WellFormed.{well_formed}
 use Rattle.fq_rules.proofs.Malformed.{malformed-arrival}
 use Rattle.fq_words.specs.Words.{lent}
@@ -11,4 +11,3 @@ returns-then-not-formed c =
     let s = lent c.args.common.now c.args.order.now c.args.deficits.now c.args.flows.now in
     let malformed : well_formed s ≡ false = sym c.fits-formed.ensures.value ∙ c.if-not-formed.true in
     rw (malformed-arrival s c.args.handles.now c.args.sizes.now c.args.clock c.args.key.now c.args.size c.args.ecn c.args.u malformed) (c.refused.ensures, refl, refl, refl, refl, refl, refl)
-

@@ -11,4 +11,3 @@ returns-then-not-formed c =
     let s = lent c.args.common.now c.args.order.now c.args.deficits.now c.args.flows.now in
     let malformed : well_formed s ≡ false = sym c.fits-formed.ensures.value ∙ c.if-not-formed.true in
     rw (malformed-departure s c.args.handles.now c.args.sizes.now c.args.clock malformed) (c.refused.ensures, refl, refl, refl, refl, refl, refl)
-

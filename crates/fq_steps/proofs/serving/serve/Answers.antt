@@ -147,4 +147,3 @@ returns-clause-fact c =
     c.departed-next.ensures
     c.set_flow.ensures
     c.write_freed.ensures
-

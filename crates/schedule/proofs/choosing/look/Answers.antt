@@ -59,4 +59,3 @@ returns-clause-s_after c =
     let o = schedule_of l a.order.now a.deficits.now in
     let some = above_zero l.listed c.if-none.false in
     rw (look-old o a.counts.now f.first-lt (omega (arith, c.if-new.false, f.old-le)) some) (c.look_old.ensures.by_index (others_of o))
-

@@ -69,4 +69,3 @@ returns-clause-by_index c =
     let a = c.args in
     let high : ltb (get_or a.deficits.now a.flow 0) zero_deficit ≡ false = sym c.is_negative-negative.ensures ∙ c.if-negative.false in
     λ rest again. simp (high, ne_eqb _ _ c.if-empty.false) refl
-

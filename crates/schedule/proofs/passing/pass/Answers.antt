@@ -61,4 +61,3 @@ returns-clause-s_value c =
     let s = schedule_of l.lists c.args.order.now c.args.deficits.now in
     let none : most_looks - l.passed ≡ 0 = omega arith in
     sym l.invariant.1 ∙ ap (λ n. found_in n c.args.counts.now s) none
-
