@@ -45,7 +45,13 @@ fn compare_whole(first: &[u8], second: &[u8], a: Writer, b: Writer) -> Compared
     if !noted {
         return Compared::NotesDiffer;
     }
-    compare_records(first, second, a.offset as usize, a.count as u64, b.count as u64)
+    compare_records(
+        first,
+        second,
+        a.offset as usize,
+        a.count as u64,
+        b.count as u64,
+    )
 }
 
 // The first log is read whole, with this offset and count; the second is read.

@@ -1,5 +1,5 @@
 -- The numbers of a replay's refusals, and the code that follows from what it handed back.
-use mathlib.Core.Path.{◌≡◌, refl}
+use mathlib.Core.Path.{◌≡◌, refl, ap, ◌∙◌}
 use mathlib.Core.Bool.{Bool, true, false, cond}
 use mathlib.Core.List.{List, [], ◌∷◌}
 use Prim.Native.Nat.{ℕ, zero, suc, ◌+◌, ◌<◌, ◌≤◌}
@@ -16,7 +16,15 @@ use Rattle.call_log.specs.Reader.{trailer_refused}
 use Rattle.call_log.specs.Whole.{Contents, any_faulty, read_whole}
 use Rattle.replay.specs.Agreement.{disagreement, request_of}
 use Rattle.replay.specs.Replay.{Replay, accepted, disagrees, fresh_queue, refused, replay, replay_contents, replay_from, replay_read, unless_disagrees}
-use Rattle.replay.specs.Replied.{replayed_of}
+use Rattle.std.specs.Prelude.{Option, None, Some, Ok, Err}
+use Rattle.std.specs.Option.{is_some}
+use Rattle.call_log.specs.declared.Refusal.TheVariants.{Trailer, Settings, Fault, Room}
+use Rattle.replay.specs.Replied.{Handed, handed_of, replayed_of}
+use Rattle.replay.specs.Told.{field_number, refusal_number, refusal_told, verdict_told}
+use Rattle.replay.specs.declared.Field.{Field}
+use Rattle.replay.specs.declared.Field.TheVariants.{Verdict, Probability, Bytes}
+use Rattle.replay.specs.declared.Refusal.{Refusal}
+use Rattle.replay.specs.declared.Refusal.TheVariants.{Log, Tables}
 use Rattle.replay.specs.declared.Replayed.{Replayed}
 use Rattle.replay.specs.Found.{code_of, words_of}
 
@@ -75,6 +83,36 @@ field-code (refused n) h p = let w : ⊥ = omega arith in absurd w
 field-code (accepted n q) h p = refl
 field-code (disagrees n f x q) h p = refl
 
--- the words of what was handed back
-pub words : (r : Replayed) (a : Replay) → r ≡ replayed_of a → r.number ∷ r.refusal ∷ r.verdict ∷ r.prob ∷ r.bytes ∷ [] ≡ words_of a
-words r a e = rw e
+-- a field has a number above 0
+pub some-field : (f : Option Field) → is_some f ≡ true → 0 < field_number f
+some-field None e = absurd (cc)
+some-field (Some Verdict) e = omega arith
+some-field (Some Probability) e = omega arith
+some-field (Some Bytes) e = omega arith
+
+pub no-field : (f : Option Field) → is_some f ≡ false → field_number f ≡ 0
+no-field None e = refl
+no-field (Some f) e = absurd (cc)
+
+pub above : (r : Refusal) → 0 < refusal_number r
+above (Log Trailer) = omega arith
+above (Log Settings) = omega arith
+above (Log Fault) = omega arith
+above (Log Room) = omega arith
+above Tables = omega arith
+
+module _ (a : Replay) (k : Numbered a) where
+  -- what C gets of a log that was replayed
+  pub replayed : (r : Replayed) {n : ℕ} {w : List ℕ} → handed_of (Ok r) ≡ replayed_of a → n ≡ field_number r.field →
+      w ≡ r.number ∷ refusal_told r.answer ∷ verdict_told r.answer ∷ r.prob ∷ r.bytes ∷ [] → (n ≡ code_of a) × (w ≡ words_of a)
+  replayed r e f g =
+      let p : (replayed_of a).refused ≤ 0 = omega (arith, ap (λ (x : Handed). x.refused) e) in
+      (f ∙ ap (λ (x : Handed). x.field) e ∙ field-code a k p, g ∙ ap (λ (x : Handed). x.number ∷ x.refusal ∷ x.verdict ∷ x.prob ∷ x.bytes ∷ []) e)
+
+  -- and of one that was not
+  pub unreplayed : (r : Refusal) {n : ℕ} → handed_of (Err r) ≡ replayed_of a → n ≡ refusal_number r →
+      (100 + n ≡ code_of a) × (0 ∷ 0 ∷ 0 ∷ 0 ∷ 0 ∷ [] ≡ words_of a)
+  unreplayed r e f =
+      let n = ap (λ (x : Handed). x.refused) e in
+      let p : 0 < (replayed_of a).refused = omega (arith, n, above r) in
+      (ap (λ (m : ℕ). 100 + m) (f ∙ n) ∙ refusal-code a k p, ap (λ (x : Handed). x.number ∷ x.refusal ∷ x.verdict ∷ x.prob ∷ x.bytes ∷ []) e)

@@ -16,8 +16,7 @@ use Rattle.ring_steps.specs.Fitting.{Ready}
 use Rattle.ring_steps.proofs.Kept.{leaves-queue, ready-kept, stored-long}
 use Rattle.replay.specs.Agreement.{disagreement, disagreements, refusal_in, request_of, verdict_in}
 use Rattle.replay.specs.Replay.{Replay, disagrees, replay_from, unless_disagrees}
-use Rattle.replay.specs.Replied.{bytes_in, handles_after, prob_in, replayed_of, sizes_after}
-use Rattle.replay.specs.declared.Replayed.{Replayed}
+use Rattle.replay.specs.Replied.{Handed, bytes_in, handles_after, prob_in, replayed_of, sizes_after}
 
 -- the first of the records that are left is the one that is reached
 pub reached : (R : Replay) (count i : ℕ) (bytes : List ℕ) (at : ℕ) (q : Queue) (r : Record) →
@@ -81,7 +80,7 @@ module _ (i : ℕ) (q q' : Queue) (r : Record) (rest : List Record) (refusal ver
 
   -- what is handed back there
   pub stopped : (R : Replay) (handles sizes : List ℕ) → R ≡ replay_from i q (r ∷ rest) → 0 < field →
-      (◌≡◌ {A = Replayed} (record {
+      (◌≡◌ {A = Handed} (record {
         refused = 0;
         field = field;
         number = i;
@@ -96,7 +95,7 @@ module _ (i : ℕ) (q q' : Queue) (r : Record) (rest : List Record) (refusal ver
 
 -- and where every record agreed
 pub ended : (R : Replay) (n : ℕ) (q : Queue) (handles sizes : List ℕ) → R ≡ replay_from n q [] →
-    (◌≡◌ {A = Replayed} (record {
+    (◌≡◌ {A = Handed} (record {
       refused = 0;
       field = 0;
       number = n;

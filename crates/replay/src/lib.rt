@@ -8,32 +8,41 @@ ghost use Rattle.replay.specs.Found.{code_of, words_of};
 
 mod calling;
 mod comparing;
+mod numbering;
 mod replaying;
 mod running;
 
+use numbering::{code, words};
 pub use replaying::replay;
 
-// What a replay found.
-#[derive(Clone, Copy)]
-pub struct Replayed {
-    // The refusal's number; 0 where the log was replayed.
-    pub refused: u32,
-    // The first field that disagrees: 1 verdict, 2 probability, 3 bytes; 0 where the log is accepted.
-    pub field: u32,
-    // The number of the record that disagrees; of records where the log is accepted.
-    pub number: u64,
-    // By the rules, of that call: its refusal (0: none) or verdict, and probability and bytes after it.
-    pub refusal: u32,
-    pub verdict: u32,
-    pub prob: u64,
-    pub bytes: u64,
+// Why a log is not replayed.
+#[derive(Clone, Copy, PartialEq, Eq)]
+pub enum Refusal {
+    // The log is bad.
+    Log(call_log::Refusal),
+    // The tables do not fit it.
+    Tables,
 }
 
-// A call by the rules: its refusal (0: none) or verdict.
-#[derive(Clone, Copy)]
-pub(crate) struct Called {
-    pub refusal: u32,
-    pub verdict: u32,
+// What can disagree in a record, in this order.
+#[derive(Clone, Copy, PartialEq, Eq)]
+pub enum Field {
+    Verdict,
+    Probability,
+    Bytes,
+}
+
+// What a replay found.
+#[derive(Clone, Copy, PartialEq, Eq)]
+pub struct Replayed {
+    // The first field that disagrees; none where the log is accepted.
+    pub field: Option<Field>,
+    // The number of the record that disagrees; of records where the log is accepted.
+    pub number: u64,
+    // By the rules, of that call: its verdict or the number of its refusal, and probability and bytes after it.
+    pub answer: Result<u32, u32>,
+    pub prob: u64,
+    pub bytes: u64,
 }
 
 // The C entry (include/obikuteru.h). It has an object of its own: a second call of the steps in one object would leave them calls.
@@ -50,16 +59,14 @@ pub extern "C" fn obikuteru_replay(
         × (handles.new ≡ handles_after a handles.old)
         × (sizes.new ≡ sizes_after a sizes.old) }
 {
-    let r = replay(log, handles, sizes);
-    *found = [
-        r.number,
-        r.refusal as u64,
-        r.verdict as u64,
-        r.prob,
-        r.bytes,
-    ];
-    if 0 < r.refused {
-        return 100 + r.refused;
+    match replay(log, handles, sizes) {
+        Ok(r) => {
+            *found = words(r);
+            code(r.field)
+        }
+        Err(refusal) => {
+            *found = [0; 5];
+            100 + refusal.number()
+        }
     }
-    r.field
 }

@@ -2,28 +2,14 @@
 ghost use Rattle.std.specs.Prelude.{◌≡◌, ◌≤◌};
 ghost use Rattle.call_log.specs.Answers.{given};
 ghost use Rattle.call_log.specs.Whole.{read_whole, shape_in};
-ghost use Rattle.replay.specs.Replay.{refused as refused_by, replay as replay_by};
-ghost use Rattle.replay.specs.Replied.{handles_after, replayed_of, sizes_after};
+ghost use Rattle.replay.specs.Replay.{replay as replay_by};
+ghost use Rattle.replay.specs.Replied.{handed_of, handles_after, replayed_of, sizes_after};
 
-use crate::Replayed;
 use crate::running::run;
+use crate::{Refusal, Replayed};
 use ring::State;
 use ring_words::encode;
 use units::{Bytes, Micros};
-
-fn refused(number: u32) -> Replayed
-    ensures { result ≡ replayed_of (refused_by number) }
-{
-    Replayed {
-        refused: number,
-        field: 0,
-        number: 0,
-        refusal: 0,
-        verdict: 0,
-        prob: 0,
-        bytes: 0,
-    }
-}
 
 // A log that was read whole, with its offset and count.
 fn replay_whole(
@@ -32,10 +18,10 @@ fn replay_whole(
     count: usize,
     handles: &mut [u32],
     sizes: &mut [u32],
-) -> Replayed
+) -> Result<Replayed, Refusal>
     requires log_value { shape_in (read_whole log.now) ≡ given (offset, count) }
     requires count_bound { count ≤ 4294967295 }
-    ensures value { result ≡ replayed_of (replay_by log.now handles.old sizes.old) }
+    ensures value { handed_of result ≡ replayed_of (replay_by log.now handles.old sizes.old) }
     ensures fact { let a = replay_by log.now handles.old sizes.old in
         (handles.new ≡ handles_after a handles.old) × (sizes.new ≡ sizes_after a sizes.old) }
 {
@@ -43,7 +29,7 @@ fn replay_whole(
     let slots = h.slots as u64;
     let misfit = !((handles.len() as u64 == slots) & (sizes.len() as u64 == slots));
     if misfit {
-        return refused(3);
+        return Err(Refusal::Tables);
     }
     let mut w: [u64; 23] = [0; 23];
     let fresh = State::fresh(
@@ -54,17 +40,17 @@ fn replay_whole(
         Micros(h.clock),
     );
     encode(&mut w, fresh.state);
-    run(log, offset, count, &mut w, handles, sizes)
+    Ok(run(log, offset, count, &mut w, handles, sizes))
 }
 
 // What the tables hold beforehand does not matter; afterwards they hold what the rules wrote.
-pub fn replay(log: &[u8], handles: &mut [u32], sizes: &mut [u32]) -> Replayed
-    ensures value { result ≡ replayed_of (replay_by log.now handles.old sizes.old) }
+pub fn replay(log: &[u8], handles: &mut [u32], sizes: &mut [u32]) -> Result<Replayed, Refusal>
+    ensures value { handed_of result ≡ replayed_of (replay_by log.now handles.old sizes.old) }
     ensures fact { let a = replay_by log.now handles.old sizes.old in
         (handles.new ≡ handles_after a handles.old) × (sizes.new ≡ sizes_after a sizes.old) }
 {
     match call_log::check(log) {
         Ok(w) => replay_whole(log, w.offset as usize, w.count as usize, handles, sizes),
-        Err(refusal) => refused(refusal.number()),
+        Err(refusal) => Err(Refusal::Log(refusal)),
     }
 }

@@ -1,11 +1,11 @@
 // The rules over the records of a log that was read whole, on a queue that is ready for so many arrivals.
-ghost use Rattle.std.specs.Prelude.{◌≡◌, ◌+◌, ◌*◌, ◌≤◌, length};
+ghost use Rattle.std.specs.Prelude.{◌≡◌, ◌+◌, ◌*◌, ◌≤◌, length, Ok};
 ghost use Rattle.ring_words.specs.Words.{state_of};
 ghost use Rattle.call_log.specs.Layout.{records_from};
 ghost use Rattle.ring_words.specs.Lent.{lent};
 ghost use Rattle.ring_steps.specs.Fitting.{Ready};
 ghost use Rattle.replay.specs.Replay.{queue_of, replay_from};
-ghost use Rattle.replay.specs.Replied.{handles_after, replayed_of, sizes_after};
+ghost use Rattle.replay.specs.Replied.{handed_of, handles_after, replayed_of, sizes_after};
 
 use crate::Replayed;
 use crate::calling::call;
@@ -22,7 +22,7 @@ pub(crate) fn run(
 ) -> Replayed
     requires count_in_bounds { offset + 40 * count ≤ length log.now }
     requires ready { Ready (lent w.old handles.old sizes.old) count }
-    ensures value { result ≡ replayed_of (replay_from 0 (queue_of (state_of w.old) handles.old sizes.old)
+    ensures value { handed_of (Ok result) ≡ replayed_of (replay_from 0 (queue_of (state_of w.old) handles.old sizes.old)
         (records_from count log.now offset)) }
     ensures fact { let a = replay_from 0 (queue_of (state_of w.old) handles.old sizes.old)
         (records_from count log.now offset) in
@@ -32,24 +32,20 @@ pub(crate) fn run(
         let r = log_codec::get(log, offset + 40 * i);
         let c = call(w, r, handles, sizes);
         let field = compare(r, c, w[PROB], w[BYTES]);
-        if 0 < field {
+        if field.is_some() {
             return Replayed {
-                refused: 0,
                 field,
                 number: i as u64,
-                refusal: c.refusal,
-                verdict: c.verdict,
+                answer: c,
                 prob: w[PROB],
                 bytes: w[BYTES],
             };
         }
     }
     Replayed {
-        refused: 0,
-        field: 0,
+        field: None,
         number: count as u64,
-        refusal: 0,
-        verdict: 0,
+        answer: Ok(0),
         prob: w[PROB],
         bytes: w[BYTES],
     }

@@ -1,40 +1,18 @@
 -- `obikuteru_replay`: the code and the words of what the replay handed back, and the tables as it left them.
-use mathlib.Core.Path.{ap, ◌∙◌}
-use Prim.Native.Nat.{◌+◌, ◌<◌, ◌≤◌}
-use native.Mathlib.Omega.{arith}
 use Rattle.replay.specs.Replay.{replay}
-use Rattle.replay.specs.Replied.{replayed_of}
-use Rattle.replay.specs.declared.Replayed.{Replayed}
-use Rattle.replay.proofs.Numbers.{field-code, numbered, refusal-code, small, words}
+use Rattle.replay.proofs.Numbers.{numbered, replayed, unreplayed}
 use Rattle.replay.proofs.obikuteru_replay.Goals as goal
 
-pub overflow_add-result : goal.overflow_add-result
-overflow_add-result c =
-    let s = c in
-    let r = c.replay-r in
-    let a = replay s.args.log.now s.args.handles.now s.args.sizes.now in
-    let k = numbered s.args.log.now s.args.handles.now s.args.sizes.now in
-    let e = r.ensures.value in
-    omega (arith, small a k, ap (λ (x : Replayed). x.refused) e)
+pub returns-in-Ok : goal.returns-in-Ok
+returns-in-Ok c =
+    let s = c.args in
+    let a = replay s.log.now s.handles.now s.sizes.now in
+    let f = replayed a (numbered s.log.now s.handles.now s.sizes.now) c.in-Ok.r c.in-Ok.ensures.value c.code.ensures c.words.ensures in
+    (f.0, f.1, c.in-Ok.ensures.fact.0, c.in-Ok.ensures.fact.1)
 
-pub returns-then-r-gt0 : goal.returns-then-r-gt0
-returns-then-r-gt0 c =
-    let s = c in
-    let r = c.replay-r in
-    let a = replay s.args.log.now s.args.handles.now s.args.sizes.now in
-    let k = numbered s.args.log.now s.args.handles.now s.args.sizes.now in
-    let e = r.ensures.value in
-    let p : 0 < (replayed_of a).refused = rw (ap (λ (x : Replayed). x.refused) e) at c.if-r-gt0.true in
-    let n = ap (λ (x : Replayed). 100 + x.refused) e in
-    (n ∙ refusal-code a k p, words r.result a e, r.ensures.fact.0, r.ensures.fact.1)
-
-pub returns : goal.returns
-returns c =
-    let s = c in
-    let r = c.replay-r in
-    let a = replay s.args.log.now s.args.handles.now s.args.sizes.now in
-    let k = numbered s.args.log.now s.args.handles.now s.args.sizes.now in
-    let e = r.ensures.value in
-    let p : (replayed_of a).refused ≤ 0 = rw (ap (λ (x : Replayed). x.refused) e) at c.if-r-gt0.false in
-    let n = ap (λ (x : Replayed). x.field) e in
-    (n ∙ field-code a k p, words r.result a e, r.ensures.fact.0, r.ensures.fact.1)
+pub returns-in-Err : goal.returns-in-Err
+returns-in-Err c =
+    let s = c.args in
+    let a = replay s.log.now s.handles.now s.sizes.now in
+    let f = unreplayed a (numbered s.log.now s.handles.now s.sizes.now) c.in-Err.refusal c.in-Err.ensures.value c.number.ensures.0 in
+    (f.0, f.1, c.in-Err.ensures.fact.0, c.in-Err.ensures.fact.1)

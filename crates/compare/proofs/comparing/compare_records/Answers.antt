@@ -30,10 +30,10 @@ loop-number-preserved c =
     let next : a.offset + 40 * l.number + 40 ≡ a.offset + 40 * (l.number + 1) = omega arith in (
       omega arith,
       rw next at (l.invariant.1 ∙ turn-same a.first.now a.second.now a.count a.others l.number (a.offset + 40 * l.number) (omega arith) (omega arith)
-      c.get.ensures
-      c.get-in-loop-number.ensures
-      (c.eq-equal.ensures ∙ record-same c.get.result c.get-in-loop-number.result)
-      c.if-not-equal.false),
+          c.get.ensures
+          c.get-in-loop-number.ensures
+          (c.eq-equal.ensures ∙ record-same c.get.result c.get-in-loop-number.result)
+          c.if-not-equal.false),
     )
 
 pub returns-then-count-others : goal.returns-then-count-others

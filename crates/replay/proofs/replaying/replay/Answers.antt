@@ -1,8 +1,5 @@
 -- `replay`: 11, 12 or 13 where the reading refuses the log.
-use mathlib.Core.Path.{refl, ap, sym, ◌∙◌}
-use Prim.Native.Nat.{ℕ}
-use Rattle.replay.specs.Replay.{refused as misread}
-use Rattle.replay.specs.Replied.{replayed_of}
+use mathlib.Core.Path.{refl, sym}
 use Rattle.replay.proofs.Contained.{bad-log}
 use Rattle.replay.proofs.replaying.replay.Goals as goal
 
@@ -10,10 +7,7 @@ pub replay_whole-requires-clause-log_value : goal.replay_whole-requires-clause-l
 replay_whole-requires-clause-log_value c = sym c.in-Ok.ensures
 
 pub returns-in-Err-clause-value : goal.returns-in-Err-clause-value
-returns-in-Err-clause-value c =
-    let a = c.args in
-    let e = bad-log a.log.now a.handles.now a.sizes.now _ (sym c.in-Err.ensures) in
-    rw e (c.refused.ensures ∙ ap (λ (n : ℕ). replayed_of (misread n)) c.number.ensures.0)
+returns-in-Err-clause-value c = let a = c.args in rw (bad-log a.log.now a.handles.now a.sizes.now _ (sym c.in-Err.ensures))
 
 pub returns-in-Err-clause-fact : goal.returns-in-Err-clause-fact
 returns-in-Err-clause-fact c =

@@ -18,7 +18,7 @@ returns-then-misfit-clause-value c =
     let k = contained l a.args.offset a.args.count a.requires.log_value in
     let g = c.get_header-h in
     let e = misfits l a.args.handles.now a.args.sizes.now a.args.offset a.args.count k g.result g.ensures (ap not c.if-misfit.true) in
-    rw e c.refused.ensures
+    rw e
 
 pub returns-then-misfit-clause-fact : goal.returns-then-misfit-clause-fact
 returns-then-misfit-clause-fact c =

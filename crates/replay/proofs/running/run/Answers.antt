@@ -1,5 +1,5 @@
 -- `run`: the replay of all records is the replay of those that are left, from the queue that the calls before have left.
-use mathlib.Core.Path.{◌≡◌, refl, ap, ◌∙◌}
+use mathlib.Core.Path.{◌≡◌, refl, ap, sym, ◌∙◌}
 use Prim.Native.Nat.{◌+◌, ◌*◌, ◌-◌}
 use native.Mathlib.Omega.{arith}
 use lib.ListN.{length}
@@ -10,6 +10,8 @@ use Rattle.ring_steps.proofs.Kept.{leaves-long, ready-one}
 use Rattle.replay.specs.Agreement.{request_of}
 use Rattle.replay.specs.Replay.{queue_of, replay_from}
 use Rattle.replay.proofs.Rounds.{ended, goes_on, left-queue, none_left, reached, ready-next, round, stopped}
+use Rattle.replay.specs.Told.{field_number, refusal_told, verdict_told}
+use Rattle.replay.proofs.Numbers.{no-field, some-field}
 use Rattle.replay.proofs.running.run.Goals as goal
 
 pub loop-i-init : goal.loop-i-init
@@ -27,9 +29,9 @@ call-c-requires c =
     let l = c.loop-i in
     ready-one (lent l.w l.handles l.sizes) _ (omega (arith, c.loop-i-test.true)) l.invariant.3
 
-pub returns-then-field-gt0-clause-value : goal.returns-then-field-gt0-clause-value
+pub returns-then-is_some-clause-value : goal.returns-then-is_some-clause-value
 unfolding state_of
-returns-then-field-gt0-clause-value c =
+returns-then-is_some-clause-value c =
     let a = c in
     let l = c.loop-i in
     let k = c.call-c in
@@ -45,13 +47,13 @@ returns-then-field-gt0-clause-value c =
     let e = reached R a.args.count l.i log at q g.result l.invariant.2 c.loop-i-test.true g.ensures in
     let left = left-queue given _ (request_of g.result) l.invariant.3.0.0 k.ensures.2 in
     let w = round q q' (k.ensures.0, k.ensures.1) left c.compare-field.ensures in
-    let t = stopped l.i q q' g.result rest k.result.refusal k.result.verdict c.compare-field.result w R
-    a.args.handles.now a.args.sizes.now e c.if-field-gt0.true in
+    let t = stopped l.i q q' g.result rest (refusal_told k.result) (verdict_told k.result) (field_number c.compare-field.result) w R
+    a.args.handles.now a.args.sizes.now e (some-field c.compare-field.result (sym c.is_some.ensures ∙ c.if-is_some.true)) in
     t.0
 
-pub returns-then-field-gt0-clause-fact : goal.returns-then-field-gt0-clause-fact
+pub returns-then-is_some-clause-fact : goal.returns-then-is_some-clause-fact
 unfolding state_of
-returns-then-field-gt0-clause-fact c =
+returns-then-is_some-clause-fact c =
     let a = c in
     let l = c.loop-i in
     let k = c.call-c in
@@ -67,8 +69,8 @@ returns-then-field-gt0-clause-fact c =
     let e = reached R a.args.count l.i log at q g.result l.invariant.2 c.loop-i-test.true g.ensures in
     let left = left-queue given _ (request_of g.result) l.invariant.3.0.0 k.ensures.2 in
     let w = round q q' (k.ensures.0, k.ensures.1) left c.compare-field.ensures in
-    let t = stopped l.i q q' g.result rest k.result.refusal k.result.verdict c.compare-field.result w R
-    a.args.handles.now a.args.sizes.now e c.if-field-gt0.true in
+    let t = stopped l.i q q' g.result rest (refusal_told k.result) (verdict_told k.result) (field_number c.compare-field.result) w R
+    a.args.handles.now a.args.sizes.now e (some-field c.compare-field.result (sym c.is_some.ensures ∙ c.if-is_some.true)) in
     (t.1, t.2)
 
 pub loop-i-preserved : goal.loop-i-preserved
@@ -93,7 +95,7 @@ loop-i-preserved c =
     let long = leaves-long given (request_of g.result) in (
       ap (λ (x : Lent). length x.handles) k.ensures.2 ∙ long.0 ∙ l.invariant.0,
       ap (λ (x : Lent). length x.sizes) k.ensures.2 ∙ long.1 ∙ l.invariant.1,
-      rw next at (goes_on l.i q q' g.result rest k.result.refusal k.result.verdict c.compare-field.result w R e (omega arith)),
+      rw next at (goes_on l.i q q' g.result rest (refusal_told k.result) (verdict_told k.result) (field_number c.compare-field.result) w R e (no-field c.compare-field.result (sym c.is_some.ensures ∙ c.if-is_some.false))),
       ready-next given _ (request_of g.result) a.args.count l.i (omega (arith, c.loop-i-test.true)) k.ensures.2 l.invariant.3,
     )
 
