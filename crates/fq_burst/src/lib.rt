@@ -12,11 +12,13 @@ ghost use Rattle.fq_guarantees.specs.Kept.{Sound};
 ghost use Rattle.fq_burst.specs.Calls.{call_at};
 ghost use Rattle.fq_burst.specs.Burst.{after, answer_to, answer_word, fq_bursts, held};
 
-use crate::numbers::{UNFIT, UNKNOWN, key_of, malformed, word};
-use bursts::{Queue, answer_each, clock_of, has_room, wide};
+use crate::call::{Read, read_at};
+use crate::numbers::{UNFIT, UNKNOWN, malformed, word};
+use bursts::{Queue, answer_each, has_room, wide};
 use fq_steps::{arrive, depart, update};
 use fq_words::{decode, fits};
 
+mod call;
 mod numbers;
 
 // The call at `at`, on a well-formed record. The counts are the flows'. Where `room`, those of the verdicts are not full.
@@ -44,51 +46,38 @@ fn answered(
         ≡ after q (call_at calls.now at)) }
     ensures counts_after { counts.new ≡ counts_of (flows_of flows.new) }
 {
-    let clock = clock_of(calls[at], calls[at + 1]);
-    let kind = calls[at + 5];
-    let arrives = kind < 2;
-    if arrives {
-        let key = key_of(calls[at + 6], calls[at + 7], calls[at + 8], calls[at + 9]);
-        let ecn = kind == 1;
-        let code = arrive(
-            common,
-            order,
-            flows,
-            deficits,
-            counts,
-            handles,
-            sizes,
-            clock,
-            &key,
-            calls[at + 2],
-            calls[at + 3],
-            ecn,
-            calls[at + 4],
-            room,
-        );
-        return wide(code);
+    match read_at(calls, at) {
+        Some(
+            Read::Arrival {
+                clock,
+                key,
+                handle,
+                size,
+                ecn,
+                u,
+            },
+        ) => wide(arrive(
+            common, order, flows, deficits, counts, handles, sizes, clock, &key, handle, size, ecn,
+            u, room,
+        )),
+        Some(Read::Departure { clock }) => {
+            let mut packet: [u32; 3] = [0, 0, 0];
+            let code = depart(
+                common,
+                order,
+                flows,
+                deficits,
+                counts,
+                handles,
+                sizes,
+                clock,
+                &mut packet,
+            );
+            word(code, packet[0], packet[2], packet[1])
+        }
+        Some(Read::Tick { clock }) => wide(update(common, order, flows, deficits, clock)),
+        None => UNKNOWN,
     }
-    let departs = kind == 2;
-    if departs {
-        let mut packet: [u32; 3] = [0, 0, 0];
-        let code = depart(
-            common,
-            order,
-            flows,
-            deficits,
-            counts,
-            handles,
-            sizes,
-            clock,
-            &mut packet,
-        );
-        return word(code, packet[0], packet[2], packet[1]);
-    }
-    let ticks = kind == 3;
-    if ticks {
-        return wide(update(common, order, flows, deficits, clock));
-    }
-    UNKNOWN
 }
 
 // What the lists and deficits are known to be.
