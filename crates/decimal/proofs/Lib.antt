@@ -1,3 +1,3 @@
 -- What the proofs share.
-pub mod Lists
-pub mod Places
+pub mod Decimal
+pub mod Joins

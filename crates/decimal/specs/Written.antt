@@ -1,7 +1,15 @@
 -- What it means that a function wrote text into a lent buffer.
-use Rattle.std.specs.Prelude.{◌≡◌, List, ◌++◌, ℕ, ◌+◌, length, take}
+use Rattle.std.specs.Prelude.{◌≡◌, List, ◌++◌, ℕ, ◌+◌, ◌≤◌, length, take}
+use Rattle.decimal.specs.declared.Output.{Output}
 
--- the text stands in the buffer from `at` to `end`, and what stood before `at` still stands
-pub record Wrote (before after : List ℕ) (at end : ℕ) (text : List ℕ) : Type 0 where
-  pub count : end ≡ at + length text
-  pub bytes : take end after ≡ take at before ++ text
+-- the buffer has room for so many bytes more
+abbrev pub HasRoom : Output → (bytes : ℕ) → Type 0
+HasRoom out bytes = out.end + bytes ≤ length out.bytes.now
+
+-- the text, of at most so many bytes, stands in the buffer behind what was written before, which still stands
+pub record Wrote (most : ℕ) (before after : Output) (text : List ℕ) : Type 0 where
+  pub buffer : after.bytes.ghost_name ≡ before.bytes.ghost_name
+  pub room : length after.bytes.now ≡ length before.bytes.now
+  pub count : after.end ≡ before.end + length text
+  pub bytes : take after.end after.bytes.now ≡ take before.end before.bytes.now ++ text
+  pub short : length text ≤ most

@@ -1,6 +1,5 @@
 -- What the proofs share.
 pub mod Bytes
-pub mod Counts
 pub mod NoForm
 pub mod Reading
 pub mod LineEnds

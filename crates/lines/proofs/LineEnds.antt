@@ -1,5 +1,5 @@
 -- Where a line ends, from the byte at a place on.
-use mathlib.Core.Path.{◌≡◌, refl, ap, ◌∙◌}
+use mathlib.Core.Path.{◌≡◌, refl, ap, sym, ◌∙◌}
 use mathlib.Core.Bool.{Bool, true, false, cond}
 use mathlib.Core.List.{List, [], ◌∷◌}
 use Prim.Native.Nat.{ℕ, suc, ◌+◌, ◌≤◌, ◌<◌}
@@ -70,9 +70,9 @@ along-byte input r at h n =
     record { forward = omega arith; within = omega arith; ends = omega arith; reads = read_past input at r h n }
 
 -- a digit on a number that is clear of 64 bits
-pub digit-pushed : (r : Reader) (byte : ℕ) → r.phase ≡ Digits → is_digit byte ≡ true → byte ≤ 57 → r.value < 1844674407370955161 → pushed r byte ≡ moved r Digits (extended r.value byte)
+pub digit-pushed : (r : Reader) (byte : ℕ) → r.phase ≡ Digits → is_digit byte ≡ true → byte ≤ 57 → r.value < 1844674407370955161 → pushed r byte ≡ moved r r.phase (extended r.value byte)
 unfolding pushed after_digits
 digit-pushed r byte p d b v =
     let low = digit_low byte d in
     let fits : extended r.value byte ≤ double_word = omega arith in
-    ap (λ (phase : Phase). in_phase phase r byte) p ∙ rw (d, le-leb (extended r.value byte) double_word fits)
+    ap (λ (phase : Phase). in_phase phase r byte) p ∙ rw (d, le-leb (extended r.value byte) double_word fits) (ap (λ (phase : Phase). moved r phase (extended r.value byte)) (sym p))

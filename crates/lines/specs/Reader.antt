@@ -1,35 +1,26 @@
 -- The reader's own steps: what it is after one byte more, and what command it has read, of a kind of queue that makes
 -- a command of a letter and numbers.
-use Rattle.std.specs.Prelude.{Bool, true, false, cond, List, [], ◌∷◌, ℕ, ◌+◌, ◌-◌, leb, ltb, eqb, drop}
+use Rattle.std.specs.Prelude.{Bool, true, false, cond, List, [], ◌∷◌, ◌++◌, ℕ, ◌+◌, ◌-◌, leb, ltb, eqb, drop}
 use Rattle.lines.specs.Numbers.{extended, is_digit}
 use Rattle.lines.specs.Forms.{double_word}
 use Rattle.lines.specs.declared.Phase.{Phase}
 use Rattle.lines.specs.declared.Phase.TheVariants.{Start, Letter, Gap, Digits, Spoiled}
 use Rattle.lines.specs.declared.Reader.{Reader}
 
-abbrev pub reader : Phase → (letter count value first second third fourth fifth sixth : ℕ) → Reader
-reader phase letter count value first second third fourth fifth sixth =
-    record {
-      phase = phase;
-      letter = letter;
-      count = count;
-      value = value;
-      first = first;
-      second = second;
-      third = third;
-      fourth = fourth;
-      fifth = fifth;
-      sixth = sixth;
-    }
+abbrev pub reader : Phase → (letter count value : ℕ) (fields : List ℕ) → Reader
+reader phase letter count value fields =
+    record { phase = phase; letter = letter; count = count; value = value; fields = fields }
+
+abbrev pub no_fields : List ℕ
+no_fields = 0 ∷ 0 ∷ 0 ∷ 0 ∷ 0 ∷ 0 ∷ []
 
 -- nothing is read
 abbrev pub begun : Reader
-begun = reader Start 0 0 0 0 0 0 0 0 0
+begun = reader Start 0 0 0 no_fields
 
 -- in another phase, with another value
 abbrev pub moved : Reader → Phase → (value : ℕ) → Reader
-moved r phase value =
-    reader phase r.letter r.count value r.first r.second r.third r.fourth r.fifth r.sixth
+moved r phase value = reader phase r.letter r.count value r.fields
 
 -- no command begins like this
 abbrev pub spoiled : Reader → Reader
@@ -37,7 +28,7 @@ spoiled r = moved r Spoiled r.value
 
 -- the letter
 unfoldable pub after_start : Reader → (byte : ℕ) → Reader
-after_start r byte = cond (eqb byte 32) (spoiled r) (reader Letter byte 0 0 0 0 0 0 0 0)
+after_start r byte = cond (eqb byte 32) (spoiled r) (reader Letter byte 0 0 no_fields)
 
 -- the space behind the letter
 unfoldable pub after_letter : Reader → (byte : ℕ) → Reader
@@ -55,7 +46,7 @@ digit_read r number = cond (leb number double_word) (moved r Digits number) (spo
 abbrev pub field_read : Reader → Reader
 field_read r =
     cond (ltb r.count 6)
-    (reader Gap r.letter (r.count + 1) 0 r.second r.third r.fourth r.fifth r.sixth r.value)
+    (reader Gap r.letter (r.count + 1) 0 (drop 1 r.fields ++ (r.value ∷ [])))
     (spoiled r)
 
 unfoldable pub after_digits : Reader → (byte : ℕ) → Reader
@@ -83,7 +74,7 @@ is_empty Spoiled = false
 
 -- the fields before the value, of which it keeps the last six, and the value
 abbrev pub numbers_in : Reader → List ℕ
-numbers_in r = drop (6 - r.count) (r.first ∷ r.second ∷ r.third ∷ r.fourth ∷ r.fifth ∷ r.sixth ∷ r.value ∷ [])
+numbers_in r = drop (6 - r.count) (r.fields ++ (r.value ∷ []))
 
 abbrev pub command_in : {Command : Type 0} → (bad : Command) (make : ℕ → List ℕ → Command) → Phase → Reader → Command
 command_in bad make Start r = bad

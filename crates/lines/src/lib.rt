@@ -26,12 +26,7 @@ pub struct Reader {
     pub letter: u8,
     // The fields before the one that is read, and the last six of them.
     pub count: u64,
-    pub first: u64,
-    pub second: u64,
-    pub third: u64,
-    pub fourth: u64,
-    pub fifth: u64,
-    pub sixth: u64,
+    pub fields: [u64; 6],
     // The field that is read.
     pub value: u64,
 }

@@ -14,12 +14,7 @@ impl Reader {
             phase: Phase::Start,
             letter: 0,
             count: 0,
-            first: 0,
-            second: 0,
-            third: 0,
-            fourth: 0,
-            fifth: 0,
-            sixth: 0,
+            fields: [0; 6],
             value: 0,
         }
     }
@@ -37,21 +32,14 @@ impl Reader {
     fn start(self, byte: u8) -> Reader
         ensures { result ≡ after_start self byte }
     {
-        let space = byte == 32;
+        let space = byte == b' ';
         if space {
             return self.spoil();
         }
         Reader {
             phase: Phase::Letter,
             letter: byte,
-            count: 0,
-            first: 0,
-            second: 0,
-            third: 0,
-            fourth: 0,
-            fifth: 0,
-            sixth: 0,
-            value: 0,
+            ..Reader::begin()
         }
     }
 
@@ -59,7 +47,7 @@ impl Reader {
     fn letter(self, byte: u8) -> Reader
         ensures { result ≡ after_letter self byte }
     {
-        let apart = byte == 32;
+        let apart = byte == b' ';
         if apart {
             return Reader {
                 phase: Phase::Gap, // the first field follows
@@ -69,12 +57,13 @@ impl Reader {
         self.spoil()
     }
 
+    #[tactic(auto, using(crate::proofs::Bytes::digit_low), unfolding(crate::specs::Reader::after_gap))]
     fn gap(self, byte: u8) -> Reader
         ensures { result ≡ after_gap self byte }
     {
-        let first = (48 <= byte) & (byte <= 57);
+        let first = (b'0' <= byte) & (byte <= b'9');
         if first {
-            let value = byte as u64 - 48;
+            let value = (byte - b'0') as u64;
             return Reader {
                 phase: Phase::Digits,
                 value,
@@ -85,12 +74,13 @@ impl Reader {
     }
 
     // The digit goes on the value, unless that is past 64 bits then.
+    #[tactic(auto, using(crate::proofs::Bytes::digit_low))]
     fn digit(self, byte: u8) -> Reader
         requires { is_digit byte ≡ true }
         ensures { result ≡ digit_read self (extended self.value byte) }
     {
-        let digit = byte as u64 - 48;
-        if self.value <= (18_446_744_073_709_551_615 - digit) / 10 {
+        let digit = (byte - b'0') as u64;
+        if self.value <= (u64::MAX - digit) / 10 {
             let value = 10 * self.value + digit;
             return Reader {
                 phase: Phase::Digits,
@@ -107,16 +97,12 @@ impl Reader {
     {
         let another = self.count < 6;
         if another {
+            let [_, second, third, fourth, fifth, sixth] = self.fields;
             return Reader {
                 phase: Phase::Gap, // another field follows
                 letter: self.letter,
                 count: self.count + 1,
-                first: self.second,
-                second: self.third,
-                third: self.fourth,
-                fourth: self.fifth,
-                fifth: self.sixth,
-                sixth: self.value,
+                fields: [second, third, fourth, fifth, sixth, self.value],
                 value: 0,
             };
         }
@@ -127,22 +113,22 @@ impl Reader {
     fn digits(self, byte: u8) -> Reader
         ensures { result ≡ after_digits self byte }
     {
-        let digit = (48 <= byte) & (byte <= 57);
+        let digit = (b'0' <= byte) & (byte <= b'9');
         if digit {
             return self.digit(byte);
         }
-        let ends = byte == 32;
+        let ends = byte == b' ';
         if ends {
             return self.field();
         }
         self.spoil()
     }
 
+    #[tactic(auto, unfolding(crate::specs::Reader::pushed))]
     pub fn push(self, byte: u8) -> Reader
         ensures { result ≡ pushed self byte }
     {
-        let phase = self.phase;
-        match phase {
+        match self.phase {
             Phase::Digits => self.digits(byte),
             Phase::Gap => self.gap(byte),
             Phase::Letter => self.letter(byte),
@@ -155,13 +141,6 @@ impl Reader {
     pub fn is_empty(self) -> bool
         ensures { result ≡ is_empty self.phase }
     {
-        let phase = self.phase;
-        match phase {
-            Phase::Start => true,
-            Phase::Letter => false,
-            Phase::Gap => false,
-            Phase::Digits => false,
-            Phase::Spoiled => false,
-        }
+        matches!(self.phase, Phase::Start)
     }
 }

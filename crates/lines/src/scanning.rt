@@ -10,22 +10,18 @@ fn read_digits(begun: Reader, input: &[u8], from: usize) -> Scanned
     ensures { Along input.now begun from result }
 {
     let mut reader = begun;
-    let mut at = from;
-    while at < input.len() {
+    for at in from..input.len() {
         let byte = input[at];
-        let clear = (48 <= byte) & (byte <= 57) & (reader.value < 1_844_674_407_370_955_161);
+        let clear = (b'0' <= byte) & (byte <= b'9') & (reader.value < u64::MAX / 10);
         if !clear {
             return Scanned { reader, at };
         }
-        let value = 10 * reader.value + (byte as u64 - 48);
-        reader = Reader {
-            phase: Phase::Digits,
-            value,
-            ..reader
-        };
-        at += 1;
+        reader.value = 10 * reader.value + (byte - b'0') as u64;
     }
-    Scanned { reader, at }
+    Scanned {
+        reader,
+        at: input.len(),
+    }
 }
 
 // Reads what follows a byte at once, if it is digits of the same field.
@@ -33,17 +29,12 @@ fn read_field(begun: Reader, input: &[u8], from: usize) -> Scanned
     requires { from ≤ length input.now }
     ensures { Along input.now begun from result }
 {
-    let phase = begun.phase;
-    let waits = Scanned {
-        reader: begun,
-        at: from,
-    };
-    match phase {
+    match begun.phase {
         Phase::Digits => read_digits(begun, input, from),
-        Phase::Gap => waits,
-        Phase::Letter => waits,
-        Phase::Start => waits,
-        Phase::Spoiled => waits,
+        Phase::Start | Phase::Letter | Phase::Gap | Phase::Spoiled => Scanned {
+            reader: begun,
+            at: from,
+        },
     }
 }
 
@@ -55,9 +46,10 @@ pub fn scan(begun: Reader, input: &[u8], from: usize) -> Scanned
 {
     let mut reader = begun;
     let mut at = from;
+    // No `for`: a turn takes a byte and all digits behind it.
     while at < input.len() {
         let byte = input[at];
-        if byte == 10 {
+        if byte == b'\n' {
             return Scanned { reader, at };
         }
         let read = read_field(reader.push(byte), input, at + 1);

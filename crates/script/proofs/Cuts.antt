@@ -3,6 +3,7 @@ use mathlib.Core.Path.{◌≡◌, refl, sym, ap, ◌∙◌}
 use mathlib.Core.Bool.{Bool, true, false, cond, false≢true}
 use mathlib.Core.List.{List, [], ◌∷◌, ◌++◌, append_assoc, append-nil, foldl, foldl-append, map}
 use Prim.Native.Nat.{ℕ}
+use Rattle.std.proofs.Common.{Option}
 use lib.Dec.{eqb}
 use Rattle.script_command.specs.Line.{read_line}
 use Rattle.lines.specs.Reader.{begun, is_empty, pushed}
@@ -120,7 +121,7 @@ ended First e = absurd (false≢true e)
 ended Running e = absurd (false≢true e)
 ended Ended e = refl
 
-line_stays : (r : ScriptRun) (command : Command) → r.session.stage ≡ Ended → answer_line r command ≡ r
+line_stays : (r : ScriptRun) (command : Option Command) → r.session.stage ≡ Ended → answer_line r command ≡ r
 unfolding answer_line
 line_stays r command e = rw (at_ended r.session r.handles r.sizes command e, append-nil)
 

@@ -1,7 +1,7 @@
 -- What the proofs share.
 pub mod Computed
 pub mod Lent
-pub mod Room
+pub mod Replies
 pub mod Stages
 pub mod Turns
 pub mod Cuts

@@ -11,6 +11,8 @@ use lib.Dec.{eqb}
 use lib.ListN.{drop, get_or, length, length-drop, take}
 use lib.Seq.{get_or-drop, take-add, take-suc}
 use Rattle.lines.specs.Reader.{begun, pushed}
+use Rattle.std.proofs.Common.{Option}
+use Rattle.decimal.specs.declared.Output.{Output}
 use Rattle.script_command.specs.Reader.{finished}
 use Rattle.lines.specs.Scan.{line_end, read_on}
 use Rattle.script_command.specs.declared.Command.{Command}
@@ -21,7 +23,6 @@ use Rattle.script.specs.Done.{Did}
 use Rattle.script.specs.Feeding.{Machine, byte_fed, fed, line_fed, machine}
 use Rattle.script.specs.Script.{ScriptRun, answer_line}
 use Rattle.script.specs.Turn.{Follows}
-use Rattle.script.specs.declared.Answered.{Answered}
 use Rattle.script.specs.declared.Fed.{Fed}
 use Rattle.script.specs.declared.Session.{Session}
 
@@ -76,9 +77,9 @@ module _ (m₀ m : Machine) (input : List ℕ) (taken : ℕ) (h : taken ≤ leng
 
 -- ── the line answered ──
 
-pub answered-is : (s : Session) (handles sizes : List ℕ) (command : Command) (r : Answered) (h z before after : List ℕ) (at : ℕ) → Did (outcome s handles sizes command) r h z before after at → answer_line (record { session = s; handles = handles; sizes = sizes; output = take at before }) command ≡ record { session = r.session; handles = h; sizes = z; output = take r.end after }
+pub answered-is : (s t : Session) (handles sizes : List ℕ) (command : Option Command) (h z : List ℕ) (x y : Output) → Did (outcome s handles sizes command) t h z x y → answer_line (record { session = s; handles = handles; sizes = sizes; output = take x.end x.bytes.now }) command ≡ record { session = t; handles = h; sizes = z; output = take y.end y.bytes.now }
 unfolding answer_line
-answered-is s handles sizes command r h z before after at d =
+answered-is s t handles sizes command h z x y d =
     λ i. record { session = sym d.said.session i; handles = sym d.handles i; sizes = sym d.sizes i; output = sym d.said.text.bytes i }
 
 -- ── a turn ──
@@ -91,10 +92,10 @@ module _ (m : Machine) (input : List ℕ) (g : Fed) (handles sizes output : List
       rw (at-is, reader-is) (to_the_end m n input g.taken (omega arith) follows)
 
   -- the line is answered
-  pub turn-line : s.at < length input → (command : Command) → command ≡ finished s.reader → (r : Answered) (h z o : List ℕ) → Did (outcome g.runner.session handles sizes command) r h z output o g.written → fed m (take (s.at + 1) input) ≡ machine (record { session = r.session; reader = begun }) h z (take r.end o)
-  turn-line k command c r h z o d =
+  pub turn-line : s.at < length input → (command : Option Command) → command ≡ finished s.reader → (t : Session) (h z : List ℕ) (x y : Output) → x.end ≡ g.written → x.bytes.now ≡ output → Did (outcome g.runner.session handles sizes command) t h z x y → fed m (take (s.at + 1) input) ≡ machine (record { session = t; reader = begun }) h z (take y.end y.bytes.now)
+  turn-line k command c t h z x y end-is bytes-are d =
       let n = machine g.runner handles sizes (take g.written output) in
       let k' : g.taken + line_end (drop g.taken input) < length input = omega arith in
       let line : fed m (take (s.at + 1) input) ≡ line_fed (reading n s.reader) = rw (at-is, reader-is) (past-the-newline m n input g.taken (omega arith) follows k') in
-      let done : answer_line n.run (finished s.reader) ≡ record { session = r.session; handles = h; sizes = z; output = take r.end o } = rw (← c) (answered-is g.runner.session handles sizes command r h z output o g.written d) in
+      let done = rw (c, end-is, bytes-are) at (answered-is g.runner.session t handles sizes command h z x y d) in
       line ∙ ap (λ (run : ScriptRun). reading (record { run = run; reader = begun }) begun) done

@@ -1,7 +1,7 @@
 -- A command answered by the queue's rules.
-use Rattle.std.specs.Prelude.{List, ◌++◌, [], ℕ, ◌+◌, ◌-◌, ◌^◌, min, drop, take}
+use Rattle.std.specs.Prelude.{List, ◌++◌, [], Option, None, Some, ℕ, ◌+◌, ◌-◌, ◌^◌, min, drop, take}
 use Rattle.script_command.specs.declared.Command.{Command}
-use Rattle.script_command.specs.declared.Command.TheVariants.{Bad, Configure, Arrival, Departure, Tick}
+use Rattle.script_command.specs.declared.Command.TheVariants.{Configure, Arrival, Departure, Tick}
 use Rattle.ring.specs.Answer.{Reply}
 use Rattle.ring.specs.Arrival.{arrival, stored}
 use Rattle.ring.specs.Departure.{departure}
@@ -50,12 +50,12 @@ refused_line s handles sizes =
     }
 
 -- the first line: a `c`, whose start clock is 0; the queue is plain (Q-12)
-unfoldable pub first_line : Session → (handles sizes : List ℕ) → Command → Outcome
-first_line s handles sizes Bad = refused_line s handles sizes
-first_line s handles sizes (Configure target buffer slots) = replied s (fresh (settings_of target buffer slots 0) 0) handles sizes
-first_line s handles sizes (Arrival clock handle size ecn u) = refused_line s handles sizes
-first_line s handles sizes (Departure clock) = refused_line s handles sizes
-first_line s handles sizes (Tick clock) = refused_line s handles sizes
+unfoldable pub first_line : Session → (handles sizes : List ℕ) → Option Command → Outcome
+first_line s handles sizes None = refused_line s handles sizes
+first_line s handles sizes (Some (Configure target buffer slots)) = replied s (fresh (settings_of target buffer slots 0) 0) handles sizes
+first_line s handles sizes (Some (Arrival clock handle size ecn u)) = refused_line s handles sizes
+first_line s handles sizes (Some (Departure clock)) = refused_line s handles sizes
+first_line s handles sizes (Some (Tick clock)) = refused_line s handles sizes
 
 abbrev pub arrival_line : Session → (handles sizes : List ℕ) → Reply → (slots handle size : ℕ) → Outcome
 arrival_line s handles sizes r slots handle size =
@@ -64,21 +64,21 @@ arrival_line s handles sizes r slots handle size =
     (stored s.state r.answer (take slots sizes) size ++ drop slots sizes)
 
 -- a later line: no `c`
-unfoldable pub later_line : Session → (handles sizes : List ℕ) → Command → Outcome
-later_line s handles sizes Bad = refused_line s handles sizes
-later_line s handles sizes (Configure target buffer slots) = refused_line s handles sizes
-later_line s handles sizes (Arrival clock handle size ecn u) =
+unfoldable pub later_line : Session → (handles sizes : List ℕ) → Option Command → Outcome
+later_line s handles sizes None = refused_line s handles sizes
+later_line s handles sizes (Some (Configure target buffer slots)) = refused_line s handles sizes
+later_line s handles sizes (Some (Arrival clock handle size ecn u)) =
     let slots = s.state.settings.slots in
     arrival_line s handles sizes (arrival s.state (take slots handles) (take slots sizes) clock size ecn u) slots handle size
-later_line s handles sizes (Departure clock) =
+later_line s handles sizes (Some (Departure clock)) =
     let slots = s.state.settings.slots in
     replied s (departure s.state (take slots handles) (take slots sizes) clock) handles sizes
-later_line s handles sizes (Tick clock) = replied s (tick s.state clock) handles sizes
+later_line s handles sizes (Some (Tick clock)) = replied s (tick s.state clock) handles sizes
 
-abbrev pub at_stage : Stage → Session → (handles sizes : List ℕ) → Command → Outcome
+abbrev pub at_stage : Stage → Session → (handles sizes : List ℕ) → Option Command → Outcome
 at_stage First s handles sizes command = first_line s handles sizes command
 at_stage Running s handles sizes command = later_line s handles sizes command
 at_stage Ended s handles sizes command = record { session = s; handles = handles; sizes = sizes; text = [] }
 
-unfoldable pub outcome : Session → (handles sizes : List ℕ) → Command → Outcome
+unfoldable pub outcome : Session → (handles sizes : List ℕ) → Option Command → Outcome
 outcome s handles sizes command = at_stage s.stage s handles sizes command

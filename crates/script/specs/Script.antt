@@ -1,6 +1,6 @@
 -- A script: what it writes.
 use mathlib.Core.List.{List, [], ◌++◌, foldl, map}
-use Rattle.std.specs.Prelude.{ℕ, replicate}
+use Rattle.std.specs.Prelude.{ℕ, Option, replicate}
 use Rattle.script_command.specs.Line.{read_line}
 use Rattle.script_command.specs.declared.Command.{Command}
 use Rattle.ring.specs.Fresh.{zero_state}
@@ -26,7 +26,7 @@ no_packets = replicate 4096 0
 abbrev pub start_run : ScriptRun
 start_run = record { session = start_session; handles = no_packets; sizes = no_packets; output = [] }
 
-unfoldable pub answer_line : ScriptRun → Command → ScriptRun
+unfoldable pub answer_line : ScriptRun → Option Command → ScriptRun
 answer_line r command =
     let o = outcome r.session r.handles r.sizes command in
     record { session = o.session; handles = o.handles; sizes = o.sizes; output = r.output ++ o.text }

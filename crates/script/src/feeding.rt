@@ -3,11 +3,14 @@ ghost use Rattle.std.specs.Prelude.{◌≡◌, cond, not, true, [], ◌+◌, ◌
 ghost use Rattle.script.specs.Feeding.{end_fed, has_ended, machine, room, start_runner, stops};
 ghost use Rattle.script.specs.Turn.{Follows};
 
-use crate::answering::answer;
 use crate::{Fed, Runner, Session, Stage};
+use decimal::Output;
 use lines::{Reader, scan};
 use ring::State;
 use units::{Bytes, Micros};
+
+// Room that is enough for any output line.
+const ROOM: usize = 128;
 
 // A runner at the start of a script.
 pub fn begin() -> Runner
@@ -15,11 +18,10 @@ pub fn begin() -> Runner
 {
     // Refused, so that the state is the all-zero record.
     let none = State::fresh(Micros(0), Bytes(0), 0, 0, Micros(0));
-    let state = none.state;
     let session = Session {
         stage: Stage::First,
         line: 1,
-        state,
+        state: none.state,
     };
     Runner {
         session,
@@ -27,33 +29,21 @@ pub fn begin() -> Runner
     }
 }
 
-fn has_ended(stage: Stage) -> bool
-    ensures { result ≡ has_ended stage }
-{
-    match stage {
-        Stage::First => false,
-        Stage::Running => false,
-        Stage::Ended => true,
-    }
-}
-
 // Whether a bad line has ended the run: what follows it need not be read.
 pub fn is_over(runner: Runner) -> bool
     ensures { result ≡ has_ended runner.session.stage }
 {
-    let session = runner.session;
-    let stage = session.stage;
-    has_ended(stage)
+    runner.session.stage == Stage::Ended
 }
 
 // Whether no more is to be taken.
-fn is_stopped(session: Session, taken: usize, input: usize, written: usize, output: usize) -> bool
+fn is_stopped(stage: Stage, taken: usize, input: usize, written: usize, output: usize) -> bool
     requires { written ≤ output }
-    ensures { result ≡ stops taken input session.stage written output }
+    ensures { result ≡ stops taken input stage written output }
 {
-    let stage = session.stage;
     let left = output - written;
-    (taken == input) | has_ended(stage) | (left < 128)
+    let ended = stage == Stage::Ended;
+    (taken == input) | ended | (left < ROOM)
 }
 
 // Takes input until it is used up, the run has ended or the output has no room for another line.
@@ -75,17 +65,17 @@ pub fn feed(
     let mut reader = runner.reader;
     let mut taken = 0;
     let mut written = 0;
-    while !is_stopped(session, taken, input.len(), written, output.len()) {
+    while !is_stopped(session.stage, taken, input.len(), written, output.len()) {
         let scanned = scan(reader, input, taken);
         reader = scanned.reader;
         taken = scanned.at;
         if taken < input.len() {
             let read = script_command::finish(reader);
-            let answered = answer(session, read, handles, sizes, output, written);
-            session = answered.session;
+            let mut out = Output::at(output, written);
+            session.answer(read, handles, sizes, &mut out);
             reader = Reader::begin();
             taken += 1;
-            written = answered.end;
+            written = out.end();
         }
     }
     Fed {
@@ -107,30 +97,22 @@ pub fn finish(runner: Runner, handles: &mut [u32], sizes: &mut [u32], output: &m
         taken: 0,
         written: 0,
     };
-    if output.len() < 128 {
+    if output.len() < ROOM {
         return none;
     }
-    let reader = runner.reader;
-    let empty = reader.is_empty();
-    if empty {
+    if runner.reader.is_empty() {
         return none;
     }
-    let session = runner.session;
-    let answered = answer(
-        session,
-        script_command::finish(reader),
-        handles,
-        sizes,
-        output,
-        0,
-    );
-    let session = answered.session;
+    let read = script_command::finish(runner.reader);
+    let mut session = runner.session;
+    let mut out = Output::at(output, 0);
+    session.answer(read, handles, sizes, &mut out);
     Fed {
         runner: Runner {
             session,
             reader: Reader::begin(),
         },
         taken: 0,
-        written: answered.end,
+        written: out.end(),
     }
 }

@@ -9,7 +9,7 @@ mod feeding;
 
 pub use feeding::{begin, feed, finish, is_over};
 
-#[derive(Clone, Copy)]
+#[derive(Clone, Copy, PartialEq, Eq)]
 pub enum Stage {
     // No line is answered.
     First,
@@ -31,13 +31,6 @@ pub struct Runner {
     pub session: Session,
     // What is read of the next line.
     pub reader: Reader,
-}
-
-// The session after a line, and where its output ends.
-#[derive(Clone, Copy)]
-pub struct Answered {
-    pub session: Session,
-    pub end: usize,
 }
 
 // How many bytes of the input are taken, and how many of the output are written.

@@ -1,7 +1,8 @@
 // The command that a line of a script is, for the ring queue.
 #![tactic(auto)]
 
-ghost use Rattle.std.specs.Prelude.{◌≡◌};
+ghost use Rattle.std.specs.Prelude.{◌≡◌, Some, None, cond, leb, eqb};
+ghost use Rattle.lines.specs.Forms as forms;
 ghost use Rattle.lines.specs.Reader.{numbers_in};
 ghost use Rattle.script_command.specs.Forms.{command_of};
 ghost use Rattle.script_command.specs.Reader.{finished};
@@ -10,8 +11,6 @@ use lines::{Phase, Reader};
 
 #[derive(Clone, Copy)]
 pub enum Command {
-    // No command has this form.
-    Bad,
     Configure {
         target: u32,
         buffer: u32,
@@ -32,96 +31,78 @@ pub enum Command {
     },
 }
 
-const WORD: u64 = 4_294_967_295;
+// A number of 32 bits.
+fn word(number: u64) -> Option<u32>
+    ensures { result ≡ cond (leb number forms.word) (Some number) None }
+{
+    u32::try_from(number).ok()
+}
 
 // c target buffer slots
-fn configure(reader: Reader) -> Command
+#[tactic(auto, unfolding(crate::specs::Forms::command_of))]
+fn configure(reader: Reader) -> Option<Command>
     ensures { result ≡ command_of 99 (numbers_in reader) }
 {
-    if reader.count != 2 {
-        return Command::Bad;
+    if reader.count != 2 || reader.value > 4096 {
+        return None;
     }
-    let fits = (reader.fifth <= WORD) & (reader.sixth <= WORD) & (reader.value <= 4096);
-    if fits {
-        return Command::Configure {
-            target: reader.fifth as u32,
-            buffer: reader.sixth as u32,
-            slots: reader.value as u32,
-        };
-    }
-    Command::Bad
+    let [_, _, _, _, target, buffer] = reader.fields;
+    Some(Command::Configure {
+        target: word(target)?,
+        buffer: word(buffer)?,
+        slots: reader.value as u32,
+    })
 }
 
 // a clock handle size ecn u
-fn arrival(reader: Reader) -> Command
+#[tactic(auto, unfolding(crate::specs::Forms::command_of))]
+fn arrival(reader: Reader) -> Option<Command>
     ensures { result ≡ command_of 97 (numbers_in reader) }
 {
-    if reader.count != 4 {
-        return Command::Bad;
+    let [_, _, clock, handle, size, ecn] = reader.fields;
+    if reader.count != 4 || ecn > 1 {
+        return None;
     }
-    let fits = (reader.fourth <= WORD)
-        & (reader.fifth <= WORD)
-        & (reader.sixth <= 1)
-        & (reader.value <= WORD);
-    if fits {
-        return Command::Arrival {
-            clock: reader.third,
-            handle: reader.fourth as u32,
-            size: reader.fifth as u32,
-            ecn: reader.sixth == 1,
-            u: reader.value as u32,
-        };
-    }
-    Command::Bad
+    Some(Command::Arrival {
+        clock,
+        handle: word(handle)?,
+        size: word(size)?,
+        ecn: ecn == 1,
+        u: word(reader.value)?,
+    })
 }
 
-// d clock
-fn departure(reader: Reader) -> Command
-    ensures { result ≡ command_of 100 (numbers_in reader) }
+// d clock, or t clock
+fn clock(reader: Reader) -> Option<u64>
+    ensures { result ≡ cond (eqb reader.count 0) (Some reader.value) None }
 {
-    if reader.count != 0 {
-        return Command::Bad;
-    }
-    Command::Departure {
-        clock: reader.value,
-    }
+    (reader.count == 0).then_some(reader.value)
 }
 
-// t clock
-fn tick(reader: Reader) -> Command
-    ensures { result ≡ command_of 116 (numbers_in reader) }
-{
-    if reader.count != 0 {
-        return Command::Bad;
-    }
-    Command::Tick {
-        clock: reader.value,
-    }
-}
-
-fn by_letter(reader: Reader) -> Command
+#[tactic(auto, unfolding(crate::specs::Forms::command_of))]
+fn by_letter(reader: Reader) -> Option<Command>
     ensures { result ≡ command_of reader.letter (numbers_in reader) }
 {
-    let letter = reader.letter;
-    match letter {
+    match reader.letter {
         b'a' => arrival(reader),
-        b'd' => departure(reader),
-        b't' => tick(reader),
+        b'd' => Some(Command::Departure {
+            clock: clock(reader)?,
+        }),
+        b't' => Some(Command::Tick {
+            clock: clock(reader)?,
+        }),
         b'c' => configure(reader),
-        _ => Command::Bad,
+        _ => None,
     }
 }
 
 // The command that the reader has read, at the end of a line.
-pub fn finish(reader: Reader) -> Command
+#[tactic(auto, unfolding(crate::specs::Reader::finished, lines::specs::Reader::command_read))]
+pub fn finish(reader: Reader) -> Option<Command>
     ensures { result ≡ finished reader }
 {
-    let phase = reader.phase;
-    match phase {
+    match reader.phase {
         Phase::Digits => by_letter(reader),
-        Phase::Start => Command::Bad,
-        Phase::Letter => Command::Bad,
-        Phase::Gap => Command::Bad,
-        Phase::Spoiled => Command::Bad,
+        Phase::Start | Phase::Letter | Phase::Gap | Phase::Spoiled => None,
     }
 }

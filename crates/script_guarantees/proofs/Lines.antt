@@ -3,12 +3,13 @@ use mathlib.Core.Path.{◌≡◌, refl, sym, ap, ◌∙◌}
 use mathlib.Core.Bool.{Bool, cond}
 use mathlib.Core.List.{List, [], ◌∷◌, ◌++◌, append_assoc, append-nil, flat_map, foldl}
 use mathlib.Core.Logic.{⊎_elim}
+use Rattle.std.proofs.Common.{Option, None, Some}
 use Prim.Native.Nat.{ℕ, zero, suc, ◌+◌, ◌-◌, ◌^◌, ◌≤◌, min}
 use native.Mathlib.Omega.{arith}
 use lib.ListN.{length}
 use lib.Seq.{drop_at, take_at}
 use Rattle.script_command.specs.declared.Command.{Command}
-use Rattle.script_command.specs.declared.Command.TheVariants.{Bad, Configure, Arrival, Departure, Tick}
+use Rattle.script_command.specs.declared.Command.TheVariants.{Configure, Arrival, Departure, Tick}
 use Rattle.ring.specs.Arrival.{arrival, arrival_refusal}
 use Rattle.ring.specs.Departure.{departure, departure_refusal}
 use Rattle.ring.specs.Fresh.{zero_state}
@@ -36,10 +37,10 @@ running line spare q output =
       output = output;
     }
 
-abbrev pub command_for : Request → Command
-command_for (ask_arrival clock handle size ecn u) = Arrival clock handle size ecn u
-command_for (ask_departure clock) = Departure clock
-command_for (ask_tick clock) = Tick clock
+abbrev pub command_for : Request → Option Command
+command_for (ask_arrival clock handle size ecn u) = Some (Arrival clock handle size ecn u)
+command_for (ask_departure clock) = Some (Departure clock)
+command_for (ask_tick clock) = Some (Tick clock)
 
 module _ (line : ℕ) (spare : List ℕ) (q : Queue) (output : List ℕ) where
   abbrev Answers : Request → Type 0
@@ -84,11 +85,11 @@ ended line spare q output =
       output = output;
     }
 
-ended-line : (r : ScriptRun) (command : Command) → r.session.stage ≡ Ended → answer_line r command ≡ r
+ended-line : (r : ScriptRun) (command : Option Command) → r.session.stage ≡ Ended → answer_line r command ≡ r
 unfolding answer_line outcome
 ended-line r command e = rw (e, append-nil)
 
-pub ended-lines : (r : ScriptRun) (commands : List Command) → r.session.stage ≡ Ended → foldl answer_line r commands ≡ r
+pub ended-lines : (r : ScriptRun) (commands : List (Option Command)) → r.session.stage ≡ Ended → foldl answer_line r commands ≡ r
 ended-lines r [] e = refl
 ended-lines r (command ∷ commands) e = rw (ended-line r command e) (ended-lines r commands e)
 
@@ -140,17 +141,17 @@ left_by line spare q output body =
     (output ++ (flat_map line_text (trace_of q body.requests) ++ cond body.bad (bad_text n) []))
 
 module _ (spare : List ℕ) where
-  abbrev Leaves : List Command → Type 0
+  abbrev Leaves : List (Option Command) → Type 0
   Leaves commands =
       (line : ℕ) (q : Queue) (output : List ℕ) → Lent q →
       foldl answer_line (running line spare q output) commands ≡ left_by line spare q output (body_of commands)
 
-  bad-line : (commands : List Command) (command : Command) (line : ℕ) (q : Queue) (output : List ℕ) →
+  bad-line : (commands : List (Option Command)) (command : Option Command) (line : ℕ) (q : Queue) (output : List ℕ) →
       answer_line (running line spare q output) command ≡ ended line spare q (output ++ bad_text line) →
       foldl answer_line (running line spare q output) (command ∷ commands) ≡ ended line spare q (output ++ bad_text line)
   bad-line commands command line q output e = rw e (ended-lines (ended line spare q (output ++ bad_text line)) commands refl)
 
-  good-line : (r : Request) (commands : List Command) → Leaves commands →
+  good-line : (r : Request) (commands : List (Option Command)) → Leaves commands →
       (line : ℕ) (q : Queue) (output : List ℕ) → Lent q →
       foldl answer_line (running line spare q output) (command_for r ∷ commands) ≡ left_by line spare q output (asking r (body_of commands))
   good-line r commands ih line q output l =
@@ -162,13 +163,13 @@ module _ (spare : List ℕ) where
       ∙ ap (stopped n spare (foldl after (after q r) b.requests) b.bad)
       (text-on q r b.requests output (cond b.bad (bad_text n) [])))
 
-  pub lines-leave : (commands : List Command) → Leaves commands
+  pub lines-leave : (commands : List (Option Command)) → Leaves commands
   unfolding answer_line outcome later_line flat_map
   lines-leave [] line q output l = ap (running line spare q) (sym (append-nil output))
-  lines-leave (Bad ∷ commands) line q output l = bad-line commands Bad line q output refl
-  lines-leave (Configure target buffer slots ∷ commands) line q output l =
-      bad-line commands (Configure target buffer slots) line q output refl
-  lines-leave (Arrival clock handle size ecn u ∷ commands) line q output l =
+  lines-leave (None ∷ commands) line q output l = bad-line commands None line q output refl
+  lines-leave (Some (Configure target buffer slots) ∷ commands) line q output l =
+      bad-line commands (Some (Configure target buffer slots)) line q output refl
+  lines-leave (Some (Arrival clock handle size ecn u) ∷ commands) line q output l =
       good-line (ask_arrival clock handle size ecn u) commands (lines-leave commands) line q output l
-  lines-leave (Departure clock ∷ commands) line q output l = good-line (ask_departure clock) commands (lines-leave commands) line q output l
-  lines-leave (Tick clock ∷ commands) line q output l = good-line (ask_tick clock) commands (lines-leave commands) line q output l
+  lines-leave (Some (Departure clock) ∷ commands) line q output l = good-line (ask_departure clock) commands (lines-leave commands) line q output l
+  lines-leave (Some (Tick clock) ∷ commands) line q output l = good-line (ask_tick clock) commands (lines-leave commands) line q output l

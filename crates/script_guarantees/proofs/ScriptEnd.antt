@@ -2,12 +2,13 @@
 use mathlib.Core.Path.{◌≡◌, refl, sym, ap, ◌∙◌}
 use mathlib.Core.Bool.{cond}
 use mathlib.Core.List.{List, [], ◌∷◌, ◌++◌, foldl, map}
+use Rattle.std.proofs.Common.{Option, None, Some}
 use Prim.Native.Nat.{ℕ, ◌+◌, ◌-◌, ◌^◌, ◌≤◌}
 use native.Mathlib.Omega.{arith}
 use lib.ListN.{length, replicate, replicate-append-replicate}
 use Rattle.script_command.specs.Line.{read_line}
 use Rattle.script_command.specs.declared.Command.{Command}
-use Rattle.script_command.specs.declared.Command.TheVariants.{Bad, Configure, Arrival, Departure, Tick}
+use Rattle.script_command.specs.declared.Command.TheVariants.{Configure, Arrival, Departure, Tick}
 use Rattle.ring.specs.Fresh.{fresh, settings_of, zero_state}
 use Rattle.ring.specs.declared.State.{State}
 use Rattle.script_answers.specs.Output.{bad_text, reply_text}
@@ -38,8 +39,8 @@ unbegun output =
       output = output;
     }
 
-module _ (command : Command) (e : answer_line start_run command ≡ unbegun (bad_text 1)) where
-  unbegun-lines : (commands : List Command) → foldl answer_line start_run (command ∷ commands) ≡ unbegun (bad_text 1)
+module _ (command : Option Command) (e : answer_line start_run command ≡ unbegun (bad_text 1)) where
+  unbegun-lines : (commands : List (Option Command)) → foldl answer_line start_run (command ∷ commands) ≡ unbegun (bad_text 1)
   unbegun-lines commands =
       ap (λ (r : ScriptRun). foldl answer_line r commands) e ∙ ended-lines (unbegun (bad_text 1)) commands refl
 
@@ -63,7 +64,7 @@ tabled line state output table =
     record { session = record { stage = Running; line = line; state = state }; handles = table; sizes = table; output = output }
 
 module _ (target buffer slots : ℕ) (few : slots ≤ 4096) where
-  configured : answer_line start_run (Configure target buffer slots)
+  configured : answer_line start_run (Some (Configure target buffer slots))
       ≡ running 2 (zeros (4096 - slots)) (opened target buffer slots) (reply_text (fresh (settings_of target buffer slots 0) 0))
   unfolding answer_line outcome first_line
   configured =
@@ -85,8 +86,8 @@ module _ (target buffer slots : ℕ) (few : slots ≤ 4096) where
       })
       (sym (queue-after (begin (settings_of target buffer slots 0) 0 (zeros slots) (zeros slots)) body.requests)))
 
-  configured-lines : (commands : List Command) →
-      foldl answer_line start_run (Configure target buffer slots ∷ commands) ≡ end_of (started target buffer slots (body_of commands))
+  configured-lines : (commands : List (Option Command)) →
+      foldl answer_line start_run (Some (Configure target buffer slots) ∷ commands) ≡ end_of (started target buffer slots (body_of commands))
   configured-lines commands =
       let q = opened target buffer slots in
       let text = reply_text (fresh (settings_of target buffer slots 0) 0) in
@@ -96,14 +97,14 @@ module _ (target buffer slots : ℕ) (few : slots ≤ 4096) where
 
 -- ── any script ──
 
-first-then-lines : (command : Command) (commands : List Command) → FewSlots command →
+first-then-lines : (command : Option Command) (commands : List (Option Command)) → FewSlots command →
     foldl answer_line start_run (command ∷ commands) ≡ end_of (asked_by (command ∷ commands))
 unfolding answer_line outcome first_line
-first-then-lines Bad commands few = unbegun-lines Bad refl commands
-first-then-lines (Configure target buffer slots) commands few = configured-lines target buffer slots few commands
-first-then-lines (Arrival clock handle size ecn u) commands few = unbegun-lines (Arrival clock handle size ecn u) refl commands
-first-then-lines (Departure clock) commands few = unbegun-lines (Departure clock) refl commands
-first-then-lines (Tick clock) commands few = unbegun-lines (Tick clock) refl commands
+first-then-lines None commands few = unbegun-lines None refl commands
+first-then-lines (Some (Configure target buffer slots)) commands few = configured-lines target buffer slots few commands
+first-then-lines (Some (Arrival clock handle size ecn u)) commands few = unbegun-lines (Some (Arrival clock handle size ecn u)) refl commands
+first-then-lines (Some (Departure clock)) commands few = unbegun-lines (Some (Departure clock)) refl commands
+first-then-lines (Some (Tick clock)) commands few = unbegun-lines (Some (Tick clock)) refl commands
 
 of-lines : (lines : List (List ℕ)) → foldl answer_line start_run (map read_line lines) ≡ end_of (asked_by (map read_line lines))
 of-lines [] = refl

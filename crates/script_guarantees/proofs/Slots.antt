@@ -2,6 +2,7 @@
 use mathlib.Core.Path.{◌≡◌}
 use mathlib.Core.Bool.{true, cond, ◌&&◌}
 use mathlib.Core.List.{List, [], ◌∷◌, map}
+use Rattle.std.proofs.Common.{Option, None, Some}
 use Prim.Native.Nat.{ℕ, ◌≤◌}
 use native.Mathlib.Omega.{arith}
 use borrow.Author.Tests.{leb-true}
@@ -17,14 +18,14 @@ use Rattle.script_command.specs.Line.{read_line}
 use Rattle.lines.specs.Numbers.{value_of}
 use Rattle.lines.specs.Words.{words_of}
 use Rattle.script_command.specs.declared.Command.{Command}
-use Rattle.script_command.specs.declared.Command.TheVariants.{Bad, Configure, Arrival, Departure, Tick}
+use Rattle.script_command.specs.declared.Command.TheVariants.{Configure, Arrival, Departure, Tick}
 
-abbrev pub FewSlots : Command → Type 0
-FewSlots Bad = Unit {0}
-FewSlots (Configure target buffer slots) = slots ≤ 4096
-FewSlots (Arrival clock handle size ecn u) = Unit {0}
-FewSlots (Departure clock) = Unit {0}
-FewSlots (Tick clock) = Unit {0}
+abbrev pub FewSlots : Option Command → Type 0
+FewSlots None = Unit {0}
+FewSlots (Some (Configure target buffer slots)) = slots ≤ 4096
+FewSlots (Some (Arrival clock handle size ecn u)) = Unit {0}
+FewSlots (Some (Departure clock)) = Unit {0}
+FewSlots (Some (Tick clock)) = Unit {0}
 
 third-fits : (numbers : List ℕ) → fits (word ∷ word ∷ 4096 ∷ []) numbers ≡ true → get_or numbers 2 0 ≤ 4096
 third-fits [] e = omega arith
@@ -35,24 +36,24 @@ third-fits (a ∷ b ∷ c ∷ rest) e =
     leb-true c 4096 (and_right (leb a word && leb b word) (leb c 4096) (and_right (eqb (length (a ∷ b ∷ c ∷ rest)) 3) tests e))
 
 -- what fits a form
-abbrev Few : Form Command → Type 0
+abbrev Few : Form (Option Command) → Type 0
 Few form = (numbers : List ℕ) → fits form.most numbers ≡ true → FewSlots (form.make numbers)
 
-forms-few : (fs : List (Form Command)) → Every Few fs → (letter : ℕ) (numbers : List ℕ) → FewSlots (formed Bad fs letter numbers)
+forms-few : (fs : List (Form (Option Command))) → Every Few fs → (letter : ℕ) (numbers : List ℕ) → FewSlots (formed None fs letter numbers)
 forms-few [] all letter numbers = tt
 forms-few (form ∷ rest) all letter numbers =
-    either FewSlots (eqb letter form.letter) (cond (fits form.most numbers) (form.make numbers) Bad) (formed Bad rest letter numbers)
-    (at-cond FewSlots (fits form.most numbers) {a = form.make numbers} {b = Bad} (all.0 numbers) (λ e. tt))
+    either FewSlots (eqb letter form.letter) (cond (fits form.most numbers) (form.make numbers) None) (formed None rest letter numbers)
+    (at-cond FewSlots (fits form.most numbers) {a = form.make numbers} {b = None} (all.0 numbers) (λ e. tt))
     (forms-few rest all.1 letter numbers)
 
 form-few : (letter : ℕ) (numbers : List ℕ) → FewSlots (command_of letter numbers)
 unfolding command_of
 form-few letter numbers = forms-few forms (third-fits, (λ n e. tt, (λ n e. tt, (λ n e. tt, tt)))) letter numbers
 
-words-few : (first : List ℕ) (fields : List (List ℕ)) → FewSlots (words_read Bad command_of first fields)
+words-few : (first : List ℕ) (fields : List (List ℕ)) → FewSlots (words_read None command_of first fields)
 words-few [] fields = tt
 words-few (letter ∷ []) fields =
-    either FewSlots (are_numbers fields) (command_of letter (map value_of fields)) Bad (form-few letter (map value_of fields)) tt
+    either FewSlots (are_numbers fields) (command_of letter (map value_of fields)) None (form-few letter (map value_of fields)) tt
 words-few (letter ∷ more ∷ rest) fields = tt
 
 pub line-few : (line : List ℕ) → FewSlots (read_line line)

@@ -7,7 +7,7 @@ use lib.Dec.{eqb}
 use lib.ListN.{drop, take}
 use lib.Seq.{take-add}
 use Rattle.lines.specs.Reader.{pushed}
-use Rattle.script_program.specs.Feeds.{Feeds}
+use Rattle.script_program.specs.Feeds.{Feeds, FeedsSome}
 use Rattle.script.specs.Feeding.{Machine, byte_fed, fed, line_fed, machine}
 use Rattle.script.specs.Pieces.{emptied}
 use Rattle.script.specs.Script.{answer_line}
@@ -47,3 +47,7 @@ feeds-then r s t handles sizes h z h' z' input at taken p q =
   where
     whole : (m : Machine) (a b : List ℕ) → fed m (a ++ b) ≡ fed (fed m a) b
     whole m a b = unfold fed in foldl-append byte_fed m a b
+
+pub some-then : (r s t : Runner) (handles sizes h z h' z' input : List ℕ) (at : ℕ) → Feeds r handles sizes input at s h z → FeedsSome s h z (drop at input) t h' z' → FeedsSome r handles sizes input t h' z'
+some-then r s t handles sizes h z h' z' input at p q =
+    record { taken = at + q.taken; feeds = feeds-then r s t handles sizes h z h' z' input at q.taken p q.feeds }

@@ -8,3 +8,8 @@ use Rattle.script.specs.declared.Runner.{Runner}
 abbrev pub Feeds : Runner → (handles sizes input : List ℕ) (taken : ℕ) → Runner → (h z : List ℕ) → Type 0
 Feeds r handles sizes input taken s h z =
     emptied (fed (machine r handles sizes []) (take taken input)) ≡ machine s h z []
+
+-- some bytes are taken so
+pub record FeedsSome (r : Runner) (handles sizes input : List ℕ) (s : Runner) (h z : List ℕ) : Type 0 where
+  pub taken : ℕ
+  pub feeds : Feeds r handles sizes input taken s h z

@@ -1,78 +1,56 @@
 // Runs the script on standard input and writes its answers to standard output.
 #![tactic(auto)]
 
-ghost use Rattle.std.specs.Prelude.{◌≡◌, true, ◌≤◌, length};
-ghost use Rattle.script_program.specs.Feeds.{Feeds};
+ghost use Rattle.std.specs.Prelude.{◌≡◌, true, ◌≤◌, length, IfSome};
+ghost use Rattle.script_program.specs.Feeds.{Feeds, FeedsSome};
 
 use script::Runner;
 use std::io::Read;
 
-// What input leaves: how much of it is taken, and whether more is to be fed.
-#[derive(Clone, Copy)]
-struct Progress {
-    runner: Runner,
-    taken: usize,
-    more: bool,
-}
-
-// Feeds input until the output has no room for more, and writes that.
+// Feeds input until the output has no room for more, and writes that. Where more is to be fed, it answers how much is taken.
 fn feed_some(
     rt: &impl Print,
-    begun: Runner,
+    runner: &mut Runner,
     handles: &mut [u32],
     sizes: &mut [u32],
     input: &[u8],
     output: &mut [u8],
-) -> Progress
-    ensures taken_in_bounds { result.taken ≤ length input.now }
-    ensures feeds { Feeds begun handles.old sizes.old input.now
-        result.taken result.runner handles.new sizes.new }
+) -> Option<usize>
+    ensures fed { FeedsSome runner.old handles.old sizes.old input.now runner.new handles.new sizes.new }
+    ensures feeds { IfSome result (λ taken. (taken ≤ length input.now) ×
+        Feeds runner.old handles.old sizes.old input.now taken runner.new handles.new sizes.new) }
 {
-    let fed = script::feed(begun, handles, sizes, input, output);
-    let runner = fed.runner;
-    let written = fed.written;
-    let is_written = rt.write_all(&output[..written]).is_ok();
-    let more = is_written & !script::is_over(runner);
-    Progress {
-        runner,
-        taken: fed.taken,
-        more,
-    }
+    let fed = script::feed(*runner, handles, sizes, input, output);
+    *runner = fed.runner;
+    let is_written = rt.write_all(&output[..fed.written]).is_ok();
+    let more = is_written & !script::is_over(fed.runner);
+    more.then_some(fed.taken)
 }
 
-// Feeds a piece of input: all of it, where more is to be fed.
+// Feeds a piece of input, and tells whether more is to be fed: then all of this is.
 fn feed_piece(
     rt: &impl Print,
-    begun: Runner,
+    runner: &mut Runner,
     handles: &mut [u32],
     sizes: &mut [u32],
     input: &[u8],
     output: &mut [u8],
-) -> Progress
-    ensures feeds { Feeds begun handles.old sizes.old input.now
-        result.taken result.runner handles.new sizes.new }
-    ensures input_len_bound { result.more ≡ true → length input.now ≤ result.taken }
+) -> bool
+    ensures fed { FeedsSome runner.old handles.old sizes.old input.now runner.new handles.new sizes.new }
+    ensures feeds { result ≡ true →
+        Feeds runner.old handles.old sizes.old input.now (length input.now) runner.new handles.new sizes.new }
 {
-    let mut runner = begun;
     let mut at = 0;
     while at < input.len() {
-        let some = feed_some(rt, runner, handles, sizes, &input[at..], output);
-        let taken = some.taken;
-        runner = some.runner;
-        at += taken;
-        if (taken == 0) | !some.more {
-            return Progress {
-                runner,
-                taken: at,
-                more: false,
-            };
+        let Some(taken) = feed_some(rt, runner, handles, sizes, &input[at..], output) else {
+            return false;
+        };
+        if taken == 0 {
+            return false;
         }
+        at += taken;
     }
-    Progress {
-        runner,
-        taken: at,
-        more: true,
-    }
+    true
 }
 
 // The end of the input.
@@ -88,24 +66,20 @@ fn finish(
     let _ = rt.write_all(&output[..written]);
 }
 
-// Reads once, and feeds what came. A read that fails is the end of the input.
+// Reads once, feeds what came, and tells whether to read on. A read that fails is the end of the input.
 fn read_piece<R: Read>(
     rt: &impl Print,
     from: &mut R,
-    runner: Runner,
+    runner: &mut Runner,
     handles: &mut [u32],
     sizes: &mut [u32],
     input: &mut [u8],
     output: &mut [u8],
-) -> Progress {
+) -> bool {
     let n = from.read(input).unwrap_or(0);
     if n == 0 {
-        finish(rt, runner, handles, sizes, output);
-        return Progress {
-            runner,
-            taken: 0,
-            more: false,
-        };
+        finish(rt, *runner, handles, sizes, output);
+        return false;
     }
     feed_piece(rt, runner, handles, sizes, &input[..n], output)
 }
@@ -122,11 +96,9 @@ fn run<R: Read>(
 ) {
     let mut runner = script::begin();
     for _ in 0..u64::MAX {
-        let piece = read_piece(rt, from, runner, handles, sizes, input, output);
-        if !piece.more {
+        if !read_piece(rt, from, &mut runner, handles, sizes, input, output) {
             return;
         }
-        runner = piece.runner;
     }
 }
 

@@ -1,5 +1,5 @@
 -- `read_digits`: each turn is the reader's own step.
-use mathlib.Core.Path.{refl}
+use mathlib.Core.Path.{◌≡◌}
 use Prim.Native.Nat.{◌<◌}
 use native.Mathlib.Omega.{arith}
 use lib.ListN.{get_or, length}
@@ -13,8 +13,8 @@ loop-at-init c = (c.requires.1, along-here c.args.input.now c.args.begun c.args.
 pub returns-then-not-clear : goal.returns-then-not-clear
 returns-then-not-clear c = c.loop-at.invariant.1
 
-pub overflow_mul-value : goal.overflow_mul-value
-overflow_mul-value c =
+pub overflow_mul-reader : goal.overflow_mul-reader
+overflow_mul-reader c =
     let l = c.loop-at in
     let input = c.args.input.now in
     let t = c.if-not-clear.false in
@@ -22,8 +22,8 @@ overflow_mul-value c =
     let f = clear-digit byte l.reader.value t in
     omega (arith, f.small)
 
-pub overflow_cast-value : goal.overflow_cast-value
-overflow_cast-value c =
+pub overflow_cast-reader : goal.overflow_cast-reader
+overflow_cast-reader c =
     let l = c.loop-at in
     let input = c.args.input.now in
     let t = c.if-not-clear.false in
@@ -31,8 +31,8 @@ overflow_cast-value c =
     let f = clear-digit byte l.reader.value t in
     omega (arith, f.low, f.high)
 
-pub overflow_sub-value : goal.overflow_sub-value
-overflow_sub-value c =
+pub overflow_sub-reader : goal.overflow_sub-reader
+overflow_sub-reader c =
     let l = c.loop-at in
     let input = c.args.input.now in
     let t = c.if-not-clear.false in
@@ -40,8 +40,8 @@ overflow_sub-value c =
     let f = clear-digit byte l.reader.value t in
     omega (arith, f.low)
 
-pub overflow_add-value : goal.overflow_add-value
-overflow_add-value c =
+pub overflow_add-reader : goal.overflow_add-reader
+overflow_add-reader c =
     let l = c.loop-at in
     let input = c.args.input.now in
     let t = c.if-not-clear.false in
@@ -58,7 +58,10 @@ loop-at-preserved c =
     let f = clear-digit byte l.reader.value t in
     let below : l.at < length input = omega arith in
     let byte-read = rw (digit-pushed l.reader byte l.invariant.0 f.digit f.high f.small) at (along-byte input l.reader l.at below (λ e. omega (arith, f.low, e))) in
-    (refl, along_then input c.args.begun c.args.from _ _ l.invariant.1 byte-read)
+    (l.invariant.0, along_then input c.args.begun c.args.from _ _ l.invariant.1 byte-read)
 
 pub returns : goal.returns
-returns c = c.loop-at.invariant.1
+returns c =
+    let l = c.loop-at in
+    let whole : l.at ≡ length c.args.input.now = omega (arith, c.requires.0) in
+    rw whole at l.invariant.1

@@ -32,8 +32,8 @@ is_stopped-requires c = c.loop-scanned.invariant.4
 pub scan-scanned-requires : goal.scan-scanned-requires
 scan-scanned-requires c = c.loop-scanned.invariant.3
 
-pub answer-answered-requires : goal.answer-answered-requires
-answer-answered-requires c = let l = c.loop-scanned in (goes l.taken (length c.args.input.now) l.session.stage l.written (length l.output) (sym c.is_stopped.ensures ∙ c.loop-scanned-test.true) l.invariant.3 l.invariant.4).roomy
+pub answer-requires : goal.answer-requires
+answer-requires c = let l = c.loop-scanned in rw (c.at-out.ensures.end, c.at-out.ensures.bytes) (goes l.taken (length c.args.input.now) l.session.stage l.written (length l.output) (sym c.is_stopped.ensures ∙ c.loop-scanned-test.true) l.invariant.3 l.invariant.4).roomy
 
 pub overflow_add-taken : goal.overflow_add-taken
 overflow_add-taken c = omega (arith, c.if-taken-input.true)
@@ -50,15 +50,19 @@ loop-scanned-preserved-then-taken-input c =
     let before : Fed = record { runner = record { session = l.session; reader = l.reader }; taken = l.taken; written = l.written } in
     let k = c.if-taken-input.true in
     let f = c.finish-read in
-    let r = c.answer-answered in
+    let out = c.at-out.ensures in
+    let r = c.answer in
+    let text = r.ensures.said.text in
+    let room = rw out.bytes at text.room in
+    let last = c.output-1.given.1.1 (sym (text.buffer ∙ out.same_reference)) in
     let start = machine a.runner a.handles.now a.sizes.now [] in
-    let line = turn-line start a.input.now before l.handles l.sizes l.output g.more l.invariant.5 s.result s.ensures.0 s.ensures.1 k f.result f.ensures r.result _ _ _ r.ensures in (
+    let line = turn-line start a.input.now before l.handles l.sizes l.output g.more l.invariant.5 s.result s.ensures.0 s.ensures.1 k f.result f.ensures _ _ _ c.at-out.result r.new.out out.end out.bytes r.ensures in (
       r.auto.handles ∙ l.invariant.0,
       r.auto.sizes ∙ l.invariant.1,
-      r.auto.out ∙ l.invariant.2,
+      rw last (room ∙ l.invariant.2),
       omega (arith, k),
-      omega (arith, g.roomy, r.ensures.said.short, r.auto),
-      rw c.begin-reader.ensures line,
+      rw last (omega (arith, g.roomy, text.count, text.short, out.end, room, c.end-written.ensures)),
+      rw (c.begin-reader.ensures, c.end-written.ensures, last) line,
     )
 
 pub loop-scanned-smaller : goal.loop-scanned-smaller
