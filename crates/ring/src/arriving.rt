@@ -138,7 +138,7 @@ impl State {
         }
     }
 
-    // A packet of `size` bytes arrives; `u` is its random number.
+    // A packet of `size` bytes arrives; `u` is its random number. Two tables, as C lends them: a struct of both would be made at each call.
     pub fn arrival(
         &mut self,
         handles: &mut [u32],

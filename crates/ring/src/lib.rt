@@ -17,7 +17,7 @@ pub struct Settings {
     pub target: Micros,
     pub buffer: Bytes,
     pub slots: u64,
-    // 0: plain, 1: calm.
+    // 0: plain, 1: calm. A number, since C's record may hold any, and another one is refused.
     pub profile: u64,
 }
 

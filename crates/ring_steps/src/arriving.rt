@@ -27,8 +27,8 @@ use ring_words::{
 };
 use units::Micros;
 
-// Past rule 5: gives the place of the verdict, and writes the accumulated probability. An arm for each verdict: with one write before them
-// the compiler tests the place again (docs/PERFORMANCE.md).
+// Past rule 5: gives the place of the verdict, and writes the accumulated probability. A place and an arm for each verdict, since with
+// verdicts a call of a burst of 32 took 71.4 instructions (one write) or 72.5 (an arm for each) in place of 69.1, at a bar of 70.
 fn draw(w: &mut [u64; 23], ecn: bool, u: u32) -> usize
     requires { (length w.old ≡ 23) × (get_or w.old 5 0 ≤ whole) × (get_or w.old 8 0 < most_accumulated) }
     ensures value { result ≡ place_of (drawn (pie_at w.old 5) ecn u) }
