@@ -125,7 +125,7 @@ fn decide(w: &mut [u64; 16], size: u64, calls: &[u32], at: usize) -> Verdict
     draw(w, bytes, size, calls, at)
 }
 
-// A packet arrives.
+// A packet arrives. This and the other calls answer by the number that a burst hands to C.
 pub fn arrive(
     w: &mut [u64; 16],
     counts: &mut [[u64; 5]; 16],
