@@ -11,9 +11,8 @@ use Rattle.laws.proofs.Choice.{either}
 use Rattle.laws.proofs.Tests.{or-neither}
 use Rattle.units.specs.Kinds.{none}
 use Rattle.pie.specs.Constants.{longest}
-use Rattle.pie.specs.Verdicts.{place_of}
 use Rattle.pie.specs.declared.Verdict.{Verdict}
-use Rattle.pie.specs.declared.Verdict.TheVariants.{DroppedEarly, Enqueued}
+use Rattle.pie.specs.declared.Verdict.TheVariants.{DroppedBytes, DroppedEarly, DroppedSlots, Enqueued}
 use Rattle.docsis_pie.specs.Constants.{high, low, most_prob}
 use Rattle.docsis_pie.specs.DropDecision.{after_drop, cleared, decided, drawn, drawn_with, scaled_of, stays_inactive, summed, with_accumulated}
 use Rattle.docsis_pie.specs.DropDecision.{early, is_small, lightly_loaded, no_longer_inactive}
@@ -65,16 +64,16 @@ module _ (w : List ℕ) (long : length w ≡ 16) (bytes size u : ℕ) where
   light = lightly_loaded (pie_of w) (get_or w 0 0)
 
   -- a verdict's place, and the words after the rules
-  abbrev Draws : (place : ℕ) (after : List ℕ) → Type 0
-  Draws place after =
-      let d = drawn_with summed_here (get_or w 0 0) bytes part u in (place ≡ place_of d.verdict) × (after ≡ pie_words w d.pie)
+  abbrev Draws : (v : Verdict) (after : List ℕ) → Type 0
+  Draws v after =
+      let d = drawn_with summed_here (get_or w 0 0) bytes part u in (v ≡ d.verdict) × (after ≡ pie_words w d.pie)
 
-  enqueues : verdict_here ≡ Enqueued → Draws 0 (set w 8 (min sum high))
+  enqueues : verdict_here ≡ Enqueued → Draws Enqueued (set w 8 (min sum high))
   unfolding drawn_with
   enqueues e = rw e (refl, summed-words part w long)
 
   -- a sum that is not above its limit
-  sums : min sum high ≡ sum → verdict_here ≡ Enqueued → Draws 0 (set w 8 sum)
+  sums : min sum high ≡ sum → verdict_here ≡ Enqueued → Draws Enqueued (set w 8 sum)
   sums same e = let d = enqueues e in (d.0, ap (λ (n : ℕ). set w 8 n) (sym same) ∙ d.1)
 
   verdict-is : verdict_here
@@ -88,18 +87,18 @@ module _ (w : List ℕ) (long : length w ≡ 16) (bytes size u : ℕ) where
   verdict-is = rw (limit-low sum, limit-high sum) refl
 
   -- rule 9
-  pub light-draws : light ≡ true → Draws 0 (set w 8 (min sum high))
+  pub light-draws : light ≡ true → Draws Enqueued (set w 8 (min sum high))
   light-draws e = enqueues (rw e at verdict-is)
 
   -- rule 11
-  pub low-draws : ltb sum low ≡ true → Draws 0 (set w 8 sum)
+  pub low-draws : ltb sum low ≡ true → Draws Enqueued (set w 8 sum)
   low-draws e =
       let h = ltb-true sum low e in
       sums (omega arith) (low-enqueues summed_here (get_or w 0 0) bytes part u (limit-low sum ∙ e))
 
   module _ (loaded : light ≡ false) (more : ltb sum low ≡ false) where
     -- rule 10
-    pub small-draws : is_small bytes ≡ true → Draws 0 (set w 8 (min sum high))
+    pub small-draws : is_small bytes ≡ true → Draws Enqueued (set w 8 (min sum high))
     small-draws e = enqueues (rw (loaded, e) at verdict-is)
 
     module _ (large : is_small bytes ≡ false) where
@@ -107,12 +106,12 @@ module _ (w : List ℕ) (long : length w ≡ 16) (bytes size u : ℕ) where
       drawn-last b e = rw (loaded, large, more) at verdict-is ∙ either-drops (leb high sum) (early part u) b e
 
       -- rules 12, 13 and 15
-      pub early-draws : leb high sum || early part u ≡ true → (after : List ℕ) → after ≡ pie_words w (after_drop (pie_of w)) → Draws 4 after
+      pub early-draws : leb high sum || early part u ≡ true → (after : List ℕ) → after ≡ pie_words w (after_drop (pie_of w)) → Draws DroppedEarly after
       unfolding drawn_with
       early-draws e after k = rw (drawn-last true e) (refl, k)
 
       -- rule 14
-      pub passed-draws : leb high sum || early part u ≡ false → Draws 0 (set w 8 sum)
+      pub passed-draws : leb high sum || early part u ≡ false → Draws Enqueued (set w 8 sum)
       passed-draws e =
           let h = leb-false high sum (or-neither (leb high sum) (early part u) e).0 in sums (omega arith) (drawn-last false e)
 
@@ -134,24 +133,24 @@ module _ (w : List ℕ) (long : length w ≡ 16) where
   some-cleared e = rw e (pie-same w long)
 
 module _ (w : List ℕ) (long : length w ≡ 16) (size u : ℕ) where
-  abbrev pub Decides : (place : ℕ) (after : List ℕ) → Type 0
-  Decides place after =
-      let d = decision_of (state_of w) size u in (place ≡ place_of d.verdict) × (after ≡ pie_words w d.pie)
+  abbrev pub Decides : (v : Verdict) (after : List ℕ) → Type 0
+  Decides v after =
+      let d = decision_of (state_of w) size u in (v ≡ d.verdict) × (after ≡ pie_words w d.pie)
 
   -- rule 1
-  pub bytes-decide : ltb (get_or w 1 0) (get_or w 15 0 + size) ≡ true → Decides 2 (set w 8 0)
+  pub bytes-decide : ltb (get_or w 1 0) (get_or w 15 0 + size) ≡ true → Decides DroppedBytes (set w 8 0)
   unfolding state_of decision_of
   bytes-decide e = rw e (refl, spent-words w long)
 
   module _ (fit : ltb (get_or w 1 0) (get_or w 15 0 + size) ≡ false) where
     -- rule 2
-    pub slots-decide : eqb (get_or w 14 0) (get_or w 2 0) ≡ true → Decides 3 (set w 8 0)
+    pub slots-decide : eqb (get_or w 14 0) (get_or w 2 0) ≡ true → Decides DroppedSlots (set w 8 0)
     unfolding state_of decision_of
     slots-decide e = rw (fit, e) (refl, spent-words w long)
 
     module _ (free : eqb (get_or w 14 0) (get_or w 2 0) ≡ false) where
       -- rule 3
-      pub allowance-decides : ltb 0 (get_or w 10 0) ≡ true → Decides 0 w
+      pub allowance-decides : ltb 0 (get_or w 10 0) ≡ true → Decides Enqueued w
       unfolding state_of decision_of decided
       allowance-decides e = rw (fit, free, e) (refl, pie-same w long)
 
@@ -171,7 +170,7 @@ module _ (w : List ℕ) (long : length w ≡ 16) (size u : ℕ) where
             ∙ stays-cleared (pie_of w) (get_or w 1 0) (get_or w 15 0)
 
         -- rule 5
-        pub stays-decide : stays ≡ true → Decides 0 d
+        pub stays-decide : stays ≡ true → Decides Enqueued d
         unfolding state_of decision_of decided
         stays-decide e =
             rw (fit, free, spent, sym stays-as ∙ e) (
@@ -211,14 +210,14 @@ module _ (w : List ℕ) (long : length w ≡ 16) (size u : ℕ) where
               ∙ ap (λ (t : ℕ). ruled (get_or w 7 0) started t) (ap (λ (l : List ℕ). get_or l 0 0) started-words ∙ pie-target started w long)
 
           -- rules 7 to 15
-          pub drawn-decides : (place : ℕ) (after : List ℕ) →
-              (let r = ruled (get_or d 7 0) (pie_of d) (get_or d 0 0) in (place ≡ place_of r.verdict) × (after ≡ pie_words d r.pie)) →
-              Decides place after
+          pub drawn-decides : (v : Verdict) (after : List ℕ) →
+              (let r = ruled (get_or d 7 0) (pie_of d) (get_or d 0 0) in (v ≡ r.verdict) × (after ≡ pie_words d r.pie)) →
+              Decides v after
           unfolding state_of decision_of decided
-          drawn-decides place after (e, f) =
+          drawn-decides v after (e, f) =
               let r = ruled (get_or d 7 0) (pie_of d) (get_or d 0 0) in
               rw (fit, free, spent, sym stays-as ∙ starts) (
-                e ∙ ap (λ (x : Decided). place_of x.verdict) ruled-same,
+                e ∙ ap (λ (x : Decided). x.verdict) ruled-same,
                 f
                     ∙ ap (λ (l : List ℕ). pie_words l r.pie) started-words
                     ∙ pie-twice started r.pie w long
@@ -226,7 +225,7 @@ module _ (w : List ℕ) (long : length w ≡ 16) (size u : ℕ) where
               )
 
           -- where p is 0, so is the sum
-          pub none-starts : eqb (get_or w 7 0) none ≡ true → Decides 0 d
+          pub none-starts : eqb (get_or w 7 0) none ≡ true → Decides Enqueued d
           unfolding state_of decision_of decided drawn_with
           none-starts z =
               let p : get_or w 7 0 ≡ none = eqb-true (get_or w 7 0) none z in
@@ -253,9 +252,9 @@ module _ (w : List ℕ) (long : length w ≡ 16) (size u : ℕ) where
               (rw prob p, rw sum (cleared-low (pie_of w) a), rw old o)
 
         -- whether it starts or not
-        pub none-decides : eqb (get_or w 7 0) none ≡ true → Decides 0 d
+        pub none-decides : eqb (get_or w 7 0) none ≡ true → Decides Enqueued d
         none-decides z = go stays refl
           where
-            go : (b : Bool) → stays ≡ b → Decides 0 d
+            go : (b : Bool) → stays ≡ b → Decides Enqueued d
             go true e = stays-decide e
             go false e = none-starts e z

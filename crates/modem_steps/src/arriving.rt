@@ -1,7 +1,6 @@
 // An arrival at a flow that is ready for it.
 ghost use Rattle.std.specs.Prelude.{◌≡◌, cond, true, ◌+◌, ◌≤◌, ◌<◌, ◌^◌, get_or, length};
 ghost use Rattle.pie.specs.Constants.{largest, longest};
-ghost use Rattle.pie.specs.Verdicts.{place_of};
 ghost use Rattle.docsis_pie.specs.Constants.{high, most_prob};
 ghost use Rattle.docsis_pie.specs.DropDecision.{after_drop, drawn_with, scaled_of, stays_inactive, summed, no_longer_inactive};
 ghost use Rattle.modem_flow.specs.Arrival.{arrival, decision_of, stored};
@@ -18,9 +17,10 @@ use docsis_pie::{
     Activity, FULL_ALLOWANCE, HIGH, below_third, early, in_allowance, is_low, lightly_loaded,
     limit_sum, scaled, small, sum,
 };
-use modem_words::{Code, Word, raise};
-use pie::{LARGEST, LATEST};
+use modem_words::{Word, raise};
+use pie::{LARGEST, LATEST, Verdict};
 use places::tail_place;
+use refusals::{Refusal, refused};
 use units::{Bytes, Micros, Prob};
 
 // Rule 5: whether the flow stays inactive. Rule 6 where it does not.
@@ -54,15 +54,15 @@ fn drop_early(w: &mut [u64; 16])
     }
 }
 
-// Rules 7 to 15: gives the place of the verdict. Of rules 9 to 11, which all enqueue, those come first that only ticks change or that most
+// Rules 7 to 15: gives the verdict. Of rules 9 to 11, which all enqueue, those come first that only ticks change or that most
 // packets meet.
-fn draw(w: &mut [u64; 16], bytes: u64, size: u64, calls: &[u32], at: usize) -> usize
+fn draw(w: &mut [u64; 16], bytes: u64, size: u64, calls: &[u32], at: usize) -> Verdict
     requires w_len { (length w.old ≡ 16) × (size ≤ largest) × (at + 5 < length calls.now) }
     requires w_bound { (get_or w.old 7 0 ≤ most_prob) × (get_or w.old 8 0 ≤ high) × (get_or w.old 9 0 ≤ longest) }
     ensures { let pie = pie_of w.old in
         let part = scaled_of pie.prob.0 size in
         let d = drawn_with (summed pie part) (get_or w.old 0 0) bytes part (get_or calls.now (at + 4) 0) in
-        (result ≡ place_of d.verdict) × (w.new ≡ pie_words w.old d.pie) }
+        (result ≡ d.verdict) × (w.new ≡ pie_words w.old d.pie) }
 {
     let p = Prob(w[Word::PROB]);
     let part = scaled(p, Bytes(size));
@@ -70,62 +70,62 @@ fn draw(w: &mut [u64; 16], bytes: u64, size: u64, calls: &[u32], at: usize) -> u
     let light = lightly_loaded(p, Micros(w[Word::OLD]), Micros(w[Word::TARGET]));
     if light {
         w[Word::ACCUMULATED] = limit_sum(total).0;
-        return 0;
+        return Verdict::Enqueued;
     }
     let low = is_low(total);
     if low {
         w[Word::ACCUMULATED] = total.0;
-        return 0;
+        return Verdict::Enqueued;
     }
     let little = small(Bytes(bytes));
     if little {
         w[Word::ACCUMULATED] = limit_sum(total).0;
-        return 0;
+        return Verdict::Enqueued;
     }
     let drops = (HIGH <= total.0) | early(part, calls[at + 4]);
     if drops {
         drop_early(w);
-        return 4;
+        return Verdict::DroppedEarly;
     }
     w[Word::ACCUMULATED] = total.0;
-    0
+    Verdict::Enqueued
 }
 
-// Rules 1 to 15: gives the place of the verdict. Where p is 0, rule 11 enqueues whatever the others say.
-fn decide(w: &mut [u64; 16], size: u64, calls: &[u32], at: usize) -> usize
+// Rules 1 to 15: gives the verdict. Where p is 0, rule 11 enqueues whatever the others say.
+fn decide(w: &mut [u64; 16], size: u64, calls: &[u32], at: usize) -> Verdict
     requires { (length w.old ≡ 16) × (formed (state_of w.old) ≡ true) × (size ≤ largest) × (at + 5 < length calls.now) }
     ensures { let d = decision_of (state_of w.old) size (get_or calls.now (at + 4) 0) in
-        (result ≡ place_of d.verdict) × (w.new ≡ pie_words w.old d.pie) }
+        (result ≡ d.verdict) × (w.new ≡ pie_words w.old d.pie) }
 {
     let bytes = w[Word::BYTES];
     let bytes_full = w[Word::BUFFER] < bytes + size;
     if bytes_full {
         w[Word::ACCUMULATED] = 0;
-        return 2;
+        return Verdict::DroppedBytes;
     }
     let slots_full = w[Word::COUNT] == w[Word::SLOTS];
     if slots_full {
         w[Word::ACCUMULATED] = 0;
-        return 3;
+        return Verdict::DroppedSlots;
     }
     let burst = in_allowance(Micros(w[Word::ALLOWANCE]));
     if burst {
-        return 0;
+        return Verdict::Enqueued;
     }
     let none = w[Word::PROB] == 0;
     if none {
         w[Word::ACCUMULATED] = 0;
         stays_inactive(w, bytes);
-        return 0;
+        return Verdict::Enqueued;
     }
     let stays = stays_inactive(w, bytes);
     if stays {
-        return 0;
+        return Verdict::Enqueued;
     }
     draw(w, bytes, size, calls, at)
 }
 
-// A packet arrives.
+// A packet arrives. This and the other calls answer by the number that a burst hands to C.
 pub fn arrive(
     w: &mut [u64; 16],
     counts: &mut [[u64; 5]; 16],
@@ -150,18 +150,19 @@ pub fn arrive(
 {
     let wrong_clock = (clock < w[Word::CLOCK]) | (LATEST < clock);
     if wrong_clock {
-        return Code::CLOCK;
+        return refused(Refusal::Clock) as u64;
     }
     let size = calls[at + 3];
     let bytes = wide(size);
     let wrong_size = (bytes == 0) | (LARGEST < bytes);
     if wrong_size {
-        return Code::SIZE;
+        return refused(Refusal::Size) as u64;
     }
     let v = decide(w, bytes, calls, at);
     w[Word::CLOCK] = clock;
     raise(counts, flow, v);
-    let admits = v < 2;
+    let place = v.place();
+    let admits = v.admits();
     if admits {
         let tail = tail_place(w[Word::FIRST], w[Word::COUNT], w[Word::SLOTS]) as usize;
         w[Word::COUNT] = w[Word::COUNT] + 1;
@@ -169,5 +170,5 @@ pub fn arrive(
         handles[tail] = calls[at + 2];
         sizes[tail] = size;
     }
-    v as u64
+    place as u64
 }

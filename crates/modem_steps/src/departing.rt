@@ -8,10 +8,10 @@ ghost use Rattle.bursts.specs.Answers.{answer_word};
 ghost use Rattle.modem_steps.specs.Fitting.{Fitting};
 
 use bursts::{wide, word};
-use modem_words::{Code, Word};
+use modem_words::Word;
 use pie::{Backlog, LATEST};
 use places::following;
-use refusals::wrong_head;
+use refusals::{Refusal, refused, wrong_head};
 use units::Bytes;
 
 // The head leaves. The promise is for every row that sums to at most 2^48; the call reads none.
@@ -23,13 +23,13 @@ pub fn depart(w: &mut [u64; 16], handles: &[u32], sizes: &[u32], clock: u64) -> 
 {
     let wrong_clock = (clock < w[Word::CLOCK]) | (LATEST < clock);
     if wrong_clock {
-        return Code::CLOCK;
+        return refused(Refusal::Clock) as u64;
     }
     let count = w[Word::COUNT];
     let bytes = w[Word::BYTES];
     let empty = count == 0;
     if empty {
-        return Code::EMPTY;
+        return refused(Refusal::Empty) as u64;
     }
     let first = w[Word::FIRST];
     let at = first as usize;
@@ -41,7 +41,7 @@ pub fn depart(w: &mut [u64; 16], handles: &[u32], sizes: &[u32], clock: u64) -> 
     };
     let wrong = wrong_head(backlog, size);
     if wrong {
-        return Code::HEAD;
+        return refused(Refusal::Head) as u64;
     }
     let handle = handles[at];
     let next = following(first, w[Word::SLOTS]);

@@ -11,8 +11,9 @@ ghost use Rattle.modem_words.specs.Words.{pie_of, state_of, state_words};
 ghost use Rattle.modem_steps.specs.Words.{phase_words};
 
 use docsis_pie::{Activity, PERIOD, delay, next_allowance, next_prob, quiet, timed_out};
-use modem_words::{Code, Word};
+use modem_words::Word;
 use pie::LATEST;
+use refusals::{Refusal, refused};
 use units::{Bytes, BytesPerSecond, Micros, Prob};
 
 // Rule 11: a quiescent flow that has been quiet for so long.
@@ -63,11 +64,11 @@ pub fn tick(w: &mut [u64; 16], clock: u64, credits: u64) -> u64
 {
     let wrong_clock = (clock < w[Word::CLOCK]) | (LATEST < clock);
     if wrong_clock {
-        return Code::CLOCK;
+        return refused(Refusal::Clock) as u64;
     }
     let too_soon = clock < w[Word::LAST] + PERIOD;
     if too_soon {
-        return Code::TOO_SOON;
+        return refused(Refusal::TooSoon) as u64;
     }
     let target = Micros(w[Word::TARGET]);
     let old = Micros(w[Word::OLD]);

@@ -1,3 +1,2 @@
 -- Laws about the words and the counts, for the entries' proofs and the bursts'.
 pub mod Changed
-pub mod Raised

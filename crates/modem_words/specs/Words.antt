@@ -1,14 +1,11 @@
 -- The state record of a flow as sixteen words, in the order of struct obikuteru_modem_state.
-use Rattle.std.specs.Prelude.{List, [], ◌∷◌, ℕ, ◌+◌, get_or, set}
+use Rattle.std.specs.Prelude.{List, [], ◌∷◌, ℕ, get_or, set}
 use Rattle.units.specs.Kinds.{bytes, micros, prob}
-use Rattle.pie.specs.Verdicts.{place_of}
 use Rattle.pie.specs.declared.Backlog.{Backlog}
-use Rattle.refusals.specs.Answer.{Answer, departed, made, refused, ticked, verdict}
 use Rattle.docsis_pie.specs.Update.{phase}
 use Rattle.docsis_pie.specs.declared.DocsisPie.{DocsisPie}
 use Rattle.modem_flow.specs.Fresh.{settings_of}
 use Rattle.modem_flow.specs.declared.State.{State}
-use Rattle.modem.specs.Counts.{row_of}
 
 abbrev pub pie_of : (words : List ℕ) → DocsisPie
 pie_of w =
@@ -65,15 +62,3 @@ arrival_words w s =
 -- the words that a departure changes: clock, first place, count and bytes
 abbrev pub departure_words : (words : List ℕ) → State → List ℕ
 departure_words w s = set (set (set (set w 5 s.clock.0) 13 s.first) 14 s.backlog.count) 15 s.backlog.bytes.0
-
--- the place of a verdict's count; 0 where the answer is no verdict
-abbrev pub place_in : Answer → ℕ
-place_in (refused number) = 0
-place_in made = 0
-place_in (verdict v) = place_of v
-place_in (departed handle size) = 0
-place_in ticked = 0
-
--- the counts with the one at this place of the flow's row raised by one
-abbrev pub raised_at : (counts : List (List ℕ)) (flow place : ℕ) → List (List ℕ)
-raised_at counts flow place = set counts flow (set (row_of counts flow) place (get_or (row_of counts flow) place 0 + 1))

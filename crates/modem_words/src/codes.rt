@@ -1,23 +1,8 @@
-// What a C caller gets for a refusal: 100 and its number (docs/DOCSIS-PIE.md, part 3).
+// What a caller gets where a call of a burst is of no known kind, and where a burst's list is no list of calls; a refusal has its own code.
 #[derive(Clone, Copy)]
 pub struct Code(pub u32);
 
 impl Code {
-    // Where the codes begin.
-    pub const REFUSED: u32 = 100;
-
-    pub const CLOCK: u64 = 104;
-
-    pub const TOO_SOON: u64 = 105;
-
-    pub const EMPTY: u64 = 106;
-
-    pub const SIZE: u64 = 107;
-
-    pub const HEAD: u64 = 109;
-
-    pub const NO_FLOW: u32 = 110;
-
     // A call of no known kind.
     pub const UNKNOWN: u64 = 120;
 

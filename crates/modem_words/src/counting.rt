@@ -2,14 +2,16 @@
 ghost use Rattle.std.specs.Prelude.{◌≡◌, ◌<◌, ◌≤◌};
 ghost use Rattle.pie.specs.Constants.{most_verdicts};
 ghost use Rattle.pie.specs.Verdicts.{total};
-ghost use Rattle.modem.specs.Counts.{row_of};
-ghost use Rattle.modem_words.specs.Words.{raised_at};
+ghost use Rattle.refusals.specs.Answer.{verdict};
+ghost use Rattle.modem.specs.Counts.{counts_after, row_of};
+
+use pie::Verdict;
 
 // One count of the flow's row rises by one.
-pub fn raise(counts: &mut [[u64; 5]; 16], flow: u32, place: usize)
-    requires { (flow ≤ 15) × (place < 5) × (total (row_of counts.old flow) < most_verdicts) }
-    ensures { counts.new ≡ raised_at counts.old flow place }
+#[tactic(auto, unfolding(modem::specs::Counts::counts_after, pie::specs::Verdicts::raised))]
+pub fn raise(counts: &mut [[u64; 5]; 16], flow: u32, v: Verdict)
+    requires { (flow ≤ 15) × (total (row_of counts.old flow) < most_verdicts) }
+    ensures { counts.new ≡ counts_after counts.old flow (verdict v) }
 {
-    let row = flow as usize;
-    counts[row][place] = counts[row][place] + 1;
+    counts[flow as usize][v.place()] += 1;
 }

@@ -17,14 +17,14 @@ pub returns-then-wrong_clock : goal.returns-then-wrong_clock
 unfolding state_of
 returns-then-wrong_clock c =
     let q = c.requires in
-    λ row fits. rw (departure-late _ row _ q.1 fits _ _ q.2 q.3 c.if-wrong_clock.true) (refl, kept _ _ (refl, q.0))
+    λ row fits. rw (departure-late _ row _ q.1 fits _ _ q.2 q.3 c.if-wrong_clock.true) (c.refused.ensures, kept _ _ (refl, q.0))
 
 pub returns-then-empty : goal.returns-then-empty
 unfolding state_of
 returns-then-empty c =
     let q = c.requires in
     λ row fits.
-    rw (departure-empty _ row _ q.1 fits _ _ q.2 q.3 c.if-wrong_clock.false (eq-eqb _ _ c.if-empty.true)) (refl, kept _ _ (refl, q.0))
+    rw (departure-empty _ row _ q.1 fits _ _ q.2 q.3 c.if-wrong_clock.false (eq-eqb _ _ c.if-empty.true)) (c.refused-then-empty.ensures, kept _ _ (refl, q.0))
 
 pub offset_bounds-sizes-at : goal.offset_bounds-sizes-at
 unfolding state_of
@@ -50,7 +50,7 @@ returns-then-wrong c =
     let q = c.requires in
     let wrong = sym (rw c.wide-size.ensures at c.wrong_head-wrong.ensures) ∙ c.if-wrong.true in
     λ row fits.
-    rw (departure-wrong _ row _ q.1 fits _ _ q.2 q.3 c.if-wrong_clock.false (ne_eqb _ _ c.if-empty.false) wrong) (refl, kept _ _ (refl, q.0))
+    rw (departure-wrong _ row _ q.1 fits _ _ q.2 q.3 c.if-wrong_clock.false (ne_eqb _ _ c.if-empty.false) wrong) (c.refused-then-wrong.ensures, kept _ _ (refl, q.0))
 
 pub offset_bounds-handles-at : goal.offset_bounds-handles-at
 unfolding state_of

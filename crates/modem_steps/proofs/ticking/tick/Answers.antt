@@ -15,7 +15,7 @@ use Rattle.modem_steps.proofs.ticking.tick.Goals as goal
 pub returns-then-wrong_clock : goal.returns-then-wrong_clock
 unfolding state_of
 returns-then-wrong_clock c =
-    λ row fits. rw (tick-late _ row _ c.requires.1 fits _ c.if-wrong_clock.true) (refl, kept _ _ (refl, c.requires.0))
+    λ row fits. rw (tick-late _ row _ c.requires.1 fits _ c.if-wrong_clock.true) (c.refused.ensures, kept _ _ (refl, c.requires.0))
 
 pub overflow_add-too_soon : goal.overflow_add-too_soon
 unfolding state_of
@@ -27,7 +27,7 @@ pub returns-then-too_soon : goal.returns-then-too_soon
 unfolding state_of
 returns-then-too_soon c =
     λ row fits.
-    rw (tick-early _ row _ c.requires.1 fits _ c.if-wrong_clock.false (lt-ltb _ _ c.if-too_soon.true)) (refl, kept _ _ (refl, c.requires.0))
+    rw (tick-early _ row _ c.requires.1 fits _ c.if-wrong_clock.false (lt-ltb _ _ c.if-too_soon.true)) (c.refused-then-too_soon.ensures, kept _ _ (refl, c.requires.0))
 
 pub delay-now-requires : goal.delay-now-requires
 unfolding state_of

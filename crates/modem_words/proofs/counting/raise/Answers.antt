@@ -1,10 +1,8 @@
--- `raise`: one element is written.
+-- `raise`: a count is at most its row's total, so it can rise.
 use native.Mathlib.Omega.{arith}
 use Rattle.pie.proofs.Counts.{count-le-total}
 use Rattle.modem.specs.Counts.{row_of}
 use Rattle.modem_words.proofs.counting.raise.Goals as goal
 
 pub overflow_add-counts : goal.overflow_add-counts
-overflow_add-counts c =
-    let s = c.before in
-    omega (arith, s.requires.2, count-le-total (row_of s.args.counts.now s.args.flow) s.args.place)
+overflow_add-counts c = omega (arith, c.requires.1, count-le-total (row_of c.args.counts.now c.args.flow) c.place.result)
