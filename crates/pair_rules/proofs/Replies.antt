@@ -1,9 +1,11 @@
 -- What a call gives, by what the library's functions find of the records as the called queue sees them.
 use mathlib.Core.Path.{◌≡◌, refl}
-use mathlib.Core.Bool.{Bool}
+use mathlib.Core.Bool.{Bool, false}
 use mathlib.Core.List.{List, [], ◌∷◌, ◌++◌}
 use Prim.Native.Nat.{ℕ}
 use lib.ListN.{length}
+use Rattle.pie.specs.Verdicts.{admitted}
+use Rattle.pie.specs.declared.Verdict.{Verdict}
 use Rattle.refusals.specs.Answer.{departed, ticked, verdict}
 use Rattle.refusals.specs.Rows.{first_refusal}
 use Rattle.refusals.specs.Tests.{size_refused}
@@ -72,3 +74,7 @@ unfolding arrival arrival_refusal
 arrival-reply Intercom s o t handles sizes clock size ecn u = refl
 arrival-reply Passengers s o t handles sizes clock size ecn u =
     rw (well-formed-seen Passengers s o t, verdict-seen Passengers s o t size ecn u)
+
+-- a packet that is dropped needs no slot: no link refuses it
+pub dropped-kept : (s : Shared) (sizes : List ℕ) (v : Verdict) → admitted v ≡ false → freed_refused s sizes v ≡ false
+dropped-kept s sizes v e = rw e

@@ -1,4 +1,4 @@
-// The same calls by the number that a C caller gets.
+// The same calls by the number that a C caller gets, for the burst, which puts it into the word of an answer.
 ghost use Rattle.std.specs.Prelude.{◌≡◌, true, [], ◌∷◌, ◌<◌, eqb, length};
 ghost use Rattle.pie.specs.Constants.{most_verdicts};
 ghost use Rattle.pie.specs.Verdicts.{total};

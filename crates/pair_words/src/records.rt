@@ -71,7 +71,7 @@ pub fn encode_shared(w: &mut [u64; 6], s: Shared)
     ];
 }
 
-// The words of a state, whatever they were.
+// The words of a state, whatever they were: written where they are lent, while `From` would give an array to copy.
 #[tactic(auto, unfolding(crate::specs::Words::state_words))]
 pub fn encode(w: &mut [u64; 21], s: State)
     ensures { w.new ≡ state_words [] s }

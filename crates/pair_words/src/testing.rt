@@ -6,7 +6,8 @@ ghost use Rattle.pair_words.specs.Words.{pair_of};
 use crate::records::{decode, decode_shared};
 use pair_rules::Which;
 
-// Each queue's words are read for its own test, so that the compiler keeps none of them over the other's (docs/PERFORMANCE.md).
+// `second`, as C names the called queue. Each queue's words are read for its own test, so that the compiler keeps none of them over the
+// other's (docs/PERFORMANCE.md).
 pub fn records_fit(shared: &[u64; 6], own: &[u64; 21], other: &[u64; 21], second: bool) -> bool
     ensures value { result ≡ well_formed (pair_of second shared.now own.now other.now) }
     ensures shared_len { (result ≡ true) → ((length shared.now ≡ 6)
