@@ -54,14 +54,48 @@ second-set (a ∷ []) x h = absurd (omega arith)
 second-set (a ∷ b ∷ []) x h = refl
 second-set (a ∷ b ∷ c ∷ l) x h = absurd (omega arith)
 
--- of the two words it writes the count
-pub counted : (words : List ℕ) → length words ≡ 2 → (r : Record) (l : List ℕ) (accepted : Result ⊤ Refusal) (w : Writer) {bytes : List ℕ} {n : ℕ} →
-    reply_of accepted w bytes ≡ add (writer_of words) r l → n ≡ code_of (refusal_in accepted) →
-    let a = add (writer_of words) r l in (n ≡ code_of a.refusal) × (set words 1 w.count ≡ writer_words a.writer) × (bytes ≡ a.bytes)
-counted words two r l accepted w e f =
-    let p = written accepted w e f in
-    let o : get_or words 0 0 ≡ w.offset = sym (add-offset (writer_of words) r l) ∙ ap (λ (a : Reply). a.writer.offset) (sym e) in
-    (p.0, second-set words w.count two ∙ ap (λ (x : ℕ). x ∷ w.count ∷ []) o ∙ p.1, p.2)
+some_number : (r : Refusal) → refusal_number r ≡ 0 → ⊥
+some_number Trailer e = omega arith
+some_number Settings e = omega arith
+some_number Fault e = omega arith
+some_number Room e = omega arith
+
+both_words : (words : List ℕ) → length words ≡ 2 → words ≡ get_or words 0 0 ∷ get_or words 1 0 ∷ []
+both_words [] h = absurd (omega arith)
+both_words (a ∷ []) h = absurd (omega arith)
+both_words (a ∷ b ∷ []) h = refl
+both_words (a ∷ b ∷ c ∷ l) h = absurd (omega arith)
+
+-- a refused one leaves both
+add-kept : (w : Writer) (r : Record) (l : List ℕ) → ((add w r l).refusal ≡ 0 → ⊥) → writer_words (add w r l).writer ≡ writer_words w
+unfolding add
+add-kept w r l h = go (add_refusal w r (length l)) h
+  where
+    go : (n : ℕ) →
+        let a = unless_refused n w l (record { refusal = 0; writer = record { offset = w.offset; count = w.count + 1 }; bytes = added w r l }) in
+        (a.refusal ≡ 0 → ⊥) → writer_words a.writer ≡ writer_words w
+    go zero h = absurd (h refl)
+    go (suc n) h = refl
+
+-- of the two words an addition writes the count, and a refused one none
+module _ (words : List ℕ) (two : length words ≡ 2) (r : Record) (l : List ℕ) (w : Writer) where
+  abbrev a : Reply
+  a = add (writer_of words) r l
+
+  pub counted : {x : ⊤} {bytes : List ℕ} → reply_of (Ok x) w bytes ≡ a → (◌≡◌ {A = ℕ} 0 (code_of a.refusal)) × (set words 1 w.count ≡ writer_words a.writer) × (bytes ≡ a.bytes)
+  counted {x} e =
+      let p = written (Ok x) w e refl in
+      let o : get_or words 0 0 ≡ w.offset = sym (add-offset (writer_of words) r l) ∙ ap (λ (a : Reply). a.writer.offset) (sym e) in
+      (p.0, second-set words w.count two ∙ ap (λ (x : ℕ). x ∷ w.count ∷ []) o ∙ p.1, p.2)
+
+  pub uncounted : (x : Refusal) {n : ℕ} {bytes : List ℕ} → reply_of (Err x) w bytes ≡ a → n ≡ refusal_number x →
+      (100 + n ≡ code_of a.refusal) × (words ≡ writer_words a.writer) × (bytes ≡ a.bytes)
+  uncounted x e f =
+      let told : a.refusal ≡ refusal_number x = ap (λ (a : Reply). a.refusal) (sym e) in (
+        ap (λ (m : ℕ). 100 + m) f ∙ refusal-code x ∙ ap code_of (sym told),
+        both_words words two ∙ sym (add-kept (writer_of words) r l (λ z. some_number x (sym told ∙ z))),
+        ap (λ (a : Reply). a.bytes) e,
+      )
 
 -- a list that is written over whole
 sets-whole : (l a : List ℕ) → length a ≡ length l → sets l 0 a ≡ a

@@ -45,10 +45,14 @@ pub extern "C" fn obikuteru_log_add(words: &mut [u32; 2], call: &[u8; 40], bytes
         offset: words[0],
         count: words[1],
     };
-    let added = call_log::add_call(&mut w, call, bytes);
-    // The offset stays.
-    words[1] = w.count;
-    code(added)
+    match call_log::add_call(&mut w, call, bytes) {
+        Ok(()) => {
+            // The offset stays.
+            words[1] = w.count;
+            0
+        }
+        Err(refusal) => 100 + refusal.number(),
+    }
 }
 
 #[unsafe(no_mangle)]
