@@ -65,6 +65,7 @@ pub fn feed(
     let mut reader = runner.reader;
     let mut taken = 0;
     let mut written = 0;
+    // No `for`: a turn takes a whole line.
     while !is_stopped(session.stage, taken, input.len(), written, output.len()) {
         let scanned = scan(reader, input, taken);
         reader = scanned.reader;

@@ -33,7 +33,7 @@ pub struct Runner {
     pub reader: Reader,
 }
 
-// How many bytes of the input are taken, and how many of the output are written.
+// How many bytes of the input are taken, and how many of the output are written: two counts and no flag.
 #[derive(Clone, Copy)]
 pub struct Fed {
     pub runner: Runner,

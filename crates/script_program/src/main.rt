@@ -41,6 +41,7 @@ fn feed_piece(
         Feeds runner.old handles.old sizes.old input.now (length input.now) runner.new handles.new sizes.new }
 {
     let mut at = 0;
+    // No `for`: a turn takes as much as the output has room for.
     while at < input.len() {
         let Some(taken) = feed_some(rt, runner, handles, sizes, &input[at..], output) else {
             return false;
