@@ -1,5 +1,5 @@
 -- What a call of any kind of queue answers, in document 01's numbers and values.
-use Rattle.std.specs.Prelude.{Bool, false, ℕ, Result, Ok, Err, ⊤}
+use Rattle.std.specs.Prelude.{Bool, false, cond, ℕ, Result, Ok, Err, ⊤}
 use Rattle.pie.specs.declared.Verdict.{Verdict}
 use Rattle.pie.specs.Verdicts.{admitted}
 use Rattle.refusals.specs.Numbers.{number_of}
@@ -57,3 +57,7 @@ arrival_answer r = answer_by verdict r
 
 abbrev pub departure_answer : Result Packet Refusal → Answer
 departure_answer r = answer_by (λ p. departed p.handle p.size) r
+
+-- a test's answer: a refusal where it holds
+abbrev pub refused_where : (test : Bool) → Refusal → Result ⊤ Refusal
+refused_where test r = cond test (Err r) (Ok tt)

@@ -1,10 +1,12 @@
 // The refusals of document 01: their numbers, and the tests that ask for no more than a backlog or five counts.
 #![tactic(auto)]
 
+mod checking;
 mod counting;
 mod heads;
 mod numbering;
 
+pub use checking::{check_clock, check_head, check_size, check_tables};
 pub use counting::{counts_fit, counts_full, room_left};
 pub use heads::wrong_head;
 pub use numbering::{code, refused};
