@@ -89,14 +89,10 @@ fn ready(w: &[u64; 23], handles: u64, sizes: u64, n: u64) -> bool
         × (sizes ≡ (state_of w.now).settings.slots)
         × (total (state_of w.now).verdicts + n ≤ most_verdicts)) }
 {
-    let formed = obikuteru_well_formed(w);
-    if !formed {
+    if !obikuteru_well_formed(w) {
         return false;
     }
-    if handles != w[SLOTS] {
-        return false;
-    }
-    if sizes != w[SLOTS] {
+    if handles != w[SLOTS] || sizes != w[SLOTS] {
         return false;
     }
     has_room(counts_at(w, VERDICTS), n)
