@@ -6,6 +6,6 @@ mod numbers;
 mod queue;
 mod room;
 
-pub use numbers::{clock_of, wide, word};
+pub use numbers::{REFUSED_CALL, clock_of, wide, word};
 pub use queue::{Queue, answer_each};
 pub use room::has_room;

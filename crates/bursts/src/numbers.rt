@@ -2,6 +2,9 @@
 ghost use Rattle.std.specs.Prelude.{◌≡◌, ◌≤◌};
 ghost use Rattle.bursts.specs.Numbers.{clock_of, word_of};
 
+// The code of a call whose kind is unknown, and of a burst whose lengths do not fit: 100 and 20, which is no number of a `Refusal`.
+pub const REFUSED_CALL: u32 = 120;
+
 pub fn wide(x: u32) -> u64
     ensures { result ≡ x }
 {

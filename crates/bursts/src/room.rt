@@ -10,10 +10,9 @@ pub fn has_room(counts: [u64; 5], n: u64) -> bool
     requires { total counts ≤ most_verdicts }
     ensures { result ≡ leb (total counts + n) most_verdicts }
 {
-    let a = counts[0];
-    let b = counts[1];
-    let c = counts[2];
-    let d = counts[3];
-    let e = counts[4];
-    n <= MOST_VERDICTS - a - b - c - d - e
+    let mut sum = 0;
+    for count in counts {
+        sum += count;
+    }
+    n <= MOST_VERDICTS - sum
 }

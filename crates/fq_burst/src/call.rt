@@ -25,6 +25,7 @@ pub(crate) enum Read {
 }
 
 // The call at `at`; none where its kind is unknown.
+#[tactic(auto, unfolding(crate::specs::Calls::call_at))]
 pub(crate) fn read_at(calls: &[u32], at: usize) -> Option<Read>
     requires { at + 9 < length calls.now }
     ensures { call_in result ≡ call_at calls.now at }

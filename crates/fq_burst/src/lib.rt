@@ -13,10 +13,11 @@ ghost use Rattle.fq_burst.specs.Calls.{call_at};
 ghost use Rattle.fq_burst.specs.Burst.{after, answer_to, answer_word, fq_bursts, held};
 
 use crate::call::{Read, read_at};
-use crate::numbers::{UNFIT, UNKNOWN, malformed, word};
-use bursts::{Queue, answer_each, has_room, wide};
+use crate::numbers::{malformed, word};
+use bursts::{Queue, REFUSED_CALL, answer_each, has_room};
 use fq_steps::{arrive, depart, update};
-use fq_words::{decode, fits};
+use fq_words::{ENQUEUED, fits};
+use pie_words::counts_at;
 
 mod call;
 mod numbers;
@@ -56,7 +57,7 @@ fn answered(
                 ecn,
                 u,
             },
-        ) => wide(arrive(
+        ) => u64::from(arrive(
             common, order, flows, deficits, counts, handles, sizes, clock, &key, handle, size, ecn,
             u, room,
         )),
@@ -75,17 +76,13 @@ fn answered(
             );
             word(code, packet[0], packet[2], packet[1])
         }
-        Some(Read::Tick { clock }) => wide(update(common, order, flows, deficits, clock)),
-        None => UNKNOWN,
+        Some(Read::Tick { clock }) => u64::from(update(common, order, flows, deficits, clock)),
+        None => u64::from(REFUSED_CALL),
     }
 }
 
-// What the lists and deficits are known to be.
-fn whole(order: [u64; 64], deficits: [u32; 64])
-    ensures { (length order ≡ 64) × (length deficits ≡ 64) }
-{}
-
 // The flows as they are lent, with the counts of each. Where `FORMED`, the record is well formed; where `room`, it has room for the calls.
+// `room` is no parameter of the type: `fq_steps::arrive` and what it calls take the value, and a third impl would do the same as the first.
 #[derive(Drop)]
 struct Lent<'a, const FORMED: bool> {
     common: &'a mut [u64; 19],
@@ -140,7 +137,7 @@ impl Queue for Lent<'_, false> {
     ghost names = { λ q. (q.common.ghost_name, q.order.ghost_name, q.flows.ghost_name, q.deficits.ghost_name, q.handles.ghost_name, q.sizes.ghost_name) };
 
     fn answer(&mut self, calls: &[u32], i: usize) -> u64 {
-        malformed(calls[10 * i + 5])
+        u64::from(malformed(calls[10 * i + 5]))
     }
 }
 
@@ -165,10 +162,8 @@ pub extern "C" fn obikuteru_fq_calls_of(
     let n = answers.len();
     let fit = (calls.len() % 10 == 0) & (calls.len() / 10 == n);
     if !fit {
-        return UNFIT;
+        return REFUSED_CALL;
     }
-    whole(*order, *deficits);
-    let c = decode(*common);
     let mut counts = [0u32; 64];
     let formed = fits(common, order, deficits, flows, &mut counts);
     if !formed {
@@ -188,8 +183,7 @@ pub extern "C" fn obikuteru_fq_calls_of(
         );
         return 0;
     }
-    let verdicts = c.verdicts;
-    let room = has_room(verdicts, n as u64);
+    let room = has_room(counts_at(common, ENQUEUED), n as u64);
     // A copy, which can stand in registers.
     let mut words = *common;
     answer_each(

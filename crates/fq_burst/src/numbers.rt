@@ -2,12 +2,8 @@
 ghost use Rattle.std.specs.Prelude.{◌≡◌, cond, ltb, ◌+◌, ◌*◌, ◌≤◌};
 ghost use Rattle.fq_burst.specs.Calls.{key_of};
 
-// Codes: 100 and the number of a refusal. 2: the record is not well formed; 20: a call of no kind, or lengths that do not fit.
-const MALFORMED: u64 = 102;
-
-pub(crate) const UNKNOWN: u64 = 120;
-
-pub(crate) const UNFIT: u32 = 120;
+use bursts::REFUSED_CALL;
+use refusals::{Refusal, refused};
 
 // The word of a departure's answer.
 pub(crate) fn word(code: u32, flow: u32, size: u32, handle: u32) -> u64
@@ -21,30 +17,20 @@ pub(crate) fn word(code: u32, flow: u32, size: u32, handle: u32) -> u64
 pub(crate) fn key_of(a: u32, b: u32, c: u32, d: u32) -> [u8; 13]
     ensures { result ≡ key_of a b c d }
 {
-    [
-        (a % 256) as u8,
-        (a / 256 % 256) as u8,
-        (a / 65_536 % 256) as u8,
-        (a / 16_777_216 % 256) as u8,
-        (b % 256) as u8,
-        (b / 256 % 256) as u8,
-        (b / 65_536 % 256) as u8,
-        (b / 16_777_216 % 256) as u8,
-        (c % 256) as u8,
-        (c / 256 % 256) as u8,
-        (c / 65_536 % 256) as u8,
-        (c / 16_777_216 % 256) as u8,
-        (d % 256) as u8,
-    ]
+    let [a0, a1, a2, a3] = a.to_le_bytes();
+    let [b0, b1, b2, b3] = b.to_le_bytes();
+    let [c0, c1, c2, c3] = c.to_le_bytes();
+    let [last, _, _, _] = d.to_le_bytes();
+    [a0, a1, a2, a3, b0, b1, b2, b3, c0, c1, c2, c3, last]
 }
 
-// What a call of this kind on a malformed record is answered: refusal 2, or 20 where the kind is unknown.
-pub(crate) fn malformed(kind: u32) -> u64
+// The code of a call of this kind on a malformed record.
+pub(crate) fn malformed(kind: u32) -> u32
     ensures { result ≡ cond (ltb kind 4) 102 120 }
 {
-    let called = kind < 4;
-    if called {
-        return MALFORMED;
+    if kind < 4 {
+        refused(Refusal::Malformed)
+    } else {
+        REFUSED_CALL
     }
-    UNKNOWN
 }

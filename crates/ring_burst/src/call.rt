@@ -24,6 +24,7 @@ pub(crate) enum Read {
 
 // The call at `at`; none where its kind is unknown. Departures are tested for first: the compiler then keeps what arrivals use in
 // registers (docs/PERFORMANCE.md).
+#[tactic(auto, unfolding(crate::specs::Calls::call_at))]
 pub(crate) fn read_at(calls: &[u32], at: usize) -> Option<Read>
     requires { at + 5 < length calls.now }
     ensures { call_in result ≡ call_at calls.now at }

@@ -16,17 +16,11 @@ ghost use Rattle.ring_steps.specs.Fitting.{Ready};
 ghost use Rattle.ring_burst.specs.Burst.{after, answer_to, ring_bursts};
 
 use crate::call::{Read, read_at};
-use bursts::{Queue, answer_each, has_room, wide, word};
+use bursts::{Queue, REFUSED_CALL, answer_each, has_room, word};
+use pie_words::counts_at;
 use ring_c::{obikuteru_arrival, obikuteru_departure, obikuteru_tick, obikuteru_well_formed};
 use ring_steps::{arrive, depart, tick};
-use ring_words::{DROPPED_BYTES, DROPPED_EARLY, DROPPED_SLOTS, ENQUEUED, MARKED, SLOTS};
-
-// What the words of a state are known to be.
-fn held(w: [u64; 23]) -> bool
-    ensures { (result ≡ true) × (length w ≡ 23) }
-{
-    true
-}
+use ring_words::{SLOTS, VERDICTS};
 
 // The call at `at`, of a queue that is ready for it.
 fn known(w: &mut [u64; 23], handles: &mut [u32], sizes: &mut [u32], calls: &[u32], at: usize) -> u64
@@ -49,7 +43,7 @@ fn known(w: &mut [u64; 23], handles: &mut [u32], sizes: &mut [u32], calls: &[u32
             },
         ) => arrive(w, handles, sizes, clock, handle, size, ecn, u),
         Some(Read::Tick { clock }) => tick(w, clock),
-        None => 120,
+        None => u64::from(REFUSED_CALL),
     }
 }
 
@@ -81,9 +75,9 @@ fn single(
                 ecn,
                 u,
             },
-        ) => wide(obikuteru_arrival(w, handles, sizes, clock, handle, size, ecn, u)),
-        Some(Read::Tick { clock }) => wide(obikuteru_tick(w, clock)),
-        None => 120,
+        ) => u64::from(obikuteru_arrival(w, handles, sizes, clock, handle, size, ecn, u)),
+        Some(Read::Tick { clock }) => u64::from(obikuteru_tick(w, clock)),
+        None => u64::from(REFUSED_CALL),
     }
 }
 
@@ -95,27 +89,13 @@ fn ready(w: &[u64; 23], handles: u64, sizes: u64, n: u64) -> bool
         × (sizes ≡ (state_of w.now).settings.slots)
         × (total (state_of w.now).verdicts + n ≤ most_verdicts)) }
 {
-    let whole = held(*w);
-    let formed = whole & obikuteru_well_formed(w);
-    if !formed {
+    if !obikuteru_well_formed(w) {
         return false;
     }
-    if handles != w[SLOTS] {
+    if handles != w[SLOTS] || sizes != w[SLOTS] {
         return false;
     }
-    if sizes != w[SLOTS] {
-        return false;
-    }
-    has_room(
-        [
-            w[ENQUEUED],
-            w[MARKED],
-            w[DROPPED_BYTES],
-            w[DROPPED_SLOTS],
-            w[DROPPED_EARLY],
-        ],
-        n,
-    )
+    has_room(counts_at(w, VERDICTS), n)
 }
 
 // A queue as it is lent. Where `TESTED`, it is ready for the calls.
@@ -175,7 +155,7 @@ pub extern "C" fn obikuteru_calls(
     let n = answers.len();
     let fit = (calls.len() % 6 == 0) & (calls.len() / 6 == n);
     if !fit {
-        return 120;
+        return REFUSED_CALL;
     }
     let ahead = ready(words, handles.len() as u64, sizes.len() as u64, n as u64);
     if ahead {

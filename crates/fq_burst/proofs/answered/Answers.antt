@@ -13,7 +13,7 @@ pub returns-in-Some-Arrival-clause-fact : goal.returns-in-Some-Arrival-clause-fa
 returns-in-Some-Arrival-clause-fact c =
     let asks = rw c.in-Some-Arrival.field-0-is at c.in-Some-Arrival.ensures in
     let e = c.arrive.ensures.fact in
-    rw (← asks) (c.wide.ensures ∙ e.0 ∙ plain-arrival _ _ _ _ _ c.in-Some-Arrival.handle _ _ _, rw (e.1, e.2, e.3, e.4, e.5, e.6) refl)
+    rw (← asks) (c.from.ensures ∙ e.0 ∙ plain-arrival _ _ _ _ _ c.in-Some-Arrival.handle _ _ _, rw (e.1, e.2, e.3, e.4, e.5, e.6) refl)
 
 pub returns-in-Some-Tick-clause-fact : goal.returns-in-Some-Tick-clause-fact
 returns-in-Some-Tick-clause-fact c =
@@ -21,4 +21,4 @@ returns-in-Some-Tick-clause-fact c =
     let asks = rw c.in-Some-Tick.field-0-is at c.in-Some-Tick.ensures in
     let e = c.update.ensures.fact in
     let same = tick-stays a.common.now a.order.now a.flows.now a.deficits.now c.in-Some-Tick.clock in
-    rw (← asks) (c.wide-in-Some-Tick.ensures ∙ e.0 ∙ plain-tick _ _, rw (e.1, e.2, same.0, same.1) refl)
+    rw (← asks) (c.from-in-Some-Tick.ensures ∙ e.0 ∙ plain-tick _ _, rw (e.1, e.2, same.0, same.1) refl)

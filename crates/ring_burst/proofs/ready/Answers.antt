@@ -1,32 +1,22 @@
 -- `ready`: what each test that passes says.
 use Rattle.ring_burst.proofs.ready.Goals as goal
 use mathlib.Core.Path.{sym, ◌∙◌}
-use mathlib.Core.Bool.{false≢true}
 use borrow.Author.Tests.{leb-true}
-use Rattle.laws.proofs.Tests.{and_right}
 use Rattle.pie.specs.Constants.{most_verdicts}
 use Rattle.ring.proofs.Facts.{facts}
 use Rattle.ring_words.specs.Words.{state_of}
 
-pub returns-then-not-formed : goal.returns-then-not-formed
-returns-then-not-formed c = λ e. absurd (false≢true e)
-
-pub returns-then-handles-w : goal.returns-then-handles-w
-returns-then-handles-w c = λ e. absurd (false≢true e)
-
-pub returns-then-sizes-w : goal.returns-then-sizes-w
-returns-then-sizes-w c = λ e. absurd (false≢true e)
-
 pub has_room-requires : goal.has_room-requires
 unfolding state_of
-has_room-requires c = (facts _ (sym c.obikuteru_well_formed.ensures ∙ and_right c.held-whole.result _ c.if-not-formed.false)).total-high
+has_room-requires c =
+    rw c.counts_at.ensures (facts _ (sym c.obikuteru_well_formed.ensures ∙ c.if-not-obikuteru_well_formed.false)).total-high
 
 pub returns : goal.returns
 unfolding state_of
 returns c = λ e. (
-  c.held-whole.ensures.1,
-  sym c.obikuteru_well_formed.ensures ∙ and_right c.held-whole.result _ c.if-not-formed.false,
+  c.told-w,
+  sym c.obikuteru_well_formed.ensures ∙ c.if-not-obikuteru_well_formed.false,
   c.if-handles-w.false,
   c.if-sizes-w.false,
-  leb-true _ most_verdicts (sym c.has_room.ensures ∙ e),
+  rw c.counts_at.ensures at (leb-true _ most_verdicts (sym c.has_room.ensures ∙ e)),
 )

@@ -13,9 +13,9 @@ word-requires c =
 pub returns-in-Some-Arrival-clause-value : goal.returns-in-Some-Arrival-clause-value
 returns-in-Some-Arrival-clause-value c =
     let e = rw c.in-Some-Arrival.field-0-is at c.in-Some-Arrival.ensures in
-    rw (← e) (c.wide.ensures ∙ c.obikuteru_arrival.ensures.0 ∙ plain-arrival _ _ _ _ _ _ _)
+    rw (← e) (c.from.ensures ∙ c.obikuteru_arrival.ensures.0 ∙ plain-arrival _ _ _ _ _ _ _)
 
 pub returns-in-Some-Tick-clause-value : goal.returns-in-Some-Tick-clause-value
 returns-in-Some-Tick-clause-value c =
     let e = rw c.in-Some-Tick.field-0-is at c.in-Some-Tick.ensures in
-    rw (← e) (c.wide-in-Some-Tick.ensures ∙ c.obikuteru_tick.ensures.0 ∙ plain-tick _ _)
+    rw (← e) (c.from-in-Some-Tick.ensures ∙ c.obikuteru_tick.ensures.0 ∙ plain-tick _ _)

@@ -10,7 +10,7 @@ returns-clause-value c =
     let a = c.args in
     let q = a.self.now in
     let given = held q.common.now q.order.now q.flows.now q.deficits.now q.handles.now q.sizes.now in
-    c.malformed.ensures ∙ (malformed-step given a.calls.now (10 * a.i) c.requires.ready.1).0
+    c.from.ensures ∙ c.malformed.ensures ∙ (malformed-step given a.calls.now (10 * a.i) c.requires.ready.1).0
 
 pub returns-clause-after : goal.returns-clause-after
 returns-clause-after c =
