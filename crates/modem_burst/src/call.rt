@@ -20,10 +20,12 @@ pub(crate) fn read_at(calls: &[u32], at: usize) -> Option<Read>
 {
     let clock = clock_of(calls[at], calls[at + 1]);
     let kind = calls[at + 5];
-    if kind == 2 {
+    let departs = kind == 2;
+    if departs {
         return Some(Read::Departure { clock });
     }
-    if kind == 0 {
+    let arrives = kind == 0;
+    if arrives {
         let packet = Packet {
             handle: calls[at + 2],
             size: calls[at + 3],
@@ -34,7 +36,8 @@ pub(crate) fn read_at(calls: &[u32], at: usize) -> Option<Read>
             u: calls[at + 4],
         });
     }
-    if kind == 3 {
+    let ticks = kind == 3;
+    if ticks {
         return Some(Read::Tick {
             clock,
             credits: calls[at + 3],

@@ -4,18 +4,18 @@ use mathlib.Core.Path.{refl}
 use borrow.Author.Tests.{ne_eqb}
 use Rattle.modem_burst.specs.Calls.{call_at}
 
-pub returns-then-kind-eq2 : goal.returns-then-kind-eq2
+pub returns-then-departs : goal.returns-then-departs
 unfolding call_at
-returns-then-kind-eq2 c = rw (c.clock_of-clock.ensures, c.if-kind-eq2.true) refl
+returns-then-departs c = rw (c.clock_of-clock.ensures, c.if-departs.true) refl
 
-pub returns-then-kind-eq0 : goal.returns-then-kind-eq0
+pub returns-then-arrives : goal.returns-then-arrives
 unfolding call_at
-returns-then-kind-eq0 c = rw (c.clock_of-clock.ensures, c.if-kind-eq0.true) refl
+returns-then-arrives c = rw (c.clock_of-clock.ensures, c.if-arrives.true) refl
 
-pub returns-then-kind-eq3 : goal.returns-then-kind-eq3
+pub returns-then-ticks : goal.returns-then-ticks
 unfolding call_at
-returns-then-kind-eq3 c = rw (c.clock_of-clock.ensures, c.if-kind-eq3.true) refl
+returns-then-ticks c = rw (c.clock_of-clock.ensures, c.if-ticks.true) refl
 
 pub returns : goal.returns
 unfolding call_at
-returns c = rw (ne_eqb _ _ c.if-kind-eq0.false, ne_eqb _ _ c.if-kind-eq2.false, ne_eqb _ _ c.if-kind-eq3.false) refl
+returns c = rw (ne_eqb _ _ c.if-arrives.false, ne_eqb _ _ c.if-departs.false, ne_eqb _ _ c.if-ticks.false) refl
