@@ -7,6 +7,7 @@ ghost use Rattle.modem.specs.Calls.{arrival, departure, flow_refused, fresh, tic
 ghost use Rattle.modem.specs.declared.FlowRefusal.TheVariants.{NoFlow};
 
 use crate::FlowRefusal;
+use crate::counting::raise;
 use modem_flow::{Returned, Settings, State};
 use pie::Verdict;
 use refusals::Packet;
@@ -59,7 +60,7 @@ pub fn fresh(
 }
 
 // A packet of `size` bytes arrives at a flow; `u` is its random number.
-#[tactic(auto, unfolding(crate::specs::Calls::arrival, crate::specs::Calls::for_flow, crate::specs::Counts::counts_after, pie::specs::Verdicts::raised))]
+#[tactic(auto, unfolding(crate::specs::Calls::arrival, crate::specs::Calls::for_flow, crate::specs::Counts::counts_after))]
 pub fn arrival(
     state: &mut State,
     counts: &mut [[u64; 5]; 16],
@@ -79,7 +80,7 @@ pub fn arrival(
 {
     let row = row_of(flow)?;
     let v = state.arrival(counts[row], handles, sizes, clock, handle, size, u)?;
-    counts[row][v.place()] += 1;
+    raise(counts, row, v);
     Ok(v)
 }
 

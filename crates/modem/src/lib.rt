@@ -2,6 +2,7 @@
 #![tactic(auto)]
 
 mod calls;
+mod counting;
 mod numbering;
 
 use refusals::Refusal;
@@ -14,3 +15,4 @@ pub enum FlowRefusal {
 }
 
 pub use calls::{arrival, departure, fresh, row_of, tick};
+pub use counting::raise;

@@ -1,4 +1,5 @@
 -- What the functions' proofs share.
+pub mod Fits
 pub mod Flows
 pub mod Kept
 pub mod Steps

@@ -1,15 +1,11 @@
 -- One call of a burst, from what its entry gives.
 use mathlib.Core.Path.{◌≡◌, refl, ◌∙◌}
-use mathlib.Core.Bool.{true, false}
 use mathlib.Core.List.{List}
-use Prim.Native.Nat.{ℕ, zero, suc, ◌+◌, ◌≤◌}
+use Prim.Native.Nat.{ℕ, zero, suc, ◌≤◌}
 use native.Mathlib.Omega.{arith}
-use lib.Dec.{eqb}
-use lib.ListN.{get_or, length}
+use lib.ListN.{length}
 use Rattle.laws.proofs.Choice.{either}
-use Rattle.bursts.specs.Numbers.{clock_at}
 use Rattle.bursts.proofs.Answers.{first-low}
-use Rattle.bursts.proofs.Steps.{Step}
 use Rattle.refusals.specs.Answer.{Answer, refused, size_in}
 use Rattle.modem_flow.specs.Answer.{Reply, unless_refused}
 use Rattle.modem_flow.specs.Arrival as flow-arrival
@@ -25,10 +21,11 @@ use Rattle.modem.specs.Counts.{counts_after, row_of}
 use Rattle.modem_guarantees.proofs.Replies.{arrival_of, departure_of, tick_of}
 use Rattle.refusals.specs.Codes.{code_of}
 use Rattle.modem_words.specs.Words.{state_of, state_words}
-use Rattle.modem_burst.specs.Calls.{call_at}
+use Rattle.modem.specs.Asked.{ask_arrival, ask_departure, ask_tick}
+use Rattle.modem_burst.specs.Calls.{Call, asked}
 use Rattle.bursts.specs.Answers.{answer_word}
 use Rattle.modem_words.specs.Lent.{Lent, lent}
-use Rattle.modem_burst.specs.Burst.{flow_bursts}
+use Rattle.modem_burst.specs.Burst.{after, answer_to}
 
 -- ── a reply with refusal 10 ahead of it ──
 
@@ -87,44 +84,36 @@ departure-small s counts flow handles sizes clock = at-flow Small flow s counts 
 
 -- ── each kind of call ──
 
-module _ (flow : ℕ) (w : List ℕ) (counts : List (List ℕ)) (handles sizes calls : List ℕ) (at : ℕ) where
-  abbrev kind : ℕ
-  kind = get_or calls (at + 5) 0
-
+module _ (flow : ℕ) (w : List ℕ) (counts : List (List ℕ)) (handles sizes : List ℕ) where
   abbrev given : Lent
   given = lent w counts handles sizes
 
-  abbrev arrives : (clock : ℕ) → ModemReply
-  arrives clock = arrival (state_of w) counts flow handles sizes clock (get_or calls (at + 3) 0) (get_or calls (at + 4) 0)
+  -- a call's word, and what it leaves
+  abbrev pub Does : Call → (word : ℕ) → Lent → Type 0
+  Does c word next = (word ≡ answer_word (answer_to flow given c)) × (next ≡ after flow given c)
 
-  pub arrival-step : (clock : ℕ) → clock ≡ clock_at calls at → eqb kind 0 ≡ true →
-      (word : ℕ) (w' : List ℕ) (counts' : List (List ℕ)) (handles' sizes' : List ℕ) →
-      word ≡ code_of (arrives clock).answer → w' ≡ state_words (arrives clock).state → counts' ≡ (arrives clock).counts →
-      handles' ≡ stored (state_of w) (arrives clock).answer handles (get_or calls (at + 2) 0) →
-      sizes' ≡ stored (state_of w) (arrives clock).answer sizes (get_or calls (at + 3) 0) →
-      Step (flow_bursts flow) given calls at word (lent w' counts' handles' sizes')
-  unfolding call_at
-  arrival-step clock c k word w' counts' handles' sizes' e f g h i =
-      rw (k, ← c)
-      (e ∙ plain-arrival (state_of w) counts flow handles sizes clock (get_or calls (at + 3) 0) (get_or calls (at + 4) 0), rw (f, g, h, i))
+  abbrev arrives : (clock size u : ℕ) → ModemReply
+  arrives clock size u = arrival (state_of w) counts flow handles sizes clock size u
 
-  pub departure-step : (clock : ℕ) → clock ≡ clock_at calls at → eqb kind 0 ≡ false → eqb kind 2 ≡ true →
-      (word : ℕ) (w' : List ℕ) →
+  pub arrival-does : (clock handle size u word : ℕ) (w' : List ℕ) (counts' : List (List ℕ)) (handles' sizes' : List ℕ) →
+      let a = arrives clock size u in
+      (word ≡ code_of a.answer)
+      × (w' ≡ state_words a.state)
+      × (counts' ≡ a.counts)
+      × (handles' ≡ stored (state_of w) a.answer handles handle)
+      × (sizes' ≡ stored (state_of w) a.answer sizes size) →
+      Does (asked (ask_arrival clock handle size u)) word (lent w' counts' handles' sizes')
+  arrival-does clock handle size u word w' counts' handles' sizes' (e, f, g, h, i) =
+      (e ∙ plain-arrival (state_of w) counts flow handles sizes clock size u, rw (f, g, h, i))
+
+  pub departure-does : (clock word : ℕ) (w' : List ℕ) →
       let a = departure (state_of w) counts flow handles sizes clock in
-      word ≡ answer_word a.answer → w' ≡ state_words a.state → counts ≡ a.counts →
-      Step (flow_bursts flow) given calls at word (lent w' counts handles sizes)
-  unfolding call_at
-  departure-step clock c k l word w' e f g = rw (k, l, ← c) (e, rw (f, ← g))
+      (word ≡ answer_word a.answer) × (w' ≡ state_words a.state) × (counts ≡ a.counts) →
+      Does (asked (ask_departure clock)) word (lent w' counts handles sizes)
+  departure-does clock word w' (e, f, g) = (e, rw (f, ← g))
 
-  pub tick-step : (clock : ℕ) → clock ≡ clock_at calls at → eqb kind 0 ≡ false → eqb kind 2 ≡ false → eqb kind 3 ≡ true →
-      (word : ℕ) (w' : List ℕ) →
-      let a = tick (state_of w) counts flow clock (get_or calls (at + 3) 0) in
-      word ≡ code_of a.answer → w' ≡ state_words a.state → counts ≡ a.counts →
-      Step (flow_bursts flow) given calls at word (lent w' counts handles sizes)
-  unfolding call_at
-  tick-step clock c k l m word w' e f g =
-      rw (k, l, m, ← c) (e ∙ plain-tick (state_of w) counts flow clock (get_or calls (at + 3) 0), rw (f, ← g))
-
-  pub unknown-step : eqb kind 0 ≡ false → eqb kind 2 ≡ false → eqb kind 3 ≡ false → Step (flow_bursts flow) given calls at 120 given
-  unfolding call_at
-  unknown-step k l m = rw (k, l, m) (refl, refl)
+  pub tick-does : (clock credits word : ℕ) (w' : List ℕ) →
+      let a = tick (state_of w) counts flow clock credits in
+      (word ≡ code_of a.answer) × (w' ≡ state_words a.state) × (counts ≡ a.counts) →
+      Does (asked (ask_tick clock credits)) word (lent w' counts handles sizes)
+  tick-does clock credits word w' (e, f, g) = (e ∙ plain-tick (state_of w) counts flow clock credits, rw (f, ← g))

@@ -1,14 +1,9 @@
 -- The steps of a flow that is one of sixteen, from what the flow gives with its row.
 use mathlib.Core.Path.{◌≡◌, refl}
-use mathlib.Core.Bool.{true, false}
 use mathlib.Core.List.{List}
 use Prim.Native.Nat.{ℕ, zero, suc, ◌+◌, ◌≤◌}
-use native.Mathlib.Omega.{arith}
-use lib.Dec.{eqb, ltb}
+use lib.Dec.{eqb}
 use lib.ListN.{get_or, length}
-use borrow.Author.Tests.{eq-eqb, eqb-true, ltb-false, ltb-true, ne_eqb}
-use Rattle.bursts.specs.Numbers.{clock_at}
-use Rattle.bursts.proofs.Steps.{Step}
 use Rattle.modem_flow.specs.Answer.{Reply, unless_refused}
 use Rattle.modem_flow.specs.Arrival as flow-arrival
 use Rattle.modem_flow.specs.Arrival.{stored}
@@ -16,28 +11,18 @@ use Rattle.modem_flow.specs.Departure as flow-departure
 use Rattle.modem_flow.specs.Departure.{head_of}
 use Rattle.modem_flow.specs.Tick as flow-tick
 use Rattle.modem_flow.specs.declared.State.{State}
+use Rattle.modem.specs.Asked.{ask_arrival, ask_departure, ask_tick}
 use Rattle.modem.specs.Calls.{arrival, departure, tick}
 use Rattle.modem.specs.Counts.{counts_after, row_of}
 use Rattle.modem_guarantees.proofs.Replies.{departure_of, tick_of}
 use Rattle.refusals.specs.Codes.{code_of}
 use Rattle.modem_words.specs.Words.{state_of, state_words}
+use Rattle.laws.proofs.Choice.{at-cond}
 use Rattle.bursts.specs.Answers.{answer_word}
 use Rattle.modem_words.specs.Lent.{lent}
-use Rattle.modem_burst.specs.Burst.{flow_bursts}
+use Rattle.modem_burst.specs.Calls.{Call, asked, call_at}
 use Rattle.modem_burst.proofs.Kept.{within}
-use Rattle.modem_burst.proofs.Steps.{arrival-step, departure-step, tick-step}
-
--- ── the kinds ──
-
-module _ (kind : ℕ) where
-  pub departure-only : eqb kind 2 ≡ true → eqb kind 0 ≡ false
-  departure-only e = rw (eqb-true kind 2 e) refl
-
-  pub is-arrival : ltb kind 1 ≡ true → eqb kind 0 ≡ true
-  is-arrival e = eq-eqb kind 0 (omega (arith, ltb-true kind 1 e))
-
-  pub no-arrival : ltb kind 1 ≡ false → eqb kind 0 ≡ false
-  no-arrival e = let low = ltb-false kind 1 e in ne_eqb kind 0 (omega arith)
+use Rattle.modem_burst.proofs.Steps.{Does, arrival-does, departure-does, tick-does}
 
 -- ── neither a departure nor a tick counts ──
 
@@ -62,52 +47,53 @@ module _ (counts : List (List ℕ)) (flow : ℕ) (s : State) (row : List ℕ) wh
 
 -- ── each kind of call ──
 
-module _ (flow : ℕ) (w : List ℕ) (counts : List (List ℕ)) (handles sizes calls : List ℕ) (at : ℕ) (known : flow ≤ 15)
-    (clock : ℕ) (is : clock ≡ clock_at calls at) where
+module _ (flow : ℕ) (w : List ℕ) (counts : List (List ℕ)) (handles sizes : List ℕ) (known : flow ≤ 15) (clock : ℕ) where
   abbrev row : List ℕ
   row = row_of counts flow
 
-  abbrev kind : ℕ
-  kind = get_or calls (at + 5) 0
-
-  abbrev size : ℕ
-  size = get_or calls (at + 3) 0
-
-  abbrev arrives : Reply
-  arrives = flow-arrival.arrival (state_of w) row handles sizes clock size (get_or calls (at + 4) 0)
-
-  pub arrival-within : eqb kind 0 ≡ true → (word : ℕ) (w' : List ℕ) (counts' : List (List ℕ)) (handles' sizes' : List ℕ) →
-      (word ≡ code_of arrives.answer)
-      × (w' ≡ state_words arrives.state)
-      × (counts' ≡ counts_after counts flow arrives.answer)
-      × (handles' ≡ stored (state_of w) arrives.answer handles (get_or calls (at + 2) 0))
-      × (sizes' ≡ stored (state_of w) arrives.answer sizes size) →
-      Step (flow_bursts flow) (lent w counts handles sizes) calls at word (lent w' counts' handles' sizes')
+  pub arrival-within : (handle size u word : ℕ) (w' : List ℕ) (counts' : List (List ℕ)) (handles' sizes' : List ℕ) →
+      let a = flow-arrival.arrival (state_of w) row handles sizes clock size u in
+      (word ≡ code_of a.answer)
+      × (w' ≡ state_words a.state)
+      × (counts' ≡ counts_after counts flow a.answer)
+      × (handles' ≡ stored (state_of w) a.answer handles handle)
+      × (sizes' ≡ stored (state_of w) a.answer sizes size) →
+      Does flow w counts handles sizes (asked (ask_arrival clock handle size u)) word (lent w' counts' handles' sizes')
   unfolding arrival
-  arrival-within k word w' counts' handles' sizes' (e, f, g, h, i) =
-      let m = within flow (state_of w) counts arrives known in
-      arrival-step flow w counts handles sizes calls at clock is k word w' counts' handles' sizes' (rw m e) (rw m f) (rw m g) (rw m h) (rw m i)
+  arrival-within handle size u word w' counts' handles' sizes' e =
+      let m = within flow (state_of w) counts (flow-arrival.arrival (state_of w) row handles sizes clock size u) known in
+      arrival-does flow w counts handles sizes clock handle size u word w' counts' handles' sizes' (rw m e)
 
-  abbrev departs : Reply
-  departs = flow-departure.departure (state_of w) row handles sizes clock
-
-  pub departure-within : eqb kind 0 ≡ false → eqb kind 2 ≡ true → (word : ℕ) (w' : List ℕ) →
-      (word ≡ answer_word departs.answer) × (w' ≡ state_words departs.state) →
-      Step (flow_bursts flow) (lent w counts handles sizes) calls at word (lent w' counts handles sizes)
+  pub departure-within : (word : ℕ) (w' : List ℕ) →
+      let a = flow-departure.departure (state_of w) row handles sizes clock in
+      (word ≡ answer_word a.answer) × (w' ≡ state_words a.state) →
+      Does flow w counts handles sizes (asked (ask_departure clock)) word (lent w' counts handles sizes)
   unfolding departure
-  departure-within k l word w' (e, f) =
-      let m = within flow (state_of w) counts departs known in
-      departure-step flow w counts handles sizes calls at clock is k l word w' (rw m e) (rw m f)
-      (rw m (departure-uncounted counts flow (state_of w) row handles sizes clock))
+  departure-within word w' (e, f) =
+      let m = within flow (state_of w) counts (flow-departure.departure (state_of w) row handles sizes clock) known in
+      departure-does flow w counts handles sizes clock word w'
+      (rw m (e, f, departure-uncounted counts flow (state_of w) row handles sizes clock))
 
-  abbrev ticks : Reply
-  ticks = flow-tick.tick (state_of w) row clock size
-
-  pub tick-within : eqb kind 0 ≡ false → eqb kind 2 ≡ false → eqb kind 3 ≡ true → (word : ℕ) (w' : List ℕ) →
-      (word ≡ code_of ticks.answer) × (w' ≡ state_words ticks.state) →
-      Step (flow_bursts flow) (lent w counts handles sizes) calls at word (lent w' counts handles sizes)
+  pub tick-within : (credits word : ℕ) (w' : List ℕ) →
+      let a = flow-tick.tick (state_of w) row clock credits in
+      (word ≡ code_of a.answer) × (w' ≡ state_words a.state) →
+      Does flow w counts handles sizes (asked (ask_tick clock credits)) word (lent w' counts handles sizes)
   unfolding tick
-  tick-within k l m word w' (e, f) =
-      let i = within flow (state_of w) counts ticks known in
-      tick-step flow w counts handles sizes calls at clock is k l m word w' (rw i e) (rw i f)
-      (rw i (tick-uncounted counts flow (state_of w) row clock size))
+  tick-within credits word w' (e, f) =
+      let m = within flow (state_of w) counts (flow-tick.tick (state_of w) row clock credits) known in
+      tick-does flow w counts handles sizes clock credits word w' (rw m (e, f, tick-uncounted counts flow (state_of w) row clock credits))
+
+-- ── an arrival that was read has its numbers in the list ──
+
+module _ (calls : List ℕ) (at clock handle size u : ℕ) where
+  abbrev InList : Call → Type 0
+  InList c =
+      asked (ask_arrival clock handle size u) ≡ c →
+      asked (ask_arrival clock (get_or calls (at + 2) 0) (get_or calls (at + 3) 0) (get_or calls (at + 4) 0)) ≡ c
+
+  pub arrival-read : InList (call_at calls at)
+  unfolding call_at
+  arrival-read =
+      let kind = get_or calls (at + 5) 0 in
+      at-cond InList (eqb kind 0) (λ k e. cc)
+      (λ k. at-cond InList (eqb kind 2) (λ l e. cc) (λ l. at-cond InList (eqb kind 3) (λ m e. cc) (λ m e. cc)))

@@ -1,6 +1,8 @@
 // One entry for a list of calls on one flow: record and row are tested once, and each call is answered as the single entries would.
 #![tactic(auto)]
 
+mod call;
+
 ghost use Rattle.std.specs.Prelude.{◌≡◌, cond, true, ℕ, ◌+◌, ◌*◌, ◌≤◌, ◌<◌, length};
 ghost use Rattle.pie.specs.Constants.{most_verdicts};
 ghost use Rattle.pie.specs.Verdicts.{total};
@@ -16,11 +18,17 @@ ghost use Rattle.modem_burst.specs.Calls.{call_at};
 ghost use Rattle.bursts.specs.Answers.{answer_word};
 ghost use Rattle.modem_burst.specs.Burst.{after, answer_to, flow_bursts, modem_bursts};
 
-use bursts::{Queue, answer_each, clock_of, has_room, wide, word};
+use crate::call::{Read, read_at};
+use bursts::{Queue, answer_each, has_room, word};
 use modem_steps::{arrive, depart, lent_arrival, lent_departure, lent_tick, tick};
-use modem_words::{Code, Word, record_fits};
+use modem_words::{SLOTS, record_fits};
 
-// The call at `at`, of a flow that is ready for it. Departures are tested for first (docs/PERFORMANCE.md).
+// What a call of no known kind is answered, and what a list is that has not six numbers for each answer.
+const UNKNOWN: u64 = 120;
+
+const MISFIT: u32 = 120;
+
+// The call at `at`, of a flow that is ready for it.
 fn known(
     w: &mut [u64; 16],
     counts: &mut [[u64; 5]; 16],
@@ -37,21 +45,14 @@ fn known(
         (result ≡ answer_word (answer_to flow q c))
         × (lent w.new counts.new handles.new sizes.new ≡ after flow q c) }
 {
-    let clock = clock_of(calls[at], calls[at + 1]);
-    let kind = calls[at + 5];
-    let departs = kind == 2;
-    if departs {
-        return depart(w, handles, sizes, clock);
+    match read_at(calls, at) {
+        Some(Read::Departure { clock }) => depart(w, handles, sizes, clock),
+        Some(Read::Arrival { clock, .. }) => arrive(
+            w, counts, flow, handles, sizes, calls, at, clock,
+        ),
+        Some(Read::Tick { clock, credits }) => tick(w, clock, u64::from(credits)),
+        None => UNKNOWN,
     }
-    let arrives = kind < 1;
-    if arrives {
-        return arrive(w, counts, flow, handles, sizes, calls, at, clock);
-    }
-    let ticks = kind == 3;
-    if ticks {
-        return tick(w, clock, wide(calls[at + 3]));
-    }
-    Code::UNKNOWN
 }
 
 // A tick, as the single entry answers it. Since this calls `tick` too, the compiler leaves it out of the loop over the calls
@@ -70,9 +71,9 @@ fn single_tick(
 {
     let formed = record_fits(w, counts, flow);
     if formed {
-        return tick(w, clock, wide(credits));
+        return tick(w, clock, u64::from(credits));
     }
-    wide(lent_tick(w, counts, flow, clock, credits))
+    u64::from(lent_tick(w, counts, flow, clock, credits))
 }
 
 // The call at `at`, by the single entries.
@@ -91,34 +92,29 @@ fn single(
         (result ≡ answer_word (answer_to flow q c))
         × (lent w.new counts.new handles.new sizes.new ≡ after flow q c) }
 {
-    let clock = clock_of(calls[at], calls[at + 1]);
-    let kind = calls[at + 5];
-    let arrives = kind == 0;
-    if arrives {
-        let code = lent_arrival(
-            w,
-            counts,
-            flow,
-            handles,
-            sizes,
-            clock,
-            calls[at + 2],
-            calls[at + 3],
-            calls[at + 4],
-        );
-        return wide(code);
+    match read_at(calls, at) {
+        Some(Read::Departure { clock }) => {
+            let mut packet: [u32; 2] = [0, 0];
+            let code = lent_departure(w, counts, flow, handles, sizes, clock, &mut packet);
+            word(code, packet[1], packet[0])
+        }
+        Some(Read::Arrival { clock, packet, u }) => {
+            let code = lent_arrival(
+                w,
+                counts,
+                flow,
+                handles,
+                sizes,
+                clock,
+                packet.handle,
+                packet.size,
+                u,
+            );
+            u64::from(code)
+        }
+        Some(Read::Tick { clock, credits }) => single_tick(w, counts, flow, clock, credits),
+        None => UNKNOWN,
     }
-    let departs = kind == 2;
-    if departs {
-        let mut packet: [u32; 2] = [0, 0];
-        let code = lent_departure(w, counts, flow, handles, sizes, clock, &mut packet);
-        return word(code, packet[1], packet[0]);
-    }
-    let ticks = kind == 3;
-    if ticks {
-        return single_tick(w, counts, flow, clock, calls[at + 3]);
-    }
-    Code::UNKNOWN
 }
 
 // Whether the flow is one of sixteen, state and row are well formed, the tables fit and the row has room for `n` arrivals. It decides only
@@ -142,10 +138,10 @@ fn ready(
     if !formed {
         return false;
     }
-    if handles != w[Word::SLOTS] {
+    if handles != w[SLOTS] {
         return false;
     }
-    if sizes != w[Word::SLOTS] {
+    if sizes != w[SLOTS] {
         return false;
     }
     has_room(counts[flow as usize], n)
@@ -229,7 +225,7 @@ pub extern "C" fn obikuteru_modem_calls(
     let n = answers.len();
     let fit = (calls.len() % 6 == 0) & (calls.len() / 6 == n);
     if !fit {
-        return Code::MISFIT;
+        return MISFIT;
     }
     let ahead = ready(
         words,

@@ -12,12 +12,14 @@ ghost use Rattle.modem_words.specs.Lent.{lent};
 ghost use Rattle.modem_steps.specs.Fitting.{Ready};
 ghost use Rattle.modem_steps.specs.Words.{pie_words};
 
-use bursts::wide;
 use docsis_pie::{
     Activity, FULL_ALLOWANCE, HIGH, below_third, early, in_allowance, is_low, lightly_loaded,
     limit_sum, scaled, small, sum,
 };
-use modem_words::{Word, raise};
+use modem::raise;
+use modem_words::{
+    ACCUMULATED, ACTIVITY, ALLOWANCE, BUFFER, BYTES, CLOCK, COUNT, FIRST, OLD, PROB, SLOTS, TARGET,
+};
 use pie::{LARGEST, LATEST, Verdict};
 use places::tail_place;
 use refusals::{Refusal, refused};
@@ -30,13 +32,13 @@ fn stays_inactive(w: &mut [u64; 16], bytes: u64) -> bool
     ensures w_after { w.new
         ≡ pie_words w.old (cond result (pie_of w.old) (no_longer_inactive (pie_of w.old))) }
 {
-    let inactive = w[Word::ACTIVITY] == Activity::INACTIVE.0;
+    let inactive = w[ACTIVITY] == Activity::INACTIVE.0;
     if inactive {
-        let stays = below_third(Bytes(bytes), Bytes(w[Word::BUFFER]));
+        let stays = below_third(Bytes(bytes), Bytes(w[BUFFER]));
         if stays {
             return true;
         }
-        w[Word::ACTIVITY] = Activity::QUIESCENT.0;
+        w[ACTIVITY] = Activity::QUIESCENT.0;
     }
     false
 }
@@ -46,11 +48,11 @@ fn drop_early(w: &mut [u64; 16])
     requires { length w.old ≡ 16 }
     ensures { w.new ≡ pie_words w.old (after_drop (pie_of w.old)) }
 {
-    let quiescent = w[Word::ACTIVITY] == Activity::QUIESCENT.0;
-    w[Word::ACCUMULATED] = 0;
+    let quiescent = w[ACTIVITY] == Activity::QUIESCENT.0;
+    w[ACCUMULATED] = 0;
     if quiescent {
-        w[Word::ALLOWANCE] = FULL_ALLOWANCE;
-        w[Word::ACTIVITY] = Activity::ACTIVE.0;
+        w[ALLOWANCE] = FULL_ALLOWANCE;
+        w[ACTIVITY] = Activity::ACTIVE.0;
     }
 }
 
@@ -64,22 +66,22 @@ fn draw(w: &mut [u64; 16], bytes: u64, size: u64, calls: &[u32], at: usize) -> V
         let d = drawn_with (summed pie part) (get_or w.old 0 0) bytes part (get_or calls.now (at + 4) 0) in
         (result ≡ d.verdict) × (w.new ≡ pie_words w.old d.pie) }
 {
-    let p = Prob(w[Word::PROB]);
+    let p = Prob(w[PROB]);
     let part = scaled(p, Bytes(size));
-    let total = sum(Prob(w[Word::ACCUMULATED]), part);
-    let light = lightly_loaded(p, Micros(w[Word::OLD]), Micros(w[Word::TARGET]));
+    let total = sum(Prob(w[ACCUMULATED]), part);
+    let light = lightly_loaded(p, Micros(w[OLD]), Micros(w[TARGET]));
     if light {
-        w[Word::ACCUMULATED] = limit_sum(total).0;
+        w[ACCUMULATED] = limit_sum(total).0;
         return Verdict::Enqueued;
     }
     let low = is_low(total);
     if low {
-        w[Word::ACCUMULATED] = total.0;
+        w[ACCUMULATED] = total.0;
         return Verdict::Enqueued;
     }
     let little = small(Bytes(bytes));
     if little {
-        w[Word::ACCUMULATED] = limit_sum(total).0;
+        w[ACCUMULATED] = limit_sum(total).0;
         return Verdict::Enqueued;
     }
     let drops = (HIGH <= total.0) | early(part, calls[at + 4]);
@@ -87,7 +89,7 @@ fn draw(w: &mut [u64; 16], bytes: u64, size: u64, calls: &[u32], at: usize) -> V
         drop_early(w);
         return Verdict::DroppedEarly;
     }
-    w[Word::ACCUMULATED] = total.0;
+    w[ACCUMULATED] = total.0;
     Verdict::Enqueued
 }
 
@@ -97,24 +99,24 @@ fn decide(w: &mut [u64; 16], size: u64, calls: &[u32], at: usize) -> Verdict
     ensures { let d = decision_of (state_of w.old) size (get_or calls.now (at + 4) 0) in
         (result ≡ d.verdict) × (w.new ≡ pie_words w.old d.pie) }
 {
-    let bytes = w[Word::BYTES];
-    let bytes_full = w[Word::BUFFER] < bytes + size;
+    let bytes = w[BYTES];
+    let bytes_full = w[BUFFER] < bytes + size;
     if bytes_full {
-        w[Word::ACCUMULATED] = 0;
+        w[ACCUMULATED] = 0;
         return Verdict::DroppedBytes;
     }
-    let slots_full = w[Word::COUNT] == w[Word::SLOTS];
+    let slots_full = w[COUNT] == w[SLOTS];
     if slots_full {
-        w[Word::ACCUMULATED] = 0;
+        w[ACCUMULATED] = 0;
         return Verdict::DroppedSlots;
     }
-    let burst = in_allowance(Micros(w[Word::ALLOWANCE]));
+    let burst = in_allowance(Micros(w[ALLOWANCE]));
     if burst {
         return Verdict::Enqueued;
     }
-    let none = w[Word::PROB] == 0;
+    let none = w[PROB] == 0;
     if none {
-        w[Word::ACCUMULATED] = 0;
+        w[ACCUMULATED] = 0;
         stays_inactive(w, bytes);
         return Verdict::Enqueued;
     }
@@ -126,6 +128,8 @@ fn decide(w: &mut [u64; 16], size: u64, calls: &[u32], at: usize) -> Verdict
 }
 
 // A packet arrives. This and the other calls answer by the number that a burst hands to C.
+// Handle, size and u are read from the list where each is used: given as numbers, a call of a burst of 32 took 75.0 and 71.4 instructions
+// (modem, modem-full) in place of 73.7 and 69.8.
 pub fn arrive(
     w: &mut [u64; 16],
     counts: &mut [[u64; 5]; 16],
@@ -148,25 +152,25 @@ pub fn arrive(
         × (handles.new ≡ stored s a.answer handles.old (get_or calls.now (at + 2) 0))
         × (sizes.new ≡ stored s a.answer sizes.old size) }
 {
-    let wrong_clock = (clock < w[Word::CLOCK]) | (LATEST < clock);
+    let wrong_clock = (clock < w[CLOCK]) | (LATEST < clock);
     if wrong_clock {
         return refused(Refusal::Clock) as u64;
     }
     let size = calls[at + 3];
-    let bytes = wide(size);
+    let bytes = u64::from(size);
     let wrong_size = (bytes == 0) | (LARGEST < bytes);
     if wrong_size {
         return refused(Refusal::Size) as u64;
     }
     let v = decide(w, bytes, calls, at);
-    w[Word::CLOCK] = clock;
-    raise(counts, flow, v);
+    w[CLOCK] = clock;
+    raise(counts, flow as usize, v);
     let place = v.place();
     let admits = v.admits();
     if admits {
-        let tail = tail_place(w[Word::FIRST], w[Word::COUNT], w[Word::SLOTS]) as usize;
-        w[Word::COUNT] = w[Word::COUNT] + 1;
-        w[Word::BYTES] = w[Word::BYTES] + bytes;
+        let tail = tail_place(w[FIRST], w[COUNT], w[SLOTS]) as usize;
+        w[COUNT] = w[COUNT] + 1;
+        w[BYTES] = w[BYTES] + bytes;
         handles[tail] = calls[at + 2];
         sizes[tail] = size;
     }

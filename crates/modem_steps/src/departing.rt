@@ -7,8 +7,8 @@ ghost use Rattle.modem_words.specs.Words.{state_of, state_words};
 ghost use Rattle.bursts.specs.Answers.{answer_word};
 ghost use Rattle.modem_steps.specs.Fitting.{Fitting};
 
-use bursts::{wide, word};
-use modem_words::Word;
+use bursts::word;
+use modem_words::{BYTES, CLOCK, COUNT, FIRST, SLOTS};
 use pie::{Backlog, LATEST};
 use places::following;
 use refusals::{Refusal, refused, wrong_head};
@@ -21,20 +21,20 @@ pub fn depart(w: &mut [u64; 16], handles: &[u32], sizes: &[u32], clock: u64) -> 
         let a = departure (state_of w.old) row handles.now sizes.now clock in
         (result ≡ answer_word a.answer) × (w.new ≡ state_words a.state) }
 {
-    let wrong_clock = (clock < w[Word::CLOCK]) | (LATEST < clock);
+    let wrong_clock = (clock < w[CLOCK]) | (LATEST < clock);
     if wrong_clock {
         return refused(Refusal::Clock) as u64;
     }
-    let count = w[Word::COUNT];
-    let bytes = w[Word::BYTES];
+    let count = w[COUNT];
+    let bytes = w[BYTES];
     let empty = count == 0;
     if empty {
         return refused(Refusal::Empty) as u64;
     }
-    let first = w[Word::FIRST];
+    let first = w[FIRST];
     let at = first as usize;
     let head = sizes[at];
-    let size = wide(head);
+    let size = u64::from(head);
     let backlog = Backlog {
         count,
         bytes: Bytes(bytes),
@@ -44,10 +44,10 @@ pub fn depart(w: &mut [u64; 16], handles: &[u32], sizes: &[u32], clock: u64) -> 
         return refused(Refusal::Head) as u64;
     }
     let handle = handles[at];
-    let next = following(first, w[Word::SLOTS]);
-    w[Word::CLOCK] = clock;
-    w[Word::FIRST] = next;
-    w[Word::COUNT] = count - 1;
-    w[Word::BYTES] = bytes - size;
+    let next = following(first, w[SLOTS]);
+    w[CLOCK] = clock;
+    w[FIRST] = next;
+    w[COUNT] = count - 1;
+    w[BYTES] = bytes - size;
     word(0, head, handle)
 }

@@ -11,7 +11,9 @@ ghost use Rattle.modem_words.specs.Words.{pie_of, state_of, state_words};
 ghost use Rattle.modem_steps.specs.Words.{phase_words};
 
 use docsis_pie::{Activity, PERIOD, delay, next_allowance, next_prob, quiet, timed_out};
-use modem_words::Word;
+use modem_words::{
+    ACTIVITY, ALLOWANCE, BYTES, CLOCK, LAST, OLD, PEAK, PROB, RESET, SUSTAINED, TARGET,
+};
 use pie::LATEST;
 use refusals::{Refusal, refused};
 use units::{Bytes, BytesPerSecond, Micros, Prob};
@@ -23,11 +25,11 @@ fn wait(w: &mut [u64; 16], reset: u64)
 {
     let over = timed_out(Micros(reset));
     if over {
-        w[Word::RESET] = 0;
-        w[Word::ACTIVITY] = Activity::INACTIVE.0;
+        w[RESET] = 0;
+        w[ACTIVITY] = Activity::INACTIVE.0;
         return;
     }
-    w[Word::RESET] = reset;
+    w[RESET] = reset;
 }
 
 // Rules 10 and 11.
@@ -35,22 +37,22 @@ fn follow(w: &mut [u64; 16], quiet: bool)
     requires { (length w.old ≡ 16) × (get_or w.old 11 0 ≤ reset_timeout) }
     ensures { w.new ≡ phase_words w.old (phase_after quiet (pie_of w.old).phase) }
 {
-    let was_active = w[Word::ACTIVITY] == Activity::ACTIVE.0;
+    let was_active = w[ACTIVITY] == Activity::ACTIVE.0;
     if was_active {
         if quiet {
-            w[Word::RESET] = 0;
-            w[Word::ACTIVITY] = Activity::QUIESCENT.0;
+            w[RESET] = 0;
+            w[ACTIVITY] = Activity::QUIESCENT.0;
         }
         return;
     }
-    let was_quiescent = w[Word::ACTIVITY] == Activity::QUIESCENT.0;
+    let was_quiescent = w[ACTIVITY] == Activity::QUIESCENT.0;
     if was_quiescent {
         if quiet {
-            let reset = w[Word::RESET] + PERIOD;
+            let reset = w[RESET] + PERIOD;
             wait(w, reset);
             return;
         }
-        w[Word::RESET] = 0;
+        w[RESET] = 0;
     }
 }
 
@@ -62,30 +64,30 @@ pub fn tick(w: &mut [u64; 16], clock: u64, credits: u64) -> u64
         let a = tick (state_of w.old) row clock credits in
         (result ≡ code_of a.answer) × (w.new ≡ state_words a.state) }
 {
-    let wrong_clock = (clock < w[Word::CLOCK]) | (LATEST < clock);
+    let wrong_clock = (clock < w[CLOCK]) | (LATEST < clock);
     if wrong_clock {
         return refused(Refusal::Clock) as u64;
     }
-    let too_soon = clock < w[Word::LAST] + PERIOD;
+    let too_soon = clock < w[LAST] + PERIOD;
     if too_soon {
         return refused(Refusal::TooSoon) as u64;
     }
-    let target = Micros(w[Word::TARGET]);
-    let old = Micros(w[Word::OLD]);
-    let before = Micros(w[Word::ALLOWANCE]);
+    let target = Micros(w[TARGET]);
+    let old = Micros(w[OLD]);
+    let before = Micros(w[ALLOWANCE]);
     let now = delay(
-        Bytes(w[Word::BYTES]),
+        Bytes(w[BYTES]),
         Bytes(credits),
-        BytesPerSecond(w[Word::PEAK]),
-        BytesPerSecond(w[Word::SUSTAINED]),
+        BytesPerSecond(w[PEAK]),
+        BytesPerSecond(w[SUSTAINED]),
     );
-    let prob = next_prob(Prob(w[Word::PROB]), before, now, old, target);
+    let prob = next_prob(Prob(w[PROB]), before, now, old, target);
     let allowance = next_allowance(before);
-    w[Word::CLOCK] = clock;
-    w[Word::LAST] = clock;
-    w[Word::PROB] = prob.0;
-    w[Word::OLD] = now.0;
-    w[Word::ALLOWANCE] = allowance.0;
+    w[CLOCK] = clock;
+    w[LAST] = clock;
+    w[PROB] = prob.0;
+    w[OLD] = now.0;
+    w[ALLOWANCE] = allowance.0;
     follow(w, quiet(prob, allowance, now, old, target));
     0
 }

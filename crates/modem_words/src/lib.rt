@@ -1,14 +1,13 @@
-// A flow's record as words and its counts in the lent table, for the modem's C interface and its bursts.
+// A flow's record as words, for the modem's C interface and its bursts.
 #![tactic(auto)]
 
-mod codes;
-mod counting;
-mod numbering;
+mod layout;
 mod records;
 mod testing;
 
-pub use codes::Code;
-pub use counting::raise;
-pub use numbering::Word;
+pub use layout::{
+    ACCUMULATED, ACTIVITY, ALLOWANCE, BUFFER, BYTES, CLOCK, COUNT, FIRST, LAST, OLD, PEAK, PROB,
+    RESET, SLOTS, SUSTAINED, TARGET,
+};
 pub use records::{decode, encode, write_arrival, write_departure};
 pub use testing::record_fits;

@@ -2,7 +2,10 @@
 ghost use Rattle.std.specs.Prelude.{◌≡◌, length};
 ghost use Rattle.modem_words.specs.Words.{arrival_words, departure_words, state_of, state_words};
 
-use crate::numbering::Word;
+use crate::layout::{
+    ACCUMULATED, ACTIVITY, ALLOWANCE, BUFFER, BYTES, CLOCK, COUNT, FIRST, LAST, OLD, PEAK, PROB,
+    RESET, SLOTS, SUSTAINED, TARGET,
+};
 use docsis_pie::{Activity, DocsisPie, Phase};
 use modem_flow::{Settings, State};
 use pie::Backlog;
@@ -13,34 +16,34 @@ pub fn decode(w: [u64; 16]) -> State
     ensures { (result ≡ state_of w) × (length w ≡ 16) }
 {
     let settings = Settings {
-        target: Micros(w[Word::TARGET]),
-        buffer: Bytes(w[Word::BUFFER]),
-        slots: w[Word::SLOTS],
-        peak: BytesPerSecond(w[Word::PEAK]),
-        sustained: BytesPerSecond(w[Word::SUSTAINED]),
+        target: Micros(w[TARGET]),
+        buffer: Bytes(w[BUFFER]),
+        slots: w[SLOTS],
+        peak: BytesPerSecond(w[PEAK]),
+        sustained: BytesPerSecond(w[SUSTAINED]),
     };
     let phase = Phase {
-        activity: Activity(w[Word::ACTIVITY]),
-        reset: Micros(w[Word::RESET]),
+        activity: Activity(w[ACTIVITY]),
+        reset: Micros(w[RESET]),
     };
     let pie = DocsisPie {
-        prob: Prob(w[Word::PROB]),
-        accumulated: Prob(w[Word::ACCUMULATED]),
-        old: Micros(w[Word::OLD]),
-        allowance: Micros(w[Word::ALLOWANCE]),
+        prob: Prob(w[PROB]),
+        accumulated: Prob(w[ACCUMULATED]),
+        old: Micros(w[OLD]),
+        allowance: Micros(w[ALLOWANCE]),
         phase,
     };
     let backlog = Backlog {
-        count: w[Word::COUNT],
-        bytes: Bytes(w[Word::BYTES]),
+        count: w[COUNT],
+        bytes: Bytes(w[BYTES]),
     };
     State {
         settings,
-        clock: Micros(w[Word::CLOCK]),
-        last: Micros(w[Word::LAST]),
+        clock: Micros(w[CLOCK]),
+        last: Micros(w[LAST]),
         pie,
         backlog,
-        first: w[Word::FIRST],
+        first: w[FIRST],
     }
 }
 
@@ -72,20 +75,20 @@ pub fn encode(w: &mut [u64; 16], s: State)
 pub fn write_arrival(w: &mut [u64; 16], s: State)
     ensures { w.new ≡ arrival_words w.old s }
 {
-    w[Word::CLOCK] = s.clock.0;
-    w[Word::ACCUMULATED] = s.pie.accumulated.0;
-    w[Word::ALLOWANCE] = s.pie.allowance.0;
-    w[Word::ACTIVITY] = s.pie.phase.activity.0;
-    w[Word::COUNT] = s.backlog.count;
-    w[Word::BYTES] = s.backlog.bytes.0;
+    w[CLOCK] = s.clock.0;
+    w[ACCUMULATED] = s.pie.accumulated.0;
+    w[ALLOWANCE] = s.pie.allowance.0;
+    w[ACTIVITY] = s.pie.phase.activity.0;
+    w[COUNT] = s.backlog.count;
+    w[BYTES] = s.backlog.bytes.0;
 }
 
 // The words that a departure changes.
 pub fn write_departure(w: &mut [u64; 16], s: State)
     ensures { w.new ≡ departure_words w.old s }
 {
-    w[Word::CLOCK] = s.clock.0;
-    w[Word::FIRST] = s.first;
-    w[Word::COUNT] = s.backlog.count;
-    w[Word::BYTES] = s.backlog.bytes.0;
+    w[CLOCK] = s.clock.0;
+    w[FIRST] = s.first;
+    w[COUNT] = s.backlog.count;
+    w[BYTES] = s.backlog.bytes.0;
 }

@@ -48,7 +48,7 @@ pub returns-then-wrong : goal.returns-then-wrong
 unfolding state_of
 returns-then-wrong c =
     let q = c.requires in
-    let wrong = sym (rw c.wide-size.ensures at c.wrong_head-wrong.ensures) ∙ c.if-wrong.true in
+    let wrong = sym (rw c.from-size.ensures at c.wrong_head-wrong.ensures) ∙ c.if-wrong.true in
     λ row fits.
     rw (departure-wrong _ row _ q.1 fits _ _ q.2 q.3 c.if-wrong_clock.false (ne_eqb _ _ c.if-empty.false) wrong) (c.refused-then-wrong.ensures, kept _ _ (refl, q.0))
 
@@ -78,15 +78,15 @@ pub overflow_sub-w-2 : goal.overflow_sub-w-2
 unfolding state_of
 overflow_sub-w-2 c =
     let right : head_refused (state_of c.args.w.now).backlog (head_of (state_of c.args.w.now) c.args.sizes.now) ≡ false =
-    sym (rw c.wide-size.ensures at c.wrong_head-wrong.ensures) ∙ c.if-wrong.false in
+    sym (rw c.from-size.ensures at c.wrong_head-wrong.ensures) ∙ c.if-wrong.false in
     let fit : HeadFits (state_of c.args.w.now).backlog (head_of (state_of c.args.w.now) c.args.sizes.now) = head-fits _ _ right in
-    rw c.wide-size.ensures fit.fits
+    rw c.from-size.ensures fit.fits
 
 pub word-requires : goal.word-requires
 unfolding state_of
 word-requires c =
     let right : head_refused (state_of c.args.w.now).backlog (head_of (state_of c.args.w.now) c.args.sizes.now) ≡ false =
-    sym (rw c.wide-size.ensures at c.wrong_head-wrong.ensures) ∙ c.if-wrong.false in
+    sym (rw c.from-size.ensures at c.wrong_head-wrong.ensures) ∙ c.if-wrong.false in
     let fit : HeadFits (state_of c.args.w.now).backlog (head_of (state_of c.args.w.now) c.args.sizes.now) = head-fits _ _ right in
     (omega arith, fit.high)
 
@@ -95,8 +95,8 @@ unfolding state_of
 returns c =
     let q = c.requires in
     let right : head_refused (state_of c.args.w.now).backlog (head_of (state_of c.args.w.now) c.args.sizes.now) ≡ false =
-    sym (rw c.wide-size.ensures at c.wrong_head-wrong.ensures) ∙ c.if-wrong.false in
+    sym (rw c.from-size.ensures at c.wrong_head-wrong.ensures) ∙ c.if-wrong.false in
     let words = departed-words c.args.clock (head_of (state_of c.args.w.now) c.args.sizes.now) c.args.w.now q.0 in
     λ row fits.
     rw (departure-made _ row _ q.1 fits _ _ q.2 q.3 c.if-wrong_clock.false (ne_eqb _ _ c.if-empty.false) right)
-    (c.word.ensures, rw (c.following-next.ensures, c.wide-size.ensures) words)
+    (c.word.ensures, rw (c.following-next.ensures, c.from-size.ensures) words)
