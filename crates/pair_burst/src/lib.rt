@@ -13,9 +13,8 @@ ghost use Rattle.pair_burst.specs.Fitting.{Ready, lent_both};
 
 use crate::one::answer;
 use bursts::{Queue, answer_each, has_room};
-use pair_words::{
-    DROPPED_BYTES, DROPPED_EARLY, DROPPED_SLOTS, ENQUEUED, MARKED, SLOTS, records_fit,
-};
+use pair_words::{SLOTS, VERDICTS, records_fit};
+use pie_words::counts_at;
 
 mod one;
 
@@ -46,29 +45,11 @@ fn ready(
     if !fit {
         return false;
     }
-    let first = has_room(
-        [
-            intercom[ENQUEUED],
-            intercom[MARKED],
-            intercom[DROPPED_BYTES],
-            intercom[DROPPED_SLOTS],
-            intercom[DROPPED_EARLY],
-        ],
-        n,
-    );
+    let first = has_room(counts_at(intercom, VERDICTS), n);
     if !first {
         return false;
     }
-    has_room(
-        [
-            passengers[ENQUEUED],
-            passengers[MARKED],
-            passengers[DROPPED_BYTES],
-            passengers[DROPPED_SLOTS],
-            passengers[DROPPED_EARLY],
-        ],
-        n,
-    )
+    has_room(counts_at(passengers, VERDICTS), n)
 }
 
 // Two queues as they are lent. Where `tested`, the records are ready for the calls.

@@ -12,13 +12,13 @@ use Rattle.pair_burst.proofs.ready.Goals as goal
 pub has_room-first-requires : goal.has_room-first-requires
 unfolding state_of
 has_room-first-requires c =
-    (facts (pair_of false c.args.shared.now c.args.intercom.now c.args.passengers.now)
+    rw c.counts_at.ensures (facts (pair_of false c.args.shared.now c.args.intercom.now c.args.passengers.now)
     (sym c.records_fit-formed.ensures.value ∙ c.if-not-formed.false)).intercom.total-high
 
 pub has_room-requires : goal.has_room-requires
 unfolding state_of
 has_room-requires c =
-    (facts (pair_of false c.args.shared.now c.args.intercom.now c.args.passengers.now)
+    rw c.counts_at-2.ensures (facts (pair_of false c.args.shared.now c.args.intercom.now c.args.passengers.now)
     (sym c.records_fit-formed.ensures.value ∙ c.if-not-formed.false)).passengers.total-high
 
 pub returns : goal.returns
@@ -36,6 +36,6 @@ returns c e =
       sym c.records_fit-formed.ensures.value ∙ c.if-not-formed.false,
       eqb-true _ _ (and_left h z c.if-not-fit.false),
       eqb-true _ _ (and_right h z c.if-not-fit.false),
-      leb-true _ most_verdicts (sym c.has_room-first.ensures ∙ held),
-      leb-true _ most_verdicts (sym c.has_room.ensures ∙ e),
+      leb-true _ most_verdicts (rw c.counts_at.ensures at (sym c.has_room-first.ensures ∙ held)),
+      leb-true _ most_verdicts (rw c.counts_at-2.ensures at (sym c.has_room.ensures ∙ e)),
     )

@@ -32,12 +32,14 @@ tables : (h z n : ℕ) → eqb h n && eqb z n ≡ true → (h ≡ n) × (z ≡ n
 tables h z n e = (eqb-true h n (and_left (eqb h n) (eqb z n) e), eqb-true z n (and_right (eqb h n) (eqb z n) e))
 
 pub returns-then-not-fit-clause-fitting : goal.returns-then-not-fit-clause-fitting
-returns-then-not-fit-clause-fitting c e = absurd (false≢true e)
+returns-then-not-fit-clause-fitting c e = absurd (false≢true (rw c.refused.ensures at e))
 
 pub returns-then-not-fit-clause-stays : goal.returns-then-not-fit-clause-stays
 returns-then-not-fit-clause-stays c e =
+    rw c.refused.ensures (
     malformed-left c.args.second c.args.shared.now c.args.own.now c.args.other.now c.args.handles.now c.args.sizes.now
     c.args.calls.now c.args.at c.args.kind (sym c.records_fit-fit.ensures.value ∙ c.if-not-fit.true)
+    )
 
 pub returns-then-ticks-clause-fitting : goal.returns-then-ticks-clause-fitting
 returns-then-ticks-clause-fitting c e =
@@ -54,14 +56,16 @@ pub returns-then-ticks-clause-stays : goal.returns-then-ticks-clause-stays
 returns-then-ticks-clause-stays c e = absurd (false≢true (sym e))
 
 pub returns-then-not-tables_fit-clause-fitting : goal.returns-then-not-tables_fit-clause-fitting
-returns-then-not-tables_fit-clause-fitting c e = absurd (false≢true e)
+returns-then-not-tables_fit-clause-fitting c e = absurd (false≢true (rw c.refused-then-not-tables_fit.ensures at e))
 
 pub returns-then-not-tables_fit-clause-stays : goal.returns-then-not-tables_fit-clause-stays
 unfolding shared_of
 returns-then-not-tables_fit-clause-stays c e =
+    rw c.refused-then-not-tables_fit.ensures (
     tables-left c.args.second c.args.shared.now c.args.own.now c.args.other.now c.args.handles.now c.args.sizes.now
     c.args.calls.now c.args.at c.args.kind (le-ltb _ _ c.if-ticks.false)
     (sym c.records_fit-fit.ensures.value ∙ c.if-not-fit.false) (ap not c.if-not-tables_fit.true)
+    )
 
 pub returns-then-not-arrives-clause-fitting : goal.returns-then-not-arrives-clause-fitting
 unfolding shared_of
@@ -80,8 +84,8 @@ returns-then-not-arrives-clause-stays c e = absurd (false≢true (sym e))
 pub counts_full-full-requires : goal.counts_full-full-requires
 unfolding state_of
 counts_full-full-requires c =
-    counted c.args.second c.args.shared.now c.args.own.now c.args.other.now
-    (sym c.records_fit-fit.ensures.value ∙ c.if-not-fit.false)
+    rw c.counts_at.ensures (counted c.args.second c.args.shared.now c.args.own.now c.args.other.now
+    (sym c.records_fit-fit.ensures.value ∙ c.if-not-fit.false))
 
 pub returns-then-not-full-clause-fitting : goal.returns-then-not-full-clause-fitting
 unfolding shared_of state_of
@@ -90,7 +94,7 @@ returns-then-not-full-clause-fitting c e =
     let n = total (state_of c.args.own.now).verdicts in
     let low : n ≤ most_verdicts = counted c.args.second c.args.shared.now c.args.own.now c.args.other.now
     (sym c.records_fit-fit.ensures.value ∙ c.if-not-fit.false) in
-    let room : n ≢ most_verdicts = eqb-false n most_verdicts (sym c.counts_full-full.ensures ∙ c.if-not-full.true) in (
+    let room : n ≢ most_verdicts = eqb-false n most_verdicts (rw c.counts_at.ensures at (sym c.counts_full-full.ensures ∙ c.if-not-full.true)) in (
       long.0,
       long.1,
       sym c.records_fit-fit.ensures.value ∙ c.if-not-fit.false,
@@ -102,7 +106,7 @@ pub returns-then-not-full-clause-stays : goal.returns-then-not-full-clause-stays
 returns-then-not-full-clause-stays c e = absurd (false≢true (sym e))
 
 pub returns-then-wrong_clock-clause-fitting : goal.returns-then-wrong_clock-clause-fitting
-returns-then-wrong_clock-clause-fitting c e = absurd (false≢true e)
+returns-then-wrong_clock-clause-fitting c e = absurd (false≢true (rw c.refused-then-wrong_clock.ensures at e))
 
 pub returns-then-wrong_clock-clause-stays : goal.returns-then-wrong_clock-clause-stays
 unfolding shared_of state_of
@@ -110,14 +114,16 @@ returns-then-wrong_clock-clause-stays c e =
     let a = c.args in
     let clock = c.clock_of-clock in
     let k = a.calls.now in
+    rw c.refused-then-wrong_clock.ensures (
     arrival-left a.second a.shared.now a.own.now a.other.now a.handles.now a.sizes.now k a.at a.kind 4 clock.result
     clock.ensures (lt-ltb _ _ c.if-not-arrives.false)
     (arrival-late (shared_of a.shared.now) (state_of a.own.now) (state_of a.other.now) a.handles.now a.sizes.now
     clock.result (get_or k (a.at + 3) 0) (eqb a.kind 1) (get_or k (a.at + 4) 0) (ap not c.if-not-tables_fit.false)
     (which_of a.second) (sym c.records_fit-fit.ensures.value ∙ c.if-not-fit.false) c.if-wrong_clock.true)
+    )
 
 pub returns-then-wrong_size-clause-fitting : goal.returns-then-wrong_size-clause-fitting
-returns-then-wrong_size-clause-fitting c e = absurd (false≢true e)
+returns-then-wrong_size-clause-fitting c e = absurd (false≢true (rw c.refused-then-wrong_size.ensures at e))
 
 pub returns-then-wrong_size-clause-stays : goal.returns-then-wrong_size-clause-stays
 unfolding shared_of state_of
@@ -125,15 +131,17 @@ returns-then-wrong_size-clause-stays c e =
     let a = c.args in
     let clock = c.clock_of-clock in
     let k = a.calls.now in
+    rw c.refused-then-wrong_size.ensures (
     arrival-left a.second a.shared.now a.own.now a.other.now a.handles.now a.sizes.now k a.at a.kind 7 clock.result
     clock.ensures (lt-ltb _ _ c.if-not-arrives.false)
     (arrival-size (shared_of a.shared.now) (state_of a.own.now) (state_of a.other.now) a.handles.now a.sizes.now
     clock.result (get_or k (a.at + 3) 0) (eqb a.kind 1) (get_or k (a.at + 4) 0) (ap not c.if-not-tables_fit.false)
     (which_of a.second) (sym c.records_fit-fit.ensures.value ∙ c.if-not-fit.false) c.if-wrong_clock.false
     (rw c.wide-bytes.ensures at c.if-wrong_size.true))
+    )
 
 pub returns-clause-fitting : goal.returns-clause-fitting
-returns-clause-fitting c e = absurd (false≢true e)
+returns-clause-fitting c e = absurd (false≢true (rw c.refused-2.ensures at e))
 
 pub returns-clause-stays : goal.returns-clause-stays
 unfolding shared_of state_of
@@ -141,9 +149,11 @@ returns-clause-stays c e =
     let a = c.args in
     let clock = c.clock_of-clock in
     let k = a.calls.now in
+    rw c.refused-2.ensures (
     arrival-left a.second a.shared.now a.own.now a.other.now a.handles.now a.sizes.now k a.at a.kind 8 clock.result
     clock.ensures (lt-ltb _ _ c.if-not-arrives.false)
     (arrival-counts (shared_of a.shared.now) (state_of a.own.now) (state_of a.other.now) a.handles.now a.sizes.now
     clock.result (get_or k (a.at + 3) 0) (eqb a.kind 1) (get_or k (a.at + 4) 0) (ap not c.if-not-tables_fit.false)
     (which_of a.second) (sym c.records_fit-fit.ensures.value ∙ c.if-not-fit.false) c.if-wrong_clock.false
-    (rw c.wide-bytes.ensures at c.if-wrong_size.false) (sym c.counts_full-full.ensures ∙ c.if-not-full.false))
+    (rw c.wide-bytes.ensures at c.if-wrong_size.false) (rw c.counts_at.ensures at (sym c.counts_full-full.ensures ∙ c.if-not-full.false)))
+    )
