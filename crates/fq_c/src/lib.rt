@@ -18,7 +18,7 @@ use fq_state::Settings;
 use fq_steps::{arrive, depart, update};
 use fq_words::{encode, fits, fresh};
 use hash::flow_of;
-use refusals::{Refusal, refused};
+use refusals::{Refusal, code, refused};
 use units::{Bytes, Micros};
 
 #[unsafe(no_mangle)]
@@ -53,15 +53,9 @@ pub extern "C" fn obikuteru_fq_fresh_of(
         slots,
         salt: salt as u64,
     };
-    let r = fresh(order, deficits, flows, settings, Micros(clock));
-    let made = r.common;
-    let lists = r.lists;
-    let accepted = r.accepted;
-    encode(common, made, lists);
-    match accepted {
-        Ok(()) => 0,
-        Err(refusal) => refused(refusal),
-    }
+    let made = fresh(order, deficits, flows, settings, Micros(clock));
+    encode(common, made.common, made.lists);
+    code(made.accepted.map(|()| 0))
 }
 
 #[unsafe(no_mangle)]

@@ -32,7 +32,7 @@ pub struct Common {
     pub verdicts: [u64; 5],
 }
 
-// A flow.
+// A flow. Twelve plain numbers, not the three parts: definitions (`flow_with`, `fields_of`) and the theorems of fq_guarantees name them.
 #[derive(Clone, Copy)]
 pub struct Flow {
     pub prob: u64,
@@ -40,7 +40,7 @@ pub struct Flow {
     pub allowance: u64,
     pub accumulated: u64,
     pub average: u64,
-    // Not 0: a measurement runs.
+    // Not 0: a measurement runs. A number, since a word that is neither 0 nor 1 stays as it was lent (`flag_word`).
     pub measuring: u64,
     pub start: u64,
     pub counted: u64,

@@ -49,14 +49,7 @@ pub(crate) fn arrival_of(
         × (handles.new ≡ arrived_handles s a.answer handles.old handle)
         × (sizes.new ≡ arrived_sizes s a.answer sizes.old key size.0) }
 {
-    check_arrival(
-        *common,
-        handles.len() as u64,
-        sizes.len() as u64,
-        clock,
-        size,
-        room,
-    )?;
+    check_arrival(*common, handles, sizes, clock, size, room)?;
     receive(
         common, lists, order, deficits, flows, handles, sizes, clock, flow, handle, size, ecn, u,
     )
@@ -83,7 +76,7 @@ pub(crate) fn departure_of(
         × (sizes.new ≡ departed_sizes s a.answer sizes.old) }
     ensures flow_bound { IfOk result (λ served. served.flow < 64) }
 {
-    check_departure(*common, handles.len() as u64, sizes.len() as u64, clock)?;
+    check_departure(*common, handles, sizes, clock)?;
     serve(
         common, lists, order, deficits, flows, counts, handles, sizes, clock,
     )

@@ -1,5 +1,5 @@
 // The refusals of a call on a well-formed record, but for 9.
-ghost use Rattle.std.specs.Prelude.{◌≡◌, true, ◌+◌, ◌≤◌, ◌<◌, eqb};
+ghost use Rattle.std.specs.Prelude.{◌≡◌, true, ◌+◌, ◌≤◌, ◌<◌, eqb, length};
 ghost use Rattle.pie.specs.Constants.{most_verdicts};
 ghost use Rattle.pie.specs.Verdicts.{total};
 ghost use Rattle.refusals.specs.Numbers.{refusal_in};
@@ -12,8 +12,8 @@ ghost use Rattle.fq_rules.specs.Tick.{tick_refusal};
 ghost use Rattle.laws.specs.Tests.{all};
 
 use fq_state::Common;
-use pie::{LARGEST, LATEST, PERIOD};
-use refusals::{Refusal, counts_full};
+use pie::PERIOD;
+use refusals::{Refusal, check_clock, check_size, check_tables, counts_full};
 use units::{Bytes, Micros};
 
 // Refusal 8, which is not due where there is known to be room.
@@ -31,8 +31,8 @@ fn are_full(counts: [u64; 5], room: bool) -> bool
 // Refusals 3, 4, 7 and 8 of an arrival. Where `room`, the counts are not full.
 pub(crate) fn check_arrival(
     common: Common,
-    handles: u64,
-    sizes: u64,
+    handles: &[u32],
+    sizes: &[u32],
     clock: Micros,
     size: Bytes,
     room: bool,
@@ -40,24 +40,12 @@ pub(crate) fn check_arrival(
     requires common_value { all (common_conditions common) ≡ true }
     requires verdicts_bound { (room ≡ true) → (total common.verdicts < most_verdicts) }
     ensures { (s : State) → s.common ≡ common → well_formed s ≡ true →
-        refusal_in result ≡ first_refusal (before_verdict s handles sizes clock.0 size.0) }
+        refusal_in result ≡ first_refusal (before_verdict s (length handles.now) (length sizes.now) clock.0 size.0) }
 {
-    let slots = common.settings.slots;
-    let fit = (handles == slots) & (sizes == slots);
-    if !fit {
-        return Err(Refusal::Tables);
-    }
-    let wrong_clock = (clock.0 < common.clock.0) | (LATEST < clock.0);
-    if wrong_clock {
-        return Err(Refusal::Clock);
-    }
-    let wrong_size = (size.0 == 0) | (LARGEST < size.0);
-    if wrong_size {
-        return Err(Refusal::Size);
-    }
-    let verdicts = common.verdicts;
-    let full = are_full(verdicts, room);
-    if full {
+    check_tables(handles, sizes, common.settings.slots)?;
+    check_clock(clock, common.clock)?;
+    check_size(size.0)?;
+    if are_full(common.verdicts, room) {
         return Err(Refusal::Counts);
     }
     Ok(())
@@ -66,40 +54,29 @@ pub(crate) fn check_arrival(
 // Refusals 3, 4 and 6 of a departure.
 pub(crate) fn check_departure(
     common: Common,
-    handles: u64,
-    sizes: u64,
+    handles: &[u32],
+    sizes: &[u32],
     clock: Micros,
 ) -> Result<(), Refusal>
     ensures { (s : State) → s.common ≡ common → well_formed s ≡ true →
-        refusal_in result ≡ first_refusal (before_choosing s handles sizes clock.0) }
+        refusal_in result ≡ first_refusal (before_choosing s (length handles.now) (length sizes.now) clock.0) }
 {
-    let slots = common.settings.slots;
-    let fit = (handles == slots) & (sizes == slots);
-    if !fit {
-        return Err(Refusal::Tables);
-    }
-    let wrong_clock = (clock.0 < common.clock.0) | (LATEST < clock.0);
-    if wrong_clock {
-        return Err(Refusal::Clock);
-    }
-    let empty = common.backlog.count == 0;
-    if empty {
+    check_tables(handles, sizes, common.settings.slots)?;
+    check_clock(clock, common.clock)?;
+    if common.backlog.count == 0 {
         return Err(Refusal::Empty);
     }
     Ok(())
 }
 
 // Refusals 4 and 5 of a tick.
+#[tactic(auto, unfolding(fq_rules::specs::Tick::tick_refusal))]
 pub(crate) fn check_tick(common: Common, clock: Micros) -> Result<(), Refusal>
     requires { all (common_conditions common) ≡ true }
     ensures { (s : State) → s.common ≡ common → well_formed s ≡ true → refusal_in result ≡ tick_refusal s clock.0 }
 {
-    let wrong_clock = (clock.0 < common.clock.0) | (LATEST < clock.0);
-    if wrong_clock {
-        return Err(Refusal::Clock);
-    }
-    let too_soon = clock.0 < common.last.0 + PERIOD;
-    if too_soon {
+    check_clock(clock, common.clock)?;
+    if clock.0 < common.last.0 + PERIOD {
         return Err(Refusal::TooSoon);
     }
     Ok(())

@@ -4,10 +4,6 @@ use mathlib.Core.Bool.{Bool, true, false, false≢true}
 use mathlib.Core.List.{List}
 use Prim.Native.Nat.{ℕ, zero, suc, ◌+◌}
 use lib.ListN.{length}
-use Rattle.refusals.specs.Numbers.{number_of, refusal_in}
-use Rattle.std.specs.Prelude.{Result, Ok, Err, ⊤}
-use Rattle.refusals.specs.declared.Refusal.{Refusal}
-use Rattle.refusals.specs.declared.Refusal.TheVariants.{Settings, Malformed, Tables, Clock, TooSoon, Empty, Size, Counts, Head}
 use Rattle.schedule.specs.declared.Lists.{Lists}
 use Rattle.fq_state.specs.State.{State}
 use Rattle.fq_words.specs.Words.{state_of}
@@ -15,7 +11,7 @@ use Rattle.fq_state.specs.declared.Common.{Common}
 use Rattle.fq_words.specs.Written.{flow_words}
 use Rattle.fq_words.proofs.Words.{words_are}
 use Rattle.fq_rules.specs.Answer.{Answer, Reply, departed, refused, ticked, unless_refused, verdict}
-use Rattle.fq_words.specs.Codes.{code_of, common_after, deficits_after, flows_after, fresh_code, order_after, words_for, words_of}
+use Rattle.fq_words.specs.Codes.{code_of, common_after, deficits_after, flows_after, order_after, words_for, words_of}
 use Rattle.fq_words.specs.Written.{common_words}
 
 abbrev pub is_refusal : Answer → Bool
@@ -103,24 +99,3 @@ module _ (a : Reply) (code : ℕ) (common : Common) (lists : Lists) (words order
               ∙ words_are flows lent-long
               ∙ sym (left-of a.answer number flows (flow_words a.state.flows) given);
         }
-
--- ── the number of a fresh call ──
-
-coded : (r : Refusal) → 100 + number_of r ≡ fresh_code (number_of r)
-coded Settings = refl
-coded Malformed = refl
-coded Tables = refl
-coded Clock = refl
-coded TooSoon = refl
-coded Empty = refl
-coded Size = refl
-coded Counts = refl
-coded Head = refl
-
-pub made_code : (a : Result ⊤ Refusal) (number : ℕ) → refusal_in a ≡ number → a ≡ Ok tt → 0 ≡ fresh_code number
-made_code a number e f = ap (λ (b : Result ⊤ Refusal). fresh_code (refusal_in b)) (sym f) ∙ ap fresh_code e
-
-pub refused-code : (a : Result ⊤ Refusal) (number code : ℕ) (r : Refusal) → refusal_in a ≡ number → a ≡ Err r → code ≡ 100 + number_of r →
-    code ≡ fresh_code number
-refused-code a number code r e given f =
-    f ∙ coded r ∙ ap (λ (b : Result ⊤ Refusal). fresh_code (refusal_in b)) (sym given) ∙ ap fresh_code e

@@ -12,7 +12,7 @@ mod reading;
 mod records;
 mod testing;
 
-// What a fresh call gives: the record also where it is refused, and all zero then.
+// What a fresh call gives. The record stands beside the answer, since `fresh`'s equation names the all-zero one of a refused call.
 #[derive(Clone, Copy)]
 pub struct Made {
     pub accepted: Result<(), Refusal>,

@@ -1,4 +1,4 @@
-// The flows as words, twelve to a flow.
+// The flows as words, twelve to a flow. One flat array, each word by its place: C lends it so (struct obikuteru_fq).
 ghost use Rattle.std.specs.Prelude.{◌≡◌, ◌<◌, ◌*◌, set};
 ghost use Rattle.fq_state.specs.State.{flow_at};
 ghost use Rattle.fq_words.specs.Words.{flow_from, flows_of};

@@ -1,5 +1,5 @@
 // The record as words: those that a call is lent, and those that it writes back.
-// Two values stand in the same words, so each reading has a name and none is a `From`.
+// Named functions: two values stand in the same words, and neither they nor the array are of this crate, so it cannot have their `From`.
 ghost use Rattle.std.specs.Prelude.{◌≡◌};
 ghost use Rattle.pie.specs.Verdicts.{place_of};
 ghost use Rattle.fq_words.specs.Words.{common_of, lists_of};

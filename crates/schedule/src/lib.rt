@@ -17,7 +17,7 @@ pub(crate) const ONE_QUANTUM: u32 = 67_049;
 pub(crate) const MOST_LOOKS: usize = 2_880;
 
 // Where the lists stand: the place of the first flow, how many flows are in the old list, and how many in both.
-// No invariant: a C caller's words are read into it, and `fits` tests them.
+// No invariant: a C caller's words are read into it, and `fits` tests them. Order and deficits stand apart from it: C lends each by itself.
 #[derive(Clone, Copy)]
 pub struct Lists {
     pub first: usize,

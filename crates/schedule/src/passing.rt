@@ -47,7 +47,7 @@ fn without_head(lists: Lists) -> Lists
 }
 
 // Looks at the heads of the lists until a flow is found: the flow, or how many looks are left at one whose deficit is below 0, since to
-// move that one is to write.
+// move that one is to write. With no flow in either list it is flow 0 and not none, as `choose_in` (specs/Choosing) chooses.
 pub fn pass(
     order: &[u64; 64],
     deficits: &[u32; 64],
