@@ -1,5 +1,5 @@
 // A log over lent bytes and lent tables: read whole, then run from a fresh queue.
-ghost use Rattle.std.specs.Prelude.{◌≡◌, ◌≤◌};
+ghost use Rattle.std.specs.Prelude.{◌≡◌, ◌<◌, ◌≤◌, IfErr, IfOk};
 ghost use Rattle.call_log.specs.Answers.{given};
 ghost use Rattle.call_log.specs.Whole.{read_whole, shape_in};
 ghost use Rattle.replay.specs.Replay.{replay as replay_by};
@@ -24,6 +24,7 @@ fn replay_whole(
     ensures value { handed_of result ≡ replayed_of (replay_by log.now handles.old sizes.old) }
     ensures fact { let a = replay_by log.now handles.old sizes.old in
         (handles.new ≡ handles_after a handles.old) × (sizes.new ≡ sizes_after a sizes.old) }
+    ensures refused_above_zero { IfOk result (λ r. IfErr r.answer (λ n. 0 < n)) }
 {
     let h = log_codec::get_header(log, 0);
     let slots = h.slots as u64;
@@ -48,6 +49,7 @@ pub fn replay(log: &[u8], handles: &mut [u32], sizes: &mut [u32]) -> Result<Repl
     ensures value { handed_of result ≡ replayed_of (replay_by log.now handles.old sizes.old) }
     ensures fact { let a = replay_by log.now handles.old sizes.old in
         (handles.new ≡ handles_after a handles.old) × (sizes.new ≡ sizes_after a sizes.old) }
+    ensures refused_above_zero { IfOk result (λ r. IfErr r.answer (λ n. 0 < n)) }
 {
     match call_log::check(log) {
         Ok(w) => replay_whole(log, w.offset as usize, w.count as usize, handles, sizes),

@@ -1,5 +1,5 @@
 // The rules over the records of a log that was read whole, on a queue that is ready for so many arrivals.
-ghost use Rattle.std.specs.Prelude.{◌≡◌, ◌+◌, ◌*◌, ◌≤◌, length, Ok};
+ghost use Rattle.std.specs.Prelude.{◌≡◌, ◌+◌, ◌*◌, ◌<◌, ◌≤◌, length, IfErr, Ok};
 ghost use Rattle.ring_words.specs.Words.{state_of};
 ghost use Rattle.call_log.specs.Layout.{records_from};
 ghost use Rattle.ring_words.specs.Lent.{lent};
@@ -27,6 +27,7 @@ pub(crate) fn run(
     ensures fact { let a = replay_from 0 (queue_of (state_of w.old) handles.old sizes.old)
         (records_from count log.now offset) in
         (handles.new ≡ handles_after a handles.old) × (sizes.new ≡ sizes_after a sizes.old) }
+    ensures refused_above_zero { IfErr result.answer (λ n. 0 < n) }
 {
     for i in 0..count {
         let r = log_codec::get(log, offset + 40 * i);
