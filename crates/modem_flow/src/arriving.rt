@@ -122,7 +122,7 @@ impl State {
         }
     }
 
-    // A packet of `size` bytes arrives; `u` is its random number.
+    // A packet of `size` bytes arrives; `u` is its random number. Two tables, as C lends them.
     #[tactic(auto, using(crate::proofs::Replies::refused_reply), unfolding(crate::specs::Arrival::arrival))]
     pub fn arrival(
         &mut self,
