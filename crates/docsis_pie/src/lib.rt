@@ -22,7 +22,8 @@ impl Activity {
     pub const ACTIVE: Activity = Activity(2);
 }
 
-// The activity, and how long a quiescent flow has been quiet.
+// The activity, and how long a quiescent flow has been quiet. C's record may hold a time in any activity, for `well_formed` to refuse: so
+// they are two fields, and no enum.
 #[derive(Clone, Copy)]
 pub struct Phase {
     pub activity: Activity,

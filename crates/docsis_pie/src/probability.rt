@@ -9,7 +9,7 @@ use crate::constants::{CAP, HIGH_DELAY, LOW_DELAY, MOST_PROB};
 use pie::{cap_step, error, in_allowance};
 use units::{Micros, Prob};
 
-// Rule 5. `pie` has the same line with its own scale: with the scale as a parameter neither would be plainer.
+// Rule 5. `pie::step` has another scale: as a parameter it would stand in the clause, and at each of the nine rows of `table_step`.
 #[tactic(auto, unfolding(crate::specs::Probability::step_of))]
 pub fn step(x: i64, k: u64) -> i64
     requires { (nat_abs x ≤ 300000000) × (0 < k) × (k ≤ 65536) }
@@ -18,7 +18,7 @@ pub fn step(x: i64, k: u64) -> i64
     x * 536_870_912 / (15_625 * (k as i64))
 }
 
-// Rules 4 and 5, row by row: a divisor that stands in the code is divided by without a division.
+// Rules 4 and 5, row by row: a divisor that stands in the code is divided by without a division (docs/changes/Q-5.md).
 #[tactic(auto, unfolding(crate::specs::Probability::divisor_of, pie::specs::Update::lookup))]
 fn table_step(p: Prob, x: i64) -> i64
     requires { (p.0 ≤ most_prob) × (nat_abs x ≤ 300000000) }

@@ -12,7 +12,7 @@ use crate::{Activity, DocsisPie, Phase};
 use pie::refills;
 use units::{Bytes, BytesPerSecond, Micros, Prob};
 
-// Rule 2.
+// Rule 2. One subtraction, which `pie` has inside its rule 8: a function for both would say no more.
 pub fn next_allowance(allowance: Micros) -> Micros
     ensures { result ≡ micros (next_allowance allowance.0) }
 {

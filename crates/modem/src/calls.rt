@@ -59,7 +59,7 @@ pub fn fresh(
     }
 }
 
-// A packet of `size` bytes arrives at a flow; `u` is its random number.
+// A packet of `size` bytes arrives at a flow; `u` is its random number. State, counts and tables stand apart, as C lends them.
 #[tactic(auto, unfolding(crate::specs::Calls::arrival, crate::specs::Calls::for_flow, crate::specs::Counts::counts_after))]
 pub fn arrival(
     state: &mut State,

@@ -1,12 +1,15 @@
 -- What a reply's answer tells: a refusal's number is above 0, and a verdict is no refusal.
 use mathlib.Core.Path.{◌≡◌, refl}
-use mathlib.Core.List.{List}
+use mathlib.Core.Bool.{Bool, true, false}
+use mathlib.Core.List.{List, [], ◌∷◌}
+use Rattle.std.specs.Prelude.{cond, Ok, ⊤}
 use Prim.Native.Nat.{ℕ, zero, suc}
 use native.Mathlib.Omega.{arith}
 use lib.ListN.{length}
 use Rattle.pie.specs.declared.Verdict.{Verdict}
-use Rattle.refusals.specs.Answer.{refused, verdict}
-use Rattle.refusals.specs.Numbers.{number_of}
+use Rattle.refusals.specs.Answer.{refused, refused_where, verdict}
+use Rattle.refusals.specs.Numbers.{number_of, refusal_in}
+use Rattle.refusals.specs.Rows.{first_refusal}
 use Rattle.docsis_pie.specs.declared.Decided.{Decided}
 use Rattle.modem_flow.specs.Answer.{Reply, unless_refused}
 use Rattle.modem_flow.specs.Arrival.{arrival, arrival_refusal, arrived_state, decision_of}
@@ -25,6 +28,18 @@ refused_reply Empty given accepted = refl
 refused_reply Size given accepted = refl
 refused_reply Counts given accepted = refl
 refused_reply Head given accepted = refl
+
+-- a test that gives no refusal fails
+pub passed : (test : Bool) (r : Refusal) (x : ⊤) → refused_where test r ≡ Ok x → test ≡ false
+passed true r x e = absurd cc
+passed false r x e = refl
+
+-- what the two tests of a head give, as rows
+pub heads : (empty wrong : Bool) →
+    refusal_in (cond empty (refused_where empty Empty) (refused_where wrong Head)) ≡ first_refusal ((6, empty) ∷ (9, wrong) ∷ [])
+heads true wrong = refl
+heads false true = refl
+heads false false = refl
 
 -- an arrival that is answered with a verdict was not refused: the verdict and the state are those of the rules
 pub decided : (s : State) (row handles sizes : List ℕ) (clock size u : ℕ) (v : Verdict) →

@@ -8,11 +8,10 @@ ghost use Rattle.refusals.specs.Answer.{arrival_answer};
 ghost use Rattle.modem_flow.specs.Arrival.{arrival_refusal, arrived_state, decision_of, arrival, stored, tail_place};
 
 use crate::State;
-use crate::well_formed::counts_left;
 use docsis_pie::{Decided, DocsisPie};
-use pie::{LARGEST, LATEST, Verdict};
+use pie::Verdict;
 use places::store;
-use refusals::Refusal;
+use refusals::{Refusal, check_clock, check_size, check_tables, room_left};
 use units::{Bytes, Micros, Prob};
 
 impl State {
@@ -21,36 +20,22 @@ impl State {
     fn check_arrival(
         self,
         row: [u64; 5],
-        handles: u64,
-        sizes: u64,
+        handles: &[u32],
+        sizes: &[u32],
         clock: Micros,
         size: Bytes,
     ) -> Result<(), Refusal>
-        ensures { refusal_in result ≡ arrival_refusal self row handles sizes clock.0 size.0 }
+        ensures { refusal_in result
+            ≡ arrival_refusal self row (length handles.now) (length sizes.now) clock.0 size.0 }
     {
-        let left = counts_left(row);
+        let left = room_left(row).ok_or(Refusal::Malformed)?;
+        if !self.formed() {
+            return Err(Refusal::Malformed);
+        }
+        check_tables(handles, sizes, self.settings.slots)?;
+        check_clock(clock, self.clock)?;
+        check_size(size.0)?;
         if left == 0 {
-            return Err(Refusal::Malformed);
-        }
-        let formed = self.formed();
-        if !formed {
-            return Err(Refusal::Malformed);
-        }
-        let slots = self.settings.slots;
-        let fit = (handles == slots) & (sizes == slots);
-        if !fit {
-            return Err(Refusal::Tables);
-        }
-        let wrong_clock = (clock.0 < self.clock.0) | (LATEST < clock.0);
-        if wrong_clock {
-            return Err(Refusal::Clock);
-        }
-        let wrong_size = (size.0 == 0) | (LARGEST < size.0);
-        if wrong_size {
-            return Err(Refusal::Size);
-        }
-        let full = left == 1;
-        if full {
             return Err(Refusal::Counts);
         }
         Ok(())
@@ -137,7 +122,7 @@ impl State {
         }
     }
 
-    // A packet of `size` bytes arrives; `u` is its random number.
+    // A packet of `size` bytes arrives; `u` is its random number. Two tables, as C lends them.
     #[tactic(auto, using(crate::proofs::Replies::refused_reply), unfolding(crate::specs::Arrival::arrival))]
     pub fn arrival(
         &mut self,
@@ -155,7 +140,7 @@ impl State {
             (handles.new ≡ stored self.old a.answer handles.old handle)
             × (sizes.new ≡ stored self.old a.answer sizes.old size.0) }
     {
-        self.check_arrival(row, handles.len() as u64, sizes.len() as u64, clock, size)?;
+        self.check_arrival(row, handles, sizes, clock, size)?;
         let decided = self.decide(size, u);
         let v = decided.verdict;
         self.store(handles, sizes, v, handle, size.0 as u32);

@@ -6,9 +6,8 @@ ghost use Rattle.refusals.specs.Answer.{departure_answer};
 ghost use Rattle.modem_flow.specs.Departure.{departed_state, departure_refusal, departure, head_of};
 
 use crate::State;
-use pie::LATEST;
 use places::place;
-use refusals::{Packet, Refusal, wrong_head};
+use refusals::{Packet, Refusal, check_clock, check_head, check_tables};
 use units::{Bytes, Micros};
 
 impl State {
@@ -17,38 +16,19 @@ impl State {
     fn check_departure(
         self,
         row: [u64; 5],
-        handles: u64,
+        handles: &[u32],
         sizes: &[u32],
         clock: Micros,
     ) -> Result<(), Refusal>
         ensures { refusal_in result
-            ≡ departure_refusal self row handles (length sizes.now) clock.0 (head_of self sizes.now) }
+            ≡ departure_refusal self row (length handles.now) (length sizes.now) clock.0 (head_of self sizes.now) }
     {
-        let good = self.well_formed(row);
-        if !good {
+        if !self.well_formed(row) {
             return Err(Refusal::Malformed);
         }
-        let slots = self.settings.slots;
-        let fit = (handles == slots) & (sizes.len() as u64 == slots);
-        if !fit {
-            return Err(Refusal::Tables);
-        }
-        let wrong_clock = (clock.0 < self.clock.0) | (LATEST < clock.0);
-        if wrong_clock {
-            return Err(Refusal::Clock);
-        }
-        let backlog = self.backlog;
-        let none = backlog.count == 0;
-        if none {
-            return Err(Refusal::Empty);
-        }
-        let at = self.first as usize;
-        let size = sizes[at] as u64;
-        let wrong = wrong_head(backlog, size);
-        if wrong {
-            return Err(Refusal::Head);
-        }
-        Ok(())
+        check_tables(handles, sizes, self.settings.slots)?;
+        check_clock(clock, self.clock)?;
+        check_head(self.backlog, sizes[self.first as usize] as u64)
     }
 
     // The state after the head, of this size, has left.
@@ -81,7 +61,7 @@ impl State {
         ensures { let a = departure self.old row handles.now sizes.now clock.0 in
             (departure_answer result ≡ a.answer) × (self.new ≡ a.state) }
     {
-        self.check_departure(row, handles.len() as u64, sizes, clock)?;
+        self.check_departure(row, handles, sizes, clock)?;
         let at = self.first as usize;
         let handle = handles[at];
         let size = sizes[at];

@@ -20,7 +20,7 @@ pub struct Settings {
     pub sustained: BytesPerSecond,
 }
 
-// Its verdict counts are not in it: a call is given the flow's row of them.
+// Its verdict counts are not in it: a call is given the flow's row of them, as C lends one table of all flows.
 #[derive(Clone, Copy)]
 pub struct State {
     pub settings: Settings,
@@ -34,6 +34,7 @@ pub struct State {
 }
 
 // What a fresh call returns: a refused one the all-zero record. `R` says why it was refused.
+// No `Result<State, R>`: the clauses of `fresh` and of `obikuteru_modem_fresh` say which record a refused call gives.
 #[derive(Clone, Copy)]
 pub struct Returned<R> {
     pub accepted: Result<(), R>,

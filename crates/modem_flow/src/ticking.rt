@@ -7,8 +7,7 @@ ghost use Rattle.modem_flow.specs.Tick.{tick, tick_refusal, ticked_state};
 
 use crate::State;
 use docsis_pie::PERIOD;
-use pie::LATEST;
-use refusals::Refusal;
+use refusals::{Refusal, check_clock};
 use units::{Bytes, Micros};
 
 impl State {
@@ -17,16 +16,11 @@ impl State {
     fn check_tick(self, row: [u64; 5], clock: Micros) -> Result<(), Refusal>
         ensures { refusal_in result ≡ tick_refusal self row clock.0 }
     {
-        let good = self.well_formed(row);
-        if !good {
+        if !self.well_formed(row) {
             return Err(Refusal::Malformed);
         }
-        let wrong_clock = (clock.0 < self.clock.0) | (LATEST < clock.0);
-        if wrong_clock {
-            return Err(Refusal::Clock);
-        }
-        let too_soon = clock.0 < self.last.0 + PERIOD;
-        if too_soon {
+        check_clock(clock, self.clock)?;
+        if clock.0 < self.last.0 + PERIOD {
             return Err(Refusal::TooSoon);
         }
         Ok(())

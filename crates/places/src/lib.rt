@@ -25,7 +25,7 @@ pub fn tail_place(first: u64, count: u64, slots: u64) -> u64
     }
 }
 
-// The place after `first`, without a jump in an innermost loop.
+// The place after `first`, without a jump in an innermost loop; `tail_place(first, 1, slots)` subtracts where this has a 0.
 pub fn following(first: u64, slots: u64) -> u64
     requires { (first < slots) × (slots ≤ 65536) }
     ensures { result ≡ (first + 1) % slots }

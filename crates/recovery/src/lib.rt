@@ -65,7 +65,7 @@ fn ticks_until_none(target: u64) -> u64
     1_000
 }
 
-// With a target of 1,000 to 100,000; 0 for any other.
+// With a target of 1,000 to 100,000; 0, and no Option, for any other: C gets that number, which the clause's `ticks_to_recover` names.
 #[tactic(auto, unfolding(pie_guarantees::specs::TicksToRecover::ticks_to_recover))]
 pub fn ticks_to_recover(target: u64) -> u64
     ensures { result ≡ ticks_to_recover target }

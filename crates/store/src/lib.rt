@@ -7,6 +7,7 @@ mod putting;
 mod taking;
 
 // Places from `used` on were never taken. `spare` slots were freed; they hang together by their links, the first of them at `freed`.
+// No Option: C's record has a word `freed` where none is spare too, and `well_formed` tests it there.
 #[derive(Clone, Copy)]
 pub struct Store {
     pub used: u64,
@@ -15,6 +16,7 @@ pub struct Store {
 }
 
 // The places of a chain's first and last packet. Its count stands beside them; where it is 0 they say nothing.
+// No Option: C's record has both words there too, and `well_formed` tests them.
 #[derive(Clone, Copy)]
 pub struct Ends {
     pub head: u64,

@@ -1,24 +1,35 @@
 -- `State::check_departure`: the head is read once the record is known to be well formed and the tables to fit it.
-use borrow.Author.Tests.{eqb-true}
 use mathlib.Core.Path.{sym, ◌∙◌}
 use native.Mathlib.Omega.{arith}
-use lib.Dec.{eqb}
-use Rattle.laws.proofs.Tests.{and_right}
 use Rattle.modem_flow.proofs.Facts.{facts, record-formed}
+use Rattle.modem_flow.proofs.Replies.{passed, heads}
+use Rattle.modem_flow.proofs.WhenAccepted.{tables-fit}
+use Rattle.modem_flow.specs.Departure.{departure_refusal, head_of}
+use Rattle.modem_flow.specs.Refusals.{empty_refused}
+use Rattle.refusals.specs.Tests.{head_refused}
 use Rattle.modem_flow.proofs.State.check_departure.Goals as goal
 
-pub offset_bounds-sizes-at : goal.offset_bounds-sizes-at
-offset_bounds-sizes-at c =
-    let f = facts _ (record-formed _ _ (sym c.well_formed-good.ensures ∙ c.if-not-good.false)) in
+pub offset_bounds-sizes-self : goal.offset_bounds-sizes-self
+offset_bounds-sizes-self c =
+    let f = facts _ (record-formed _ _ (sym c.well_formed-2.ensures ∙ c.if-not-well_formed.false)) in
     omega (arith, f.first-high, f.slots-high)
 
-pub bounds-sizes-at : goal.bounds-sizes-at
-bounds-sizes-at c =
-    let f = facts _ (record-formed _ _ (sym c.well_formed-good.ensures ∙ c.if-not-good.false)) in
-    let fits = eqb-true _ _ (and_right (eqb c.args.handles c.args.self.settings.slots) _ c.if-not-fit.false) in
-    omega (arith, f.first-high, fits)
+pub bounds-sizes-self : goal.bounds-sizes-self
+bounds-sizes-self c =
+    let f = facts _ (record-formed _ _ (sym c.well_formed-2.ensures ∙ c.if-not-well_formed.false)) in
+    let fits = tables-fit c.args.self _ _ (passed _ _ _ (sym c.check_tables.ensures ∙ c.in_ok-check_tables.was)) in
+    omega (arith, f.first-high, fits.1)
 
-pub wrong_head-wrong-requires : goal.wrong_head-wrong-requires
-wrong_head-wrong-requires c =
-    let f = facts _ (record-formed _ _ (sym c.well_formed-good.ensures ∙ c.if-not-good.false)) in
+pub check_head-requires : goal.check_head-requires
+check_head-requires c =
+    let f = facts _ (record-formed _ _ (sym c.well_formed-2.ensures ∙ c.if-not-well_formed.false)) in
     omega (arith, f.count-high, f.slots-high)
+
+pub returns : goal.returns
+unfolding departure_refusal
+returns c =
+    let good = sym c.well_formed-2.ensures ∙ c.if-not-well_formed.false in
+    let fits = passed _ _ _ (sym c.check_tables.ensures ∙ c.in_ok-check_tables.was) in
+    let time = passed _ _ _ (sym c.check_clock.ensures ∙ c.in_ok-check_clock.was) in
+    let head = heads (empty_refused c.args.self) (head_refused c.args.self.backlog (head_of c.args.self c.args.sizes.now)) in
+    simp (c.check_head.ensures, good, fits, time, head)
