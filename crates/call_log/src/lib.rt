@@ -14,13 +14,13 @@ pub use turns::{moved, next, start};
 pub use whole::check;
 pub use writing::{add, add_call, begin};
 
-// One case for each refusal number, in order, from 11.
+// The number of each refusal.
 #[derive(Clone, Copy, PartialEq, Eq)]
 pub enum Refusal {
-    Trailer,
-    Settings,
-    Fault,
-    Room,
+    Trailer = 11,
+    Settings = 12,
+    Fault = 13,
+    Room = 14,
 }
 
 // The offset of the first record and the number of records, as in the trailer.
@@ -30,7 +30,7 @@ pub struct Writer {
     pub count: u32,
 }
 
-// What `begin` returns: where it is refused, the all-zero state, which no bytes reach.
+// What `begin` returns. A refused one hands on a state too, `zero_writer` of its definition, so this is no Result of a state.
 #[derive(Clone, Copy, PartialEq, Eq)]
 pub struct Written {
     pub accepted: Result<(), Refusal>,

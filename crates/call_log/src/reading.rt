@@ -72,7 +72,7 @@ pub fn place_after(log: &[u8], place: u64) -> u64
     }
 }
 
-// The note where it stands in the log; the empty part where the log is refused, as `settings` says.
+// The note where it stands in the log. No Result: `note_part` names an empty part where the log is refused, as `settings` says.
 pub fn note<'a>(log: &'a [u8]) -> &'a [u8]
     ensures { part_of result ≡ note_part log.entry (note_of log.now) }
 {

@@ -13,6 +13,7 @@ mod longer;
 pub use comparing::compare;
 pub use longer::remaining;
 
+// What `compare` finds, case by case as `Comparison` of its definition: a refusal of either log is one of them.
 #[derive(Clone, Copy, PartialEq, Eq)]
 pub enum Compared {
     RefusedFirst(Refusal),
@@ -45,11 +46,11 @@ pub extern "C" fn obikuteru_compare(first: &[u8], second: &[u8], words: &mut [u6
     match found {
         Compared::RefusedFirst(refusal) => {
             *words = [1, 0, 0, 0];
-            100 + refusal.number()
+            refusal.code()
         }
         Compared::RefusedSecond(refusal) => {
             *words = [2, 0, 0, 0];
-            100 + refusal.number()
+            refusal.code()
         }
         Compared::SettingsDiffer => {
             *words = [0, 0, 0, 0];

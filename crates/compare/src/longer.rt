@@ -16,7 +16,7 @@ fn last<'a>(log: &'a [u8], records: u64) -> &'a [u8]
     &log[from..to]
 }
 
-// The longer log's remaining records where one is a proper beginning of the other, in the caller's bytes; else an empty part.
+// The longer log's remaining records where one is a proper beginning of the other, in the caller's bytes; else an empty part, as `remaining_of` names it.
 pub fn remaining<'a>(first: &'a [u8], second: &'a [u8]) -> &'a [u8]
     ensures { part_of result ≡ remaining_of first.entry second.entry }
 {

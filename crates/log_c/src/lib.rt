@@ -17,7 +17,7 @@ fn code(accepted: Result<(), Refusal>) -> u32
 {
     match accepted {
         Ok(()) => 0,
-        Err(refusal) => 100 + refusal.number(),
+        Err(refusal) => refusal.code(),
     }
 }
 
@@ -51,7 +51,7 @@ pub extern "C" fn obikuteru_log_add(words: &mut [u32; 2], call: &[u8; 40], bytes
             words[1] = w.count;
             0
         }
-        Err(refusal) => 100 + refusal.number(),
+        Err(refusal) => refusal.code(),
     }
 }
 
@@ -68,7 +68,7 @@ pub extern "C" fn obikuteru_log_read(log: &[u8], place: &mut u64, call: &mut [u8
             0
         }
         Ok(None) => 1,
-        Err(refusal) => 100 + refusal.number(),
+        Err(refusal) => refusal.code(),
     }
 }
 
@@ -83,7 +83,7 @@ pub extern "C" fn obikuteru_log_settings(log: &[u8], settings: &mut [u8; 32]) ->
             log_codec::put_header(h, settings, 0);
             0
         }
-        Err(refusal) => 100 + refusal.number(),
+        Err(refusal) => refusal.code(),
     }
 }
 
@@ -110,7 +110,7 @@ pub extern "C" fn obikuteru_log_note<'a>(log: &'a [u8], part: &mut [u64; 2]) -> 
         }
         Err(refusal) => {
             *part = [0, 0];
-            100 + refusal.number()
+            refusal.code()
         }
     }
 }

@@ -14,6 +14,7 @@ pub fn put_header(h: Header, bytes: &mut [u8], at: usize)
     put4(h.buffer, bytes, at + 8);
     put4(h.slots, bytes, at + 12);
     put8(h.clock, bytes, at + 16);
+    // One number of eight bytes: the layout has the profile in one byte and `unused` in the seven after it.
     put8(
         h.profile as u64 + 256 * (h.unused % 72_057_594_037_927_936),
         bytes,

@@ -1,4 +1,4 @@
-// A log's settings and records as little-endian bytes, in lent bytes.
+// A log's settings and records as little-endian bytes, in lent bytes. Each stands at a place `at`, as the definitions' `at` has it.
 #![tactic(auto)]
 
 mod headers;
@@ -24,7 +24,7 @@ pub struct Header {
 // One accepted call, its verdict, and bytes and probability after it.
 #[derive(Clone, Copy, PartialEq, Eq)]
 pub struct Record {
-    // The script's letter.
+    // The script's letter. Any byte: a record may hold one that is no call's, and `call_log::faulty` refuses it.
     pub kind: u8,
     pub ecn: u8,
     pub unused: u16,

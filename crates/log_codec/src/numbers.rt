@@ -1,4 +1,4 @@
-// Numbers as little-endian bytes, by their width.
+// Numbers as little-endian bytes, by their width. The named ones keep their clauses in `bytes_of` and `number_of`, over `put` and `get`.
 ghost use Rattle.std.specs.Prelude.{◌≡◌, ◌+◌, ◌≤◌, length, take, drop};
 ghost use Rattle.std.proofs.lemmas.List.Edits.{sets};
 ghost use Rattle.log_codec.specs.Numbers.{bytes_of, number_of};

@@ -25,10 +25,10 @@ overflow_mul-words-in-SecondEnds c =
     let h = first_fits a.first.now a.second.now (sym c.compare-found.ensures ∙ ap comparison_of c.in-SecondEnds.is) in omega (arith, h)
 
 pub returns-in-RefusedFirst : goal.returns-in-RefusedFirst
-returns-in-RefusedFirst c = let a = c.args in refused-number a.first.now a.second.now c.compare-found.ensures c.in-RefusedFirst.is refl c.number.ensures.0
+returns-in-RefusedFirst c = let a = c.args in rw c.code.ensures (refused-number a.first.now a.second.now c.compare-found.ensures c.in-RefusedFirst.is refl refl)
 
 pub returns-in-RefusedSecond : goal.returns-in-RefusedSecond
-returns-in-RefusedSecond c = let a = c.args in refused-number a.first.now a.second.now c.compare-found.ensures c.in-RefusedSecond.is refl c.number-in-RefusedSecond.ensures.0
+returns-in-RefusedSecond c = let a = c.args in rw c.code-in-RefusedSecond.ensures (refused-number a.first.now a.second.now c.compare-found.ensures c.in-RefusedSecond.is refl refl)
 
 pub returns-in-SettingsDiffer : goal.returns-in-SettingsDiffer
 returns-in-SettingsDiffer c = let a = c.args in compares a.first.now a.second.now c.compare-found.ensures c.in-SettingsDiffer.is

@@ -1,4 +1,5 @@
 -- `obikuteru_log_add`: the library's `add_call`, in words and bytes.
+use mathlib.Core.Path.{refl}
 use Rattle.log_codec.specs.Records.{decoded}
 use Rattle.log_c.proofs.Answered.{counted, uncounted}
 use Rattle.log_c.proofs.obikuteru_log_add.Goals as goal
@@ -9,4 +10,4 @@ returns-in-Ok c = let s = c.args in counted s.words.now c.told-words (decoded s.
 pub returns-in-Err : goal.returns-in-Err
 returns-in-Err c =
     let s = c.args in
-    uncounted s.words.now c.told-words (decoded s.call.now 0) s.bytes.now c.add_call.new.w c.in-Err.refusal c.in-Err.ensures c.number.ensures.0
+    rw c.code.ensures (uncounted s.words.now c.told-words (decoded s.call.now 0) s.bytes.now c.add_call.new.w c.in-Err.refusal c.in-Err.ensures refl)
