@@ -1,43 +1,34 @@
--- What each test that a call makes says of its row of the table of refusals.
-use mathlib.Core.Path.{◌≡◌, sym, ◌∙◌}
-use mathlib.Core.Bool.{Bool, true, false, or-true, and-false, false≢true}
-use mathlib.Core.Logic.{◌≢◌, ◌⊎◌, inl, inr}
-use Prim.Native.Nat.{ℕ, ◌≤◌, ◌<◌}
-use lib.Dec.{leb}
-use borrow.Author.Tests.{eq-eqb, le-leb, le-ltb, lt-ltb, ne_eqb}
+-- What the tests that a call makes say of its rows of the table of refusals.
+use mathlib.Core.Path.{◌≡◌, refl, sym}
+use mathlib.Core.Bool.{Bool, true, false}
+use mathlib.Core.List.{[], ◌∷◌}
+use Prim.Native.Nat.{ℕ, ◌<◌}
+use native.Mathlib.Omega.{arith}
+use Rattle.std.specs.Prelude.{cond, Ok, ⊤}
 use Rattle.laws.proofs.TestLists.{false_of}
-use Rattle.pie.specs.Constants.{largest, latest, most_verdicts}
+use Rattle.pie.specs.Constants.{most_verdicts}
 use Rattle.pie.specs.Verdicts.{total}
-use Rattle.refusals.specs.Tests.{size_refused}
-use Rattle.ring.specs.Refusals.{clock_refused, tables_refused}
+use Rattle.refusals.specs.Answer.{refused_where}
+use Rattle.refusals.specs.Numbers.{refusal_in}
+use Rattle.refusals.specs.Rows.{first_refusal}
+use Rattle.refusals.specs.declared.Refusal.{Refusal}
+use Rattle.refusals.specs.declared.Refusal.TheVariants.{Empty, Head}
 use Rattle.ring.specs.State.{well_formed}
 use Rattle.ring.specs.declared.State.{State}
 use Rattle.ring.proofs.Facts.{facts}
 
 -- the counts, which are tested first
-pub uncounted : (s : State) (b : Bool) → b ≡ leb (total s.verdicts) most_verdicts → b ≡ false → well_formed s ≡ false
-uncounted s b e f = sym (false_of (well_formed s) (λ w. false≢true (sym f ∙ e ∙ le-leb _ _ (facts s w).total-high)))
+pub uncounted : (s : State) → most_verdicts < total s.verdicts → well_formed s ≡ false
+uncounted s h = sym (false_of (well_formed s) (λ w. let f = facts s w in omega (arith, f.total-high)))
 
-pub tables-wrong : (s : State) (handles_length sizes_length : ℕ) →
-    (handles_length ≢ s.settings.slots) ⊎ ((handles_length ≡ s.settings.slots) × (sizes_length ≢ s.settings.slots)) →
-    tables_refused s handles_length sizes_length ≡ true
-tables-wrong s handles_length sizes_length (inl h) = rw (ne_eqb _ _ h)
-tables-wrong s handles_length sizes_length (inr z) = rw (ne_eqb _ _ z.1, and-false)
+-- a test that gives no refusal fails
+pub passed : (test : Bool) (r : Refusal) (x : ⊤) → refused_where test r ≡ Ok x → test ≡ false
+passed true r x e = absurd cc
+passed false r x e = refl
 
-pub tables-right : (s : State) (handles_length sizes_length : ℕ) →
-    handles_length ≡ s.settings.slots → sizes_length ≡ s.settings.slots → tables_refused s handles_length sizes_length ≡ false
-tables-right s handles_length sizes_length h z = rw (eq-eqb _ _ h, eq-eqb _ _ z)
-
-pub clock-wrong : (s : State) (clock : ℕ) → (clock < s.clock.0) ⊎ ((s.clock.0 ≤ clock) × (latest < clock)) → clock_refused s clock ≡ true
-clock-wrong s clock (inl b) = rw (lt-ltb _ _ b)
-clock-wrong s clock (inr a) = rw (lt-ltb _ _ a.1, or-true)
-
-pub clock-right : (s : State) (clock : ℕ) → s.clock.0 ≤ clock → clock ≤ latest → clock_refused s clock ≡ false
-clock-right s clock b a = rw (le-ltb _ _ b, le-ltb _ _ a)
-
-pub size-wrong : (size : ℕ) → (size ≡ 0) ⊎ ((size ≢ 0) × (largest < size)) → size_refused size ≡ true
-size-wrong size (inl z) = rw (eq-eqb _ _ z)
-size-wrong size (inr a) = rw (lt-ltb _ _ a.1, or-true)
-
-pub size-right : (size : ℕ) → size ≢ 0 → size ≤ largest → size_refused size ≡ false
-size-right size z a = rw (ne_eqb _ _ z, le-ltb _ _ a)
+-- what the two tests of a head give, as rows
+pub heads : (empty wrong : Bool) →
+    refusal_in (cond empty (refused_where empty Empty) (refused_where wrong Head)) ≡ first_refusal ((6, empty) ∷ (9, wrong) ∷ [])
+heads true wrong = refl
+heads false true = refl
+heads false false = refl

@@ -53,7 +53,7 @@ pub record TickAccepted (s : State) (clock : ℕ) : Type 0 where
 
 -- ── what each test's failing says ──
 
-tables-fit : (s : State) (handles_length sizes_length : ℕ) →
+pub tables-fit : (s : State) (handles_length sizes_length : ℕ) →
     tables_refused s handles_length sizes_length ≡ false → (handles_length ≡ s.settings.slots) × (sizes_length ≡ s.settings.slots)
 tables-fit s handles_length sizes_length e =
     let h = eqb handles_length s.settings.slots in

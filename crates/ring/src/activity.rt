@@ -8,10 +8,12 @@ use crate::{Settings, State};
 use pie::{Pie, refills};
 
 impl Settings {
+    pub const CALM: u64 = 1;
+
     pub fn is_calm(self) -> bool
         ensures { result ≡ is_calm self }
     {
-        self.profile == 1
+        self.profile == Settings::CALM
     }
 }
 

@@ -10,13 +10,14 @@ ghost use Rattle.refusals.specs.Answer.{arrival_answer};
 ghost use Rattle.ring.specs.Arrival.{arrival, arrival_refusal, arrived_pie, arrived_state, stored, tail_place, verdict_of};
 
 use crate::State;
-use pie::{Backlog, Decided, LARGEST, LATEST, Pie, Verdict, raise};
+use pie::{Backlog, Decided, Pie, Verdict, raise};
 use places::store;
-use refusals::{Refusal, counts_fit, counts_full};
-use units::{Bytes, Micros, Prob};
+use refusals::{Refusal, check_clock, check_size, check_tables, room_left};
+use units::{Bytes, Micros};
 
 impl State {
     // Refusals 2, 3, 4, 7 and 8.
+    #[tactic(auto, using(crate::proofs::Tests::uncounted), unfolding(crate::specs::Arrival::arrival_refusal))]
     fn check_arrival(
         self,
         handles: &[u32],
@@ -26,20 +27,14 @@ impl State {
     ) -> Result<(), Refusal>
         ensures { refusal_in result ≡ arrival_refusal self (length handles.now) (length sizes.now) clock.0 size.0 }
     {
-        if !counts_fit(self.verdicts) || !self.formed() {
+        let left = room_left(self.verdicts).ok_or(Refusal::Malformed)?;
+        if !self.formed() {
             return Err(Refusal::Malformed);
         }
-        let slots = self.settings.slots;
-        if handles.len() as u64 != slots || sizes.len() as u64 != slots {
-            return Err(Refusal::Tables);
-        }
-        if clock.0 < self.clock.0 || LATEST < clock.0 {
-            return Err(Refusal::Clock);
-        }
-        if size.0 == 0 || LARGEST < size.0 {
-            return Err(Refusal::Size);
-        }
-        if counts_full(self.verdicts) {
+        check_tables(handles, sizes, self.settings.slots)?;
+        check_clock(clock, self.clock)?;
+        check_size(size.0)?;
+        if left == 0 {
             return Err(Refusal::Counts);
         }
         Ok(())
@@ -85,14 +80,14 @@ impl State {
     }
 
     // The state after an arrival with this verdict. A queue that turns active begins the algorithm anew.
-    fn arrived(self, clock: Micros, size: Bytes, v: Verdict, accumulated: Prob) -> State
+    fn arrived(self, clock: Micros, size: Bytes, decided: Decided) -> State
         requires self_value { well_formed self ≡ true }
         requires verdicts_bound { (total self.verdicts < most_verdicts) × (size.0 ≤ largest) }
-        requires accumulated_value { accumulated ≡ (arrived_pie self v).accumulated }
-        ensures { result ≡ arrived_state (begun self) clock.0 size.0 v }
+        requires accumulated_value { decided.accumulated ≡ (arrived_pie self decided.verdict).accumulated }
+        ensures { result ≡ arrived_state (begun self) clock.0 size.0 decided.verdict }
     {
-        let verdicts = raise(self.verdicts, v);
-        let backlog = self.entered(size, v);
+        let verdicts = raise(self.verdicts, decided.verdict);
+        let backlog = self.entered(size, decided.verdict);
         if self.turns_active() {
             return State {
                 clock,
@@ -104,7 +99,7 @@ impl State {
             };
         }
         let pie = Pie {
-            accumulated,
+            accumulated: decided.accumulated,
             ..self.pie
         };
         State {
@@ -159,7 +154,7 @@ impl State {
         let decided = self.decide(size, ecn, u);
         let v = decided.verdict;
         self.store(handles, sizes, v, handle, size.0 as u32);
-        *self = self.arrived(clock, size, v, decided.accumulated);
+        *self = self.arrived(clock, size, decided);
         Ok(v)
     }
 }

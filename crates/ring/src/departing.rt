@@ -7,13 +7,14 @@ ghost use Rattle.refusals.specs.Answer.{departure_answer};
 ghost use Rattle.ring.specs.Departure.{departed_state, departure, departure_refusal, head_of};
 
 use crate::State;
-use pie::{LATEST, Pie};
+use pie::Pie;
 use places::place;
-use refusals::{Packet, Refusal, counts_fit, wrong_head};
+use refusals::{Packet, Refusal, check_clock, check_head, check_tables, counts_fit};
 use units::{Bytes, Micros};
 
 impl State {
     // Refusals 2, 3, 4, 6 and 9.
+    #[tactic(auto, unfolding(crate::specs::Departure::departure_refusal))]
     fn check_departure(self, handles: &[u32], sizes: &[u32], clock: Micros) -> Result<(), Refusal>
         ensures { refusal_in result
             ≡ departure_refusal self (length handles.now) (length sizes.now) clock.0 (head_of self sizes.now) }
@@ -21,20 +22,9 @@ impl State {
         if !counts_fit(self.verdicts) || !self.formed() {
             return Err(Refusal::Malformed);
         }
-        let slots = self.settings.slots;
-        if handles.len() as u64 != slots || sizes.len() as u64 != slots {
-            return Err(Refusal::Tables);
-        }
-        if clock.0 < self.clock.0 || LATEST < clock.0 {
-            return Err(Refusal::Clock);
-        }
-        if self.backlog.count == 0 {
-            return Err(Refusal::Empty);
-        }
-        if wrong_head(self.backlog, sizes[self.first as usize] as u64) {
-            return Err(Refusal::Head);
-        }
-        Ok(())
+        check_tables(handles, sizes, self.settings.slots)?;
+        check_clock(clock, self.clock)?;
+        check_head(self.backlog, sizes[self.first as usize] as u64)
     }
 
     // The state after the head, of this size, has left.

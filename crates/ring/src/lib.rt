@@ -36,7 +36,8 @@ pub struct State {
     pub active: bool,
 }
 
-// What `fresh` returns: where it is refused, the all-zero record.
+// What `fresh` returns: where it is refused, the all-zero record. No `Result<State, Refusal>`: the clauses of `fresh` and of
+// `obikuteru_fresh` say which record a refused call gives.
 #[derive(Clone, Copy)]
 pub struct Returned {
     pub accepted: Result<(), Refusal>,

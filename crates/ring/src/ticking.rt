@@ -6,21 +6,20 @@ ghost use Rattle.refusals.specs.Answer.{accepted_answer, ticked};
 ghost use Rattle.ring.specs.Tick.{tick, tick_refusal, ticked_state};
 
 use crate::State;
-use pie::{LATEST, PERIOD};
-use refusals::{Refusal, counts_fit};
+use pie::PERIOD;
+use refusals::{Refusal, check_clock, counts_fit};
 use units::Micros;
 
 impl State {
     // Refusals 2, 4 and 5.
+    #[tactic(auto, unfolding(crate::specs::Tick::tick_refusal))]
     fn check_tick(self, clock: Micros) -> Result<(), Refusal>
         ensures { refusal_in result ≡ tick_refusal self clock.0 }
     {
         if !counts_fit(self.verdicts) || !self.formed() {
             return Err(Refusal::Malformed);
         }
-        if clock.0 < self.clock.0 || LATEST < clock.0 {
-            return Err(Refusal::Clock);
-        }
+        check_clock(clock, self.clock)?;
         if clock.0 < self.last.0 + PERIOD {
             return Err(Refusal::TooSoon);
         }

@@ -25,9 +25,10 @@ impl Settings {
 }
 
 impl State {
-    // All but the counts, which the callers test first, so that the compiler puts each part into the entries. It asks whether a test
-    // fails, so that each limit is compared as it is written. The product comes after the tests that bound it, and the compiler then makes
-    // a compare and a jump of each (docs/PERFORMANCE.md).
+    // All but the counts, which are tested first. Contracts ask `well_formed` of a `State`, which is any record that C lends: a type for
+    // tested ones would be built once a call and taken apart in it. It asks whether a test fails, so that each limit is compared as it is
+    // written. The product comes after the tests that bound it, and the compiler then makes a compare and a jump of each
+    // (docs/PERFORMANCE.md).
     pub(crate) fn formed(self) -> bool
         requires { total self.verdicts ≤ most_verdicts }
         ensures { result ≡ well_formed self }
