@@ -1,4 +1,4 @@
-// The tests of settings and of one record. They are joined without jumps.
+// The tests of settings and of one record. They are joined without jumps, which is faster than early returns (docs/changes/Q-1.md).
 ghost use Rattle.std.specs.Prelude.{◌≡◌};
 ghost use Rattle.call_log.specs.Faults.{faulty as faulty_by, header_refused};
 
