@@ -8,10 +8,11 @@ ghost use Rattle.refusals.specs.Answer.{arrival_answer};
 ghost use Rattle.modem_flow.specs.Arrival.{arrival_refusal, arrived_state, decision_of, arrival, stored, tail_place};
 
 use crate::State;
+use crate::well_formed::counts_left;
 use docsis_pie::{Decided, DocsisPie};
 use pie::Verdict;
 use places::store;
-use refusals::{Refusal, check_clock, check_size, check_tables, room_left};
+use refusals::{Refusal, check_clock, check_size, check_tables};
 use units::{Bytes, Micros, Prob};
 
 impl State {
@@ -28,14 +29,17 @@ impl State {
         ensures { refusal_in result
             ≡ arrival_refusal self row (length handles.now) (length sizes.now) clock.0 size.0 }
     {
-        let left = room_left(row).ok_or(Refusal::Malformed)?;
+        let left = counts_left(row);
+        if left == 0 {
+            return Err(Refusal::Malformed);
+        }
         if !self.formed() {
             return Err(Refusal::Malformed);
         }
         check_tables(handles, sizes, self.settings.slots)?;
         check_clock(clock, self.clock)?;
         check_size(size.0)?;
-        if left == 0 {
+        if left == 1 {
             return Err(Refusal::Counts);
         }
         Ok(())
