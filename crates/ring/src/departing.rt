@@ -9,7 +9,7 @@ ghost use Rattle.ring.specs.Departure.{departed_state, departure, departure_refu
 use crate::State;
 use pie::Pie;
 use places::place;
-use refusals::{Packet, Refusal, check_clock, check_head, check_tables, counts_fit};
+use refusals::{Packet, Refusal, check_clock, check_head, check_tables};
 use units::{Bytes, Micros};
 
 impl State {
@@ -19,7 +19,7 @@ impl State {
         ensures { refusal_in result
             ≡ departure_refusal self (length handles.now) (length sizes.now) clock.0 (head_of self sizes.now) }
     {
-        if !counts_fit(self.verdicts) || !self.formed() {
+        if !self.well_formed() {
             return Err(Refusal::Malformed);
         }
         check_tables(handles, sizes, self.settings.slots)?;

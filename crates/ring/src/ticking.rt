@@ -7,7 +7,7 @@ ghost use Rattle.ring.specs.Tick.{tick, tick_refusal, ticked_state};
 
 use crate::State;
 use pie::PERIOD;
-use refusals::{Refusal, check_clock, counts_fit};
+use refusals::{Refusal, check_clock};
 use units::Micros;
 
 impl State {
@@ -16,7 +16,7 @@ impl State {
     fn check_tick(self, clock: Micros) -> Result<(), Refusal>
         ensures { refusal_in result ≡ tick_refusal self clock.0 }
     {
-        if !counts_fit(self.verdicts) || !self.formed() {
+        if !self.well_formed() {
             return Err(Refusal::Malformed);
         }
         check_clock(clock, self.clock)?;

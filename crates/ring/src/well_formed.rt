@@ -65,6 +65,7 @@ impl State {
         settings.is_calm() & (pie.prob.0 == 0)
     }
 
+    #[inline(always)]
     pub fn well_formed(self) -> bool
         ensures { result ≡ well_formed self }
     {

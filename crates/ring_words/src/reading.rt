@@ -7,7 +7,7 @@ use pie_words::{backlog_at, counts_at, pie_at};
 use ring::{Settings, State};
 use units::{Bytes, Micros};
 
-// The state that the words hold, and that they are twenty-three.
+// The state that the words hold, and that they are twenty-three. No `From`: neither `State` nor an array is this crate's own type.
 #[tactic(auto, unfolding(crate::specs::Words::state_of))]
 pub fn decode(w: [u64; 23]) -> State
     ensures { (result ≡ state_of w) × (length w ≡ 23) }

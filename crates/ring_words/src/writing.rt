@@ -13,7 +13,7 @@ use pie::{FULL_ALLOWANCE, Verdict};
 use pie_words::flag;
 use ring::State;
 
-// The words of a state.
+// The words of a state. No `From`: neither `State` nor an array is this crate's own type.
 #[tactic(auto, unfolding(crate::specs::Words::state_words))]
 pub fn encode(w: &mut [u64; 23], s: State)
     ensures { w.new ≡ state_words w.old s }
