@@ -1,5 +1,5 @@
-// One call of a burst. What is asked stays a number, and a refusal its code: with both read into enums and `Result` a call takes 107.9
-// instructions on the stream pair in bursts of 32, so 103.5 (plain C 98.8), and in bursts of 256 96.0 and 91.7 (plain C 92.6).
+// One call of a burst. What is asked stays a number, and a refusal its code: with both read into enums and `Result` a call takes 106.4
+// instructions on the stream pair in bursts of 32, so 98.6 (plain C 98.8), and in bursts of 256 94.5 and 86.8 (plain C 92.6).
 ghost use Rattle.std.specs.Prelude.{◌≡◌, false, true, [], ◌+◌, ◌-◌, ◌<◌, eqb, get_or, length};
 ghost use Rattle.pair_rules.specs.WellFormed.{well_formed};
 ghost use Rattle.pair_rules.specs.Departure.{departed_sizes, departure};

@@ -33,7 +33,6 @@ impl Shared {
         if own < reserves.intercom {
             return false;
         }
-        let common = self.slots - reserves.intercom - reserves.passengers;
-        own - reserves.intercom + other.saturating_sub(reserves.passengers) == common
+        own + other.max(reserves.passengers) == self.slots
     }
 }

@@ -32,16 +32,16 @@ full s own other =
     leb s.reserves.intercom own && eqb ((own - s.reserves.intercom) + (other - s.reserves.passengers)) (common_slots s)
 
 -- the test of rule 2 on the shared record that the words hold
-pub found-full : (w : Which) (sh : List ℕ) (s f : Shared) (own other : ℕ) (b : Bool) → s ≡ shared_of sh → f ≡ facing w s →
+pub found-full : (w : Which) (sh : List ℕ) (f : Shared) (own other : ℕ) (b : Bool) → f ≡ facing w (shared_of sh) →
     b ≡ full f own other → b ≡ full (facing w (shared_of sh)) own other
-found-full w sh s f own other b es ef e = e ∙ ap (λ x. full x own other) (ef ∙ ap (facing w) es)
+found-full w sh f own other b ef e = e ∙ ap (λ x. full x own other) ef
 
-pub facing-bounds : (w : Which) (sh : List ℕ) (s f : Shared) → s ≡ shared_of sh → f ≡ facing w s →
+pub facing-bounds : (w : Which) (sh : List ℕ) (f : Shared) → f ≡ facing w (shared_of sh) →
     get_or sh 1 0 + get_or sh 2 0 ≤ get_or sh 0 0 → get_or sh 0 0 ≤ 65536 →
     (f.reserves.intercom + f.reserves.passengers ≤ f.slots) × (f.slots ≤ 65536)
 unfolding shared_of
-facing-bounds Intercom sh s f es ef h k = rw (ef, es) (h, k)
-facing-bounds Passengers sh s f es ef h k = rw (ef, es) (omega (arith, h), k)
+facing-bounds Intercom sh f ef h k = rw ef (h, k)
+facing-bounds Passengers sh f ef h k = rw ef (omega (arith, h), k)
 
 -- ── what is known of the words of well-formed records ──
 

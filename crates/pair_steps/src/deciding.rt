@@ -7,7 +7,7 @@ ghost use Rattle.pair_words.specs.Words.{records_of, state_of};
 ghost use Rattle.pair_steps.specs.Lent.{Formed};
 
 use pair_rules::Which;
-use pair_words::{ACCUMULATED, BUFFER, BYTES, COUNT, PIE, TARGET, decode_shared};
+use pair_words::{ACCUMULATED, BUFFER, BYTES, COUNT, PIE, TARGET, shared_facing};
 use pie::{Decided, Verdict};
 use pie_words::{pie_at, spares};
 use units::{Micros, Prob};
@@ -41,10 +41,7 @@ pub(crate) fn decided(
     if own[BUFFER] < own[BYTES] + size {
         return undrawn(own, Verdict::DroppedBytes);
     }
-    if decode_shared(*shared)
-        .facing(which)
-        .full(own[COUNT], other[COUNT])
-    {
+    if shared_facing(shared, which).full(own[COUNT], other[COUNT]) {
         return undrawn(own, Verdict::DroppedSlots);
     }
     if spares(own, PIE, Micros(own[TARGET])) {

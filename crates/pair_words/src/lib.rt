@@ -10,5 +10,5 @@ pub use layout::{
     ENQUEUED, FREED, HEAD, INTERCOM, LAST, MARKED, PASSENGERS, PIE, SLOTS, SPARE, TAIL, TARGET,
     USED, VERDICTS,
 };
-pub use records::{decode_shared, encode, encode_shared};
+pub use records::{encode, encode_shared, shared_facing};
 pub use testing::records_fit;

@@ -25,7 +25,7 @@ returns-then-own-size-clause-accumulated_value c =
 pub full-requires-clause-passengers_bound : goal.full-requires-clause-passengers_bound
 full-requires-clause-passengers_bound c =
     let k = numbers c.args.which c.args.shared.now c.args.own.now c.args.other.now c.requires.formed.formed in
-    facing-bounds c.args.which c.args.shared.now _ _ c.decode_shared.ensures.0 c.facing.ensures k.reserves-high k.slots-high
+    facing-bounds c.args.which c.args.shared.now _ c.shared_facing.ensures k.reserves-high k.slots-high
 
 pub full-requires-clause-own_bound : goal.full-requires-clause-own_bound
 full-requires-clause-own_bound c =
@@ -36,13 +36,13 @@ pub returns-then-full-clause-verdict_value : goal.returns-then-full-clause-verdi
 returns-then-full-clause-verdict_value c =
     (slots-rule c.args.which c.args.shared.now c.args.own.now c.args.other.now c.args.size c.args.ecn c.args.u
     (le-ltb _ _ c.if-own-size.false) _ _
-    c.undrawn-then-full.ensures.0 c.undrawn-then-full.ensures.1 (sym (found-full c.args.which c.args.shared.now _ _ _ _ _ c.decode_shared.ensures.0 c.facing.ensures c.full.ensures) ∙ c.if-full.true)).0
+    c.undrawn-then-full.ensures.0 c.undrawn-then-full.ensures.1 (sym (found-full c.args.which c.args.shared.now _ _ _ _ c.shared_facing.ensures c.full.ensures) ∙ c.if-full.true)).0
 
 pub returns-then-full-clause-accumulated_value : goal.returns-then-full-clause-accumulated_value
 returns-then-full-clause-accumulated_value c =
     (slots-rule c.args.which c.args.shared.now c.args.own.now c.args.other.now c.args.size c.args.ecn c.args.u
     (le-ltb _ _ c.if-own-size.false) _ _
-    c.undrawn-then-full.ensures.0 c.undrawn-then-full.ensures.1 (sym (found-full c.args.which c.args.shared.now _ _ _ _ _ c.decode_shared.ensures.0 c.facing.ensures c.full.ensures) ∙ c.if-full.true)).1
+    c.undrawn-then-full.ensures.0 c.undrawn-then-full.ensures.1 (sym (found-full c.args.which c.args.shared.now _ _ _ _ c.shared_facing.ensures c.full.ensures) ∙ c.if-full.true)).1
 
 pub spares-requires-clause-k_bound : goal.spares-requires-clause-k_bound
 unfolding state_of
@@ -53,13 +53,13 @@ spares-requires-clause-k_bound c =
 pub returns-then-spares-clause-verdict_value : goal.returns-then-spares-clause-verdict_value
 returns-then-spares-clause-verdict_value c =
     (spared-rule c.args.which c.args.shared.now c.args.own.now c.args.other.now c.args.size c.args.ecn c.args.u
-    (le-ltb _ _ c.if-own-size.false) (sym (found-full c.args.which c.args.shared.now _ _ _ _ _ c.decode_shared.ensures.0 c.facing.ensures c.full.ensures) ∙ c.if-full.false) _ _
+    (le-ltb _ _ c.if-own-size.false) (sym (found-full c.args.which c.args.shared.now _ _ _ _ c.shared_facing.ensures c.full.ensures) ∙ c.if-full.false) _ _
     c.undrawn-then-spares.ensures.0 c.undrawn-then-spares.ensures.1 (sym c.spares.ensures ∙ c.if-spares.true)).0
 
 pub returns-then-spares-clause-accumulated_value : goal.returns-then-spares-clause-accumulated_value
 returns-then-spares-clause-accumulated_value c =
     (spared-rule c.args.which c.args.shared.now c.args.own.now c.args.other.now c.args.size c.args.ecn c.args.u
-    (le-ltb _ _ c.if-own-size.false) (sym (found-full c.args.which c.args.shared.now _ _ _ _ _ c.decode_shared.ensures.0 c.facing.ensures c.full.ensures) ∙ c.if-full.false) _ _
+    (le-ltb _ _ c.if-own-size.false) (sym (found-full c.args.which c.args.shared.now _ _ _ _ c.shared_facing.ensures c.full.ensures) ∙ c.if-full.false) _ _
     c.undrawn-then-spares.ensures.0 c.undrawn-then-spares.ensures.1 (sym c.spares.ensures ∙ c.if-spares.true)).1
 
 pub draw-requires : goal.draw-requires
@@ -72,7 +72,7 @@ pub returns-clause-verdict_value : goal.returns-clause-verdict_value
 returns-clause-verdict_value c =
     let read = c.pie_at.ensures in
     (drawn-rule c.args.which c.args.shared.now c.args.own.now c.args.other.now c.args.size c.args.ecn c.args.u
-    (le-ltb _ _ c.if-own-size.false) (sym (found-full c.args.which c.args.shared.now _ _ _ _ _ c.decode_shared.ensures.0 c.facing.ensures c.full.ensures) ∙ c.if-full.false) _ _
+    (le-ltb _ _ c.if-own-size.false) (sym (found-full c.args.which c.args.shared.now _ _ _ _ c.shared_facing.ensures c.full.ensures) ∙ c.if-full.false) _ _
     (rw read at c.draw.ensures.verdict_value) (rw read at c.draw.ensures.accumulated_value)
     (sym c.spares.ensures ∙ c.if-spares.false)).0
 
@@ -80,6 +80,6 @@ pub returns-clause-accumulated_value : goal.returns-clause-accumulated_value
 returns-clause-accumulated_value c =
     let read = c.pie_at.ensures in
     (drawn-rule c.args.which c.args.shared.now c.args.own.now c.args.other.now c.args.size c.args.ecn c.args.u
-    (le-ltb _ _ c.if-own-size.false) (sym (found-full c.args.which c.args.shared.now _ _ _ _ _ c.decode_shared.ensures.0 c.facing.ensures c.full.ensures) ∙ c.if-full.false) _ _
+    (le-ltb _ _ c.if-own-size.false) (sym (found-full c.args.which c.args.shared.now _ _ _ _ c.shared_facing.ensures c.full.ensures) ∙ c.if-full.false) _ _
     (rw read at c.draw.ensures.verdict_value) (rw read at c.draw.ensures.accumulated_value)
     (sym c.spares.ensures ∙ c.if-spares.false)).1
