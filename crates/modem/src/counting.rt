@@ -9,7 +9,7 @@ use pie::Verdict;
 
 // One count of the row rises by one.
 #[tactic(auto, unfolding(crate::specs::Counts::counts_after, pie::specs::Verdicts::raised))]
-pub fn raise(counts: &mut [[u64; 5]; 16], row: usize, v: Verdict)
+pub(crate) fn raise(counts: &mut [[u64; 5]; 16], row: usize, v: Verdict)
     requires { (row ≤ 15) × (total (row_of counts.old row) < most_verdicts) }
     ensures { counts.new ≡ counts_after counts.old row (verdict v) }
 {

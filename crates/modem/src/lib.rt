@@ -15,4 +15,3 @@ pub enum FlowRefusal {
 }
 
 pub use calls::{arrival, departure, fresh, row_of, tick};
-pub use counting::raise;

@@ -16,9 +16,9 @@ use docsis_pie::{
     Activity, FULL_ALLOWANCE, HIGH, below_third, early, in_allowance, is_low, lightly_loaded,
     limit_sum, scaled, small, sum,
 };
-use modem::raise;
 use modem_words::{
     ACCUMULATED, ACTIVITY, ALLOWANCE, BUFFER, BYTES, CLOCK, COUNT, FIRST, OLD, PROB, SLOTS, TARGET,
+    raise,
 };
 use pie::{LARGEST, LATEST, Verdict};
 use places::tail_place;
@@ -164,7 +164,7 @@ pub fn arrive(
     }
     let v = decide(w, bytes, calls, at);
     w[CLOCK] = clock;
-    raise(counts, flow as usize, v);
+    raise(counts, flow, v);
     let place = v.place();
     let admits = v.admits();
     if admits {
