@@ -1,4 +1,4 @@
-// The four calls: refusal 10 ahead of the others, then the flow's own call with its row of the counts.
+// The four calls on a table of counts that is lent, as C lends it: refusal 10 ahead of the others, then the flow's own call with its row.
 ghost use Rattle.std.specs.Prelude.{◌≡◌, true, false, IfOk, IfErr};
 ghost use Rattle.refusals.specs.Answer.{made, ticked};
 ghost use Rattle.modem_flow.specs.Arrival.{stored};
@@ -30,7 +30,7 @@ pub fn row_of(flow: u64) -> Result<usize, FlowRefusal>
 
 // A fresh flow.
 #[tactic(auto, unfolding(crate::specs::Calls::fresh, crate::specs::Calls::for_flow, crate::specs::Counts::counts_after))]
-pub fn fresh(
+pub fn fresh_lent(
     counts: &mut [[u64; 5]; 16],
     flow: u64,
     settings: Settings,
@@ -61,7 +61,7 @@ pub fn fresh(
 
 // A packet of `size` bytes arrives at a flow; `u` is its random number. State, counts and tables stand apart, as C lends them.
 #[tactic(auto, unfolding(crate::specs::Calls::arrival, crate::specs::Calls::for_flow, crate::specs::Counts::counts_after))]
-pub fn arrival(
+pub fn arrival_lent(
     state: &mut State,
     counts: &mut [[u64; 5]; 16],
     flow: u64,
@@ -86,7 +86,7 @@ pub fn arrival(
 
 // The head of a flow leaves. Tables and counts are only read.
 #[tactic(auto, unfolding(crate::specs::Calls::departure, crate::specs::Calls::for_flow, crate::specs::Counts::counts_after))]
-pub fn departure(
+pub fn departure_lent(
     state: &mut State,
     counts: &[[u64; 5]; 16],
     flow: u64,
@@ -104,7 +104,7 @@ pub fn departure(
 
 // The periodic update of a flow, with its credits.
 #[tactic(auto, unfolding(crate::specs::Calls::tick, crate::specs::Calls::for_flow, crate::specs::Counts::counts_after))]
-pub fn tick(
+pub fn tick_lent(
     state: &mut State,
     counts: &[[u64; 5]; 16],
     flow: u64,

@@ -10,7 +10,7 @@ ghost use Rattle.modem.specs.Counts.{row_of};
 ghost use Rattle.refusals.specs.Codes.{code_of, packet_of};
 ghost use Rattle.modem_words.specs.Words.{state_of, state_words};
 
-use modem::fresh;
+use modem::fresh_lent;
 use modem_flow::Settings;
 use modem_steps::{lent_arrival, lent_departure, lent_tick};
 use modem_words::{encode, record_fits};
@@ -38,7 +38,7 @@ pub extern "C" fn obikuteru_modem_fresh(
         peak: BytesPerSecond(peak),
         sustained: BytesPerSecond(sustained),
     };
-    let made = fresh(counts, flow as u64, settings, Micros(clock));
+    let made = fresh_lent(counts, flow as u64, settings, Micros(clock));
     encode(words, made.state);
     match made.accepted {
         Ok(()) => 0,

@@ -5,7 +5,7 @@ ghost use Rattle.modem.specs.Calls.{arrival, departure, tick};
 ghost use Rattle.refusals.specs.Codes.{code_of, packet_of};
 ghost use Rattle.modem_words.specs.Words.{state_of, state_words};
 
-use modem::{arrival, departure, tick};
+use modem::{arrival_lent, departure_lent, tick_lent};
 use modem_words::{decode, encode, write_arrival, write_departure};
 use units::{Bytes, Micros};
 
@@ -29,7 +29,7 @@ pub fn lent_arrival(
         × (sizes.new ≡ stored s a.answer sizes.old size) }
 {
     let mut s = decode(*words);
-    let answer = arrival(
+    let answer = arrival_lent(
         &mut s,
         counts,
         flow as u64,
@@ -66,7 +66,7 @@ pub fn lent_departure(
         × (packet.new ≡ packet_of a.answer) }
 {
     let mut s = decode(*words);
-    let answer = departure(&mut s, counts, flow as u64, handles, sizes, Micros(clock));
+    let answer = departure_lent(&mut s, counts, flow as u64, handles, sizes, Micros(clock));
     match answer {
         Ok(left) => {
             *packet = [left.handle, left.size];
@@ -93,7 +93,7 @@ pub fn lent_tick(
         × (counts.now ≡ a.counts) }
 {
     let mut s = decode(*words);
-    let answer = tick(
+    let answer = tick_lent(
         &mut s,
         counts,
         flow as u64,

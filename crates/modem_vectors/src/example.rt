@@ -3,7 +3,7 @@ ghost use Rattle.std.specs.Prelude.{◌≤◌, length};
 
 use crate::letters::*;
 use docsis_pie::{Activity, DocsisPie, Phase};
-use modem::FlowRefusal;
+use modem::{Counted, FlowRefusal};
 use modem_flow::{Settings, State};
 use pie::{Backlog, Verdict};
 use refusals::Packet;
@@ -62,10 +62,10 @@ pub(crate) enum Given {
 pub(crate) fn call(
     s: &mut State,
     v: [u64; 32],
-    counts: &mut [[u64; 5]; 16],
+    counts: [[u64; 5]; 16],
     handles: &mut [u32],
     sizes: &mut [u32],
-) -> Result<Given, FlowRefusal>
+) -> Counted<Result<Given, FlowRefusal>>
     requires { (64 ≤ length handles.old) × (64 ≤ length sizes.old) }
 {
     let flow = v[FLOW];
@@ -74,30 +74,34 @@ pub(crate) fn call(
     let lent = (v[SLOTS] % 65) as usize;
     match v[CALL] {
         0 => {
-            modem::tick(s, counts, flow, clock, size)?;
-            Ok(Given::Nothing)
+            let r = modem::tick(s, counts, flow, clock, size);
+            let counts = r.counts;
+            Counted {
+                answer: r.answer.map(|()| Given::Nothing),
+                counts,
+            }
         }
         2 => {
-            let packet = modem::departure(
-                s,
+            let r = modem::departure(s, counts, flow, &handles[..lent], &sizes[..lent], clock);
+            let counts = r.counts;
+            Counted {
+                answer: r.answer.map(Given::Packet),
                 counts,
-                flow,
-                &handles[..lent],
-                &sizes[..lent],
-                clock,
-            )?;
-            Ok(Given::Packet(packet))
+            }
         }
         3 => {
-            let made = modem::fresh(counts, flow, state(v).settings, clock);
-            *s = made.state;
-            made.accepted?;
-            Ok(Given::Nothing)
+            let r = modem::fresh(counts, flow, state(v).settings, clock);
+            *s = r.answer.state;
+            let counts = r.counts;
+            Counted {
+                answer: r.answer.accepted.map(|()| Given::Nothing),
+                counts,
+            }
         }
         _ => {
             let handle = (v[HANDLE] % 4_294_967_296) as u32;
             let u = (v[RANDOM] % 4_294_967_296) as u32;
-            let verdict = modem::arrival(
+            let r = modem::arrival(
                 s,
                 counts,
                 flow,
@@ -107,8 +111,12 @@ pub(crate) fn call(
                 handle,
                 size,
                 u,
-            )?;
-            Ok(Given::Verdict(verdict))
+            );
+            let counts = r.counts;
+            Counted {
+                answer: r.answer.map(Given::Verdict),
+                counts,
+            }
         }
     }
 }

@@ -105,9 +105,11 @@ pub(crate) fn run(rt: &impl Print, input: &[u8]) {
             b'*' => state = example::state(v),
             b'?' => print::show(rt, input, s.text, s.expected, v, came),
             b'!' => {
-                let answer = example::call(&mut state, v, &mut counts, &mut handles, &mut sizes);
+                let returned = example::call(&mut state, v, counts, &mut handles, &mut sizes);
+                let back = returned.counts;
+                counts = back;
                 let row = counts[(v[FLOW] % 16) as usize];
-                came = example::came(state, answer, row);
+                came = example::came(state, returned.answer, row);
             }
             b'.' => {
                 let v = s.base;

@@ -1,10 +1,10 @@
--- `calls::arrival`: where a verdict is given, its row has room for one more.
+-- `calls::arrival_lent`: where a verdict is given, its row has room for one more.
 use mathlib.Core.Path.{sym}
 use native.Mathlib.Omega.{arith}
 use borrow.Author.Tests.{ltb-false}
 use Rattle.modem_flow.proofs.Replies.{decided}
 use Rattle.modem_flow.proofs.WhenAccepted.{arrival-accepted}
-use Rattle.modem.proofs.calls.arrival.Goals as goal
+use Rattle.modem.proofs.calls.arrival_lent.Goals as goal
 
 pub raise-requires : goal.raise-requires
 raise-requires c =

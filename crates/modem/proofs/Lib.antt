@@ -1,0 +1,2 @@
+-- A law of the table of counts.
+pub mod Rows
