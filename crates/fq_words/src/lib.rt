@@ -20,7 +20,10 @@ pub struct Made {
     pub lists: Lists,
 }
 
-pub use layout::{BYTES, CLOCK, COUNT, ENQUEUED, FIRST, FREED, LAST, LISTED, OLD, SPARE, USED};
+pub use layout::{
+    BUFFER, BYTES, CLOCK, COUNT, ENQUEUED, FIRST, FREED, LAST, LISTED, OLD, SALT, SLOTS, SPARE,
+    TARGET, USED,
+};
 pub use making::fresh;
 pub use reading::{flow_at, set_flow};
 pub use records::{decode, decode_lists, encode, numbered};

@@ -20,7 +20,7 @@ pub enum Accepted {
     Ticked,
 }
 
-fn put_verdict(verdict: Verdict, out: &mut Output<'_>)
+pub fn put_verdict(verdict: Verdict, out: &mut Output<'_>)
     requires { HasRoom out.old 40 }
     ensures { Wrote 40 out.old out.new (verdict_word verdict) }
 {
@@ -33,7 +33,7 @@ fn put_verdict(verdict: Verdict, out: &mut Output<'_>)
     }
 }
 
-fn put_departed(handle: u32, out: &mut Output<'_>)
+pub fn put_departed(handle: u32, out: &mut Output<'_>)
     requires { HasRoom out.old 40 }
     ensures { Wrote 40 out.old out.new (ascii "departed " ++ digits_of handle) }
 {
@@ -41,7 +41,7 @@ fn put_departed(handle: u32, out: &mut Output<'_>)
     out.number(handle as u64);
 }
 
-fn put_refused(refusal: Refusal, out: &mut Output<'_>)
+pub fn put_refused(refusal: Refusal, out: &mut Output<'_>)
     requires { HasRoom out.old 40 }
     ensures { Wrote 40 out.old out.new (word_of (answer_of (Err refusal))) }
 {
@@ -62,7 +62,7 @@ pub fn put_answer(answer: Result<Accepted, Refusal>, out: &mut Output<'_>)
     }
 }
 
-fn put_field(n: u64, out: &mut Output<'_>)
+pub fn put_field(n: u64, out: &mut Output<'_>)
     requires { HasRoom out.old 21 }
     ensures { Wrote 21 out.old out.new (ascii " " ++ digits_of n) }
 {
