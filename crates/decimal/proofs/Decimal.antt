@@ -11,6 +11,3 @@ prepends = search rules
 pub digits-decimal : (n : ℕ) → n < 2 ^ 64 → digits_of n ≡ decimal n
 unfolding digits_of
 digits-decimal n h = decimal_from_prepends spelled prepends 20 n [] h (search (rules, length-decimal-le 20)) ∙ append-nil (decimal n)
-
-pub digits-length : (n : ℕ) → n < 2 ^ 64 → length (digits_of n) ≤ 20
-digits-length n h = rw (digits-decimal n h) (search (rules, length-decimal-le 20))

@@ -1,18 +1,23 @@
--- What a call on a sound record leaves holds the record that it returns.
+-- What a call on a sound record leaves holds the record that it returns, and the tables keep their lengths.
 use mathlib.Core.Path.{◌≡◌, refl, ap, sym, ◌∙◌}
 use mathlib.Core.List.{List, [], ◌∷◌}
 use Prim.Native.Nat.{ℕ, ◌+◌, ◌≤◌}
 use native.Mathlib.Omega.{arith}
-use lib.ListN.{get_or, length}
+use lib.Dec.{leb}
+use lib.ListN.{get_or, length, length-set}
+use Rattle.laws.proofs.Choice.{at-cond}
 use Rattle.pie.specs.Verdicts.{total}
 use Rattle.pie.proofs.Counts.{length-raised, total-raised}
 use Rattle.schedule.specs.declared.Lists.{Lists}
+use Rattle.store.specs.Put.{linked, sizes_after_put}
+use Rattle.store.specs.declared.Ends.{Ends}
 use Rattle.fq_state.specs.State.{State}
 use Rattle.fq_words.specs.Words.{flows_from, flows_of}
 use Rattle.fq_words.specs.Written.{flow_words}
 use Rattle.fq_state.specs.declared.Common.{Common}
 use Rattle.fq_state.specs.declared.Flow.{Flow}
-use Rattle.fq_rules.specs.Answer.{Reply}
+use Rattle.fq_rules.specs.Answer.{Answer, Reply, admits}
+use Rattle.fq_rules.specs.Answer as reads
 use Rattle.fq_rules.specs.Arrival.{arrived_common}
 use Rattle.fq_rules.specs.Departure.{departed_common}
 use Rattle.fq_words.specs.Codes.{common_after, deficits_after, flows_after, order_after, words_of}
@@ -20,13 +25,13 @@ use Rattle.fq_words.specs.Words.{common_of, lent, lists_of}
 use Rattle.fq_words.specs.Written.{common_words}
 use Rattle.fq_guarantees.specs.Acceptance.{acceptance}
 use Rattle.fq_guarantees.specs.Calls.{Call, arrive, depart, reply, update}
-use Rattle.fq_guarantees.specs.Handed.{call_of}
+use Rattle.fq_guarantees.specs.Handed.{ask_arrival, ask_departure, ask_tick, call_of}
 use Rattle.fq_guarantees.specs.Kept.{Sound}
 use Rattle.fq_guarantees.proofs.Kept.{kept}
 use Rattle.fq_guarantees.proofs.Replies.{by_number}
 use Rattle.fq_burst.specs.Calls.{asked, unknown}
 use Rattle.fq_burst.specs.Calls as of-burst
-use Rattle.fq_burst.specs.Burst.{Lent, after, flows_in, state_in}
+use Rattle.fq_burst.specs.Burst.{Lent, after, flows_in, reply_to, state_in}
 
 -- ── words hold what they are the words of ──
 
@@ -130,3 +135,24 @@ pub total-after : (q : Lent) (c : of-burst.Call) → Sound (state_in q) →
     total (common_of (after q c).common).verdicts ≤ total (common_of q.common).verdicts + 1
 total-after q (asked r) h = left-total q (call_of (flows_in q) r) h
 total-after q unknown h = omega arith
+
+-- ── the tables keep their lengths ──
+
+put-long : (e : Ends) (count : ℕ) (sizes : List ℕ) (place size : ℕ) → length (sizes_after_put e count sizes place size) ≡ length sizes
+unfolding sizes_after_put
+put-long e count sizes place size =
+    length-set (linked e count sizes place) place size
+    ∙ at-cond (λ (l : List ℕ). length l ≡ length sizes) (leb 1 count) (λ t. length-set sizes e.tail _) (λ t. refl)
+
+pub after-long : (q : Lent) (c : of-burst.Call) →
+    (length (after q c).handles ≡ length q.handles) × (length (after q c).sizes ≡ length q.sizes)
+after-long q (asked (ask_arrival clock key handle size ecn u)) =
+    let a = (reply_to q (ask_arrival clock key handle size ecn u)).answer in (
+      at-cond (λ (l : List ℕ). length l ≡ length q.handles) (admits a) (λ t. length-set q.handles _ handle) (λ t. refl),
+      at-cond (λ (l : List ℕ). length l ≡ length q.sizes) (admits a) (λ t. put-long _ _ q.sizes _ size) (λ t. refl),
+    )
+after-long q (asked (ask_departure clock)) =
+    let a = (reply_to q (ask_departure clock)).answer in
+    (refl, at-cond (λ (l : List ℕ). length l ≡ length q.sizes) (reads.departs a) (λ t. length-set q.sizes _ _) (λ t. refl))
+after-long q (asked (ask_tick clock)) = (refl, refl)
+after-long q unknown = (refl, refl)

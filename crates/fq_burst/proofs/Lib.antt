@@ -2,7 +2,7 @@
 --
 --   Malformed  on a record that is not well formed every call is refused
 --   Left       a record stays sound, and the tables keep their lengths
---   Steps      each call of a burst is the single entry's
+--   Steps      what the words of an answer need, and what a tick leaves
 pub mod Malformed
 pub mod Left
 pub mod Steps

@@ -4,3 +4,4 @@ pub mod NoForm
 pub mod Reading
 pub mod LineEnds
 pub mod Emptiness
+pub mod Counts

@@ -29,6 +29,26 @@ pub sets-sets : (a b l : List ℕ) (at next : ℕ) → next ≡ at + length a �
 sets-sets [] b l at next e = let h : next ≡ at = omega arith in rw h
 sets-sets (x ∷ a) b l at next e = sets-sets a b (set l at x) (suc at) next (omega arith)
 
+-- the lowest four of eight bytes, and the others
+pub halves : (x : ℕ) → bytes_of 4 (x % 4294967296) ++ bytes_of 4 (x / 4294967296) ≡ bytes_of 8 x
+halves x =
+    simp (b0, b1, b2, b3, b4)
+  where
+    b0 : x % 4294967296 % 256 ≡ x % 256
+    b0 = omega arith
+
+    b1 : x % 4294967296 / 256 % 256 ≡ x / 256 % 256
+    b1 = omega arith
+
+    b2 : x % 4294967296 / 256 / 256 % 256 ≡ x / 256 / 256 % 256
+    b2 = omega arith
+
+    b3 : x % 4294967296 / 256 / 256 / 256 % 256 ≡ x / 256 / 256 / 256 % 256
+    b3 = omega arith
+
+    b4 : x / 4294967296 ≡ x / 256 / 256 / 256 / 256
+    b4 = omega arith
+
 -- a run that was stored, and another after it
 pub after : (l : List ℕ) (at : ℕ) (a b : List ℕ) (next : ℕ) {m n : List ℕ} → next ≡ at + length a → m ≡ sets l at a → n ≡ sets m next b → n ≡ sets l at (a ++ b)
 after l at a b next h e f = f ∙ ap (λ (m : List ℕ). sets m next b) e ∙ sets-sets a b l at next h

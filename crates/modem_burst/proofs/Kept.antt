@@ -128,3 +128,7 @@ ready-kept flow q (calls.asked r) n (f, (l, good, h, z), room) =
       rw counted (omega (arith, k.1, room)),
     )
 ready-kept flow q calls.unknown n (f, fit, room) = (f, fit, omega arith)
+
+-- enough for one, where there is enough for more
+pub ready-one : (flow : ℕ) (q : Lent) (n : ℕ) → 1 ≤ n → Ready flow q n → Ready flow q 1
+ready-one flow q n some (f, fit, room) = (f, fit, omega arith)
